@@ -1,0 +1,101 @@
+-- Strings joined and cut: parts, hashes of 32 bytes, rows.
+use Rattle.std.proofs.Common.{◌≡◌, ◌⊎◌, ℕ, zero, suc, ◌+◌, ◌*◌, ◌^◌, ◌<◌, List, [], ◌∷◌, ◌++◌, length, map, take, drop, refl, sym, ap, ◌∙◌, inl, inr, arith, length-append, append_assoc, take-add}
+use Rattle.std.specs.List.{flat_map, range_with_len, AllByRecursion}
+use Rattle.std.specs.Int.{div_ceil, from_be_bytes, w32, w64}
+use Rattle.std.proofs.lemmas.List.{take_all, drop-drop}
+use Rattle.std.proofs.lemmas.Grind.{div_ceil_times}
+use Rattle.sha2.specs.Sha256.{sha256}
+use Rattle.format_spec.specs.Bytes.{Bytes, parts, be32, be64, short_string}
+use Rattle.format_spec.specs.Hashes.{Clash}
+use Rattle.format_spec.proofs.Forms.{wide32, wide64}
+use Rattle.soundness.proofs.Strings.{one_or_clash, first_of_list, behind_first, clash_within, cut_front}
+
+pub cons_same : {X : Type 0} (x y : X) (xs ys : List X) → x ≡ y → xs ≡ ys → x ∷ xs ≡ y ∷ ys
+cons_same x y xs ys p q = cc
+
+pub heads : {X : Type 0} (x y : X) (xs ys : List X) → x ∷ xs ≡ y ∷ ys → (x ≡ y) × (xs ≡ ys)
+heads x y xs ys e = (cc, cc)
+
+abbrev pub joined : List Bytes → Bytes
+joined xs = flat_map (λ x. x) xs
+
+-- ---- parts
+
+step_at : (n k a : ℕ) (s : Bytes) → take n (drop (a * n) s) ++ take (k * n) (drop ((a + 1) * n) s) ≡ take (suc k * n) (drop (a * n) s)
+step_at n k a s =
+    let at : (a + 1) * n ≡ a * n + n = omega arith in
+    let more : n + k * n ≡ suc k * n = omega arith in
+    let d : drop ((a + 1) * n) s ≡ drop n (drop (a * n) s) = ap (λ (m : ℕ). drop m s) at ∙ sym (drop-drop n (a * n) s) in
+    ap (λ (x : Bytes). take n (drop (a * n) s) ++ take (k * n) x) d ∙ sym (take-add n (k * n) (drop (a * n) s)) ∙ ap (λ (m : ℕ). take m (drop (a * n) s)) more
+
+parts_at : (n : ℕ) (s : Bytes) (k a : ℕ) → joined (map (λ i. take n (drop (i * n) s)) (range_with_len a k)) ≡ take (k * n) (drop (a * n) s)
+parts_at n s zero a = let z : 0 ≡ 0 * n = omega arith in ap (λ (m : ℕ). take m (drop (a * n) s)) z
+parts_at n s (suc k) a = ap (λ (x : Bytes). take n (drop (a * n) s) ++ x) (parts_at n s k (a + 1)) ∙ step_at n k a s
+
+pub joined_parts : (n : ℕ) (s : Bytes) → 0 < n → joined (parts n s) ≡ s
+unfolding parts
+joined_parts n s pos =
+    let k : ℕ = div_ceil (length s) n in
+    let z : 0 * n ≡ 0 = omega arith in
+    parts_at n s k 0 ∙ ap (λ (m : ℕ). take (k * n) (drop m s)) z ∙ take_all (k * n) s (div_ceil_times (length s) n pos).0
+
+-- ---- hashes
+
+module _ (w : Bytes → Bytes) (inj : (x y : Bytes) → w x ≡ w y → x ≡ y) where
+  each_both : (x y : Bytes) (xs ys : List Bytes) → (w x ≡ w y) ⊎ Clash (w x ∷ map w xs) (w y ∷ map w ys) → (xs ≡ ys) ⊎ Clash (map w xs) (map w ys) → (x ∷ xs ≡ y ∷ ys) ⊎ Clash (w x ∷ map w xs) (w y ∷ map w ys)
+  each_both x y xs ys (inr c) q = inr c
+  each_both x y xs ys (inl p) (inr c) = inr (clash_within (map w xs) (map w ys) (w x ∷ map w xs) (w y ∷ map w ys) (λ z h. behind_first (w x) (map w xs) z h) (λ z h. behind_first (w y) (map w ys) z h) c)
+  each_both x y xs ys (inl p) (inl q) = inl (cons_same x y xs ys (inj x y p) q)
+
+  pub each_or_clash : (xs ys : List Bytes) → map (λ x. sha256 (w x)) xs ≡ map (λ x. sha256 (w x)) ys → (xs ≡ ys) ⊎ Clash (map w xs) (map w ys)
+  each_or_clash [] [] e = inl refl
+  each_or_clash [] (y ∷ ys) e = absurd cc
+  each_or_clash (x ∷ xs) [] e = absurd cc
+  each_or_clash (x ∷ xs) (y ∷ ys) e =
+      let h = heads (sha256 (w x)) (sha256 (w y)) (map (λ z. sha256 (w z)) xs) (map (λ z. sha256 (w z)) ys) e in
+      each_both x y xs ys (one_or_clash (w x) (w y) (w x ∷ map w xs) (w y ∷ map w ys) (first_of_list (w x) (map w xs)) (first_of_list (w y) (map w ys)) h.0) (each_or_clash xs ys h.1)
+
+abbrev pub Are32 : List Bytes → Type 0
+Are32 hs = AllByRecursion (λ h. length h ≡ 32) hs
+
+pub hashes_cut : (hs gs : List Bytes) → Are32 hs → Are32 gs → joined hs ≡ joined gs → hs ≡ gs
+hashes_cut [] [] p q e = refl
+hashes_cut [] (g ∷ gs) p q e = absurd (omega (arith, ap length e, length-append g (joined gs), q.0))
+hashes_cut (h ∷ hs) [] p q e = absurd (omega (arith, ap length e, length-append h (joined hs), p.0))
+hashes_cut (h ∷ hs) (g ∷ gs) p q e =
+    let c = cut_front h (joined hs) g (joined gs) (p.0 ∙ sym q.0) e in
+    cons_same h g hs gs c.0 (hashes_cut hs gs p.1 q.1 c.1)
+
+-- ---- strings of known lengths
+
+pub joined_same : (xs ys : List Bytes) (a b : Bytes) → map (λ x. length x) xs ≡ map (λ x. length x) ys → joined xs ++ a ≡ joined ys ++ b → (xs ≡ ys) × (a ≡ b)
+joined_same [] [] a b p e = (refl, e)
+joined_same [] (y ∷ ys) a b p e = absurd cc
+joined_same (x ∷ xs) [] a b p e = absurd cc
+joined_same (x ∷ xs) (y ∷ ys) a b p e =
+    let n = heads (length x) (length y) (map (λ z. length z) xs) (map (λ z. length z) ys) p in
+    let c = cut_front x (joined xs ++ a) y (joined ys ++ b) n.0 (sym (append_assoc x (joined xs) a) ∙ e ∙ append_assoc y (joined ys) b) in
+    let r = joined_same xs ys a b n.1 c.1 in
+    (cons_same x y xs ys c.0 r.0, r.1)
+
+pub be32_same : (n m : ℕ) → n < 2 ^ 32 → m < 2 ^ 32 → be32 n ≡ be32 m → n ≡ m
+be32_same n m p q e = sym (wide32.again n p) ∙ ap (from_be_bytes w32) e ∙ wide32.again m q
+
+pub be64_same : (n m : ℕ) → n < 2 ^ 64 → m < 2 ^ 64 → be64 n ≡ be64 m → n ≡ m
+be64_same n m p q e = sym (wide64.again n p) ∙ ap (from_be_bytes w64) e ∙ wide64.again m q
+
+abbrev pub AreShort : List Bytes → Type 0
+AreShort xs = AllByRecursion (λ x. length x < 2 ^ 64) xs
+
+pub lengths_same : (xs ys : List Bytes) → AreShort xs → AreShort ys → map (λ x. be64 (length x)) xs ≡ map (λ x. be64 (length x)) ys → map (λ x. length x) xs ≡ map (λ x. length x) ys
+lengths_same [] [] p q e = refl
+lengths_same [] (y ∷ ys) p q e = absurd cc
+lengths_same (x ∷ xs) [] p q e = absurd cc
+lengths_same (x ∷ xs) (y ∷ ys) p q e =
+    let h = heads (be64 (length x)) (be64 (length y)) (map (λ z. be64 (length z)) xs) (map (λ z. be64 (length z)) ys) e in
+    cons_same (length x) (length y) (map (λ z. length z) xs) (map (λ z. length z) ys) (be64_same (length x) (length y) p.0 q.0 h.0) (lengths_same xs ys p.1 q.1 h.1)
+
+pub name_cut : (n m a b : Bytes) → short_string n ++ a ≡ short_string m ++ b → a ≡ b
+name_cut n m a b e =
+    let h = heads (length n) (length m) (n ++ a) (m ++ b) e in
+    (cut_front n a m b h.0 h.1).1

@@ -1,0 +1,251 @@
+-- States with one root are equal up to history, or two strings clash.
+use Rattle.std.proofs.Common.{◌≡◌, ◌⊎◌, ℕ, ◌*◌, ◌^◌, ◌<◌, ◌≤◌, List, [], ◌∷◌, ◌++◌, length, map, codes, Contains, Option, Ok, Result, refl, sym, ap, ◌∙◌, subst, inl, inr, arith, length-append}
+use Rattle.std.specs.List.{flat_map, AllByRecursion}
+use Rattle.std.proofs.lemmas.List.{append_cancel_left, map-append, length-map, same_from_push, append-nil}
+use Rattle.std.proofs.lemmas.List.Concat.{flat_map-append}
+use Rattle.std.proofs.lemmas.List.Elements.{Contains-append_left, Contains-append_right}
+use Rattle.sha2.specs.Sha256.{sha256}
+use Rattle.sha2.proofs.Facts256.{length-sha256}
+use Rattle.format_spec.specs.Bytes.{Bytes, parts, be32, be64, short_string}
+use Rattle.format_spec.specs.Hashes.{Clash, chunk_string, file_string, piece_string, root_string, chunk_hash, piece_hash, root_hash}
+use Rattle.format_spec.specs.declared.limits.TheConstants.{CHUNK_SIZE, PIECE_SIZE, MAX_MEMORY_PAGES}
+use Rattle.state_spec.specs.State.{State, Canister, CanisterPart, Memory, IsState, IsSystem, FitsCanister, SystemPart, system_of, part_of, pages_of, without_history, SameState}
+use Rattle.state_spec.specs.SystemText.{system_text, read_system}
+use Rattle.state_spec.specs.Files.{files, memory_files, system_name}
+use Rattle.state_spec.specs.Manifest.{Manifest, manifest_of, manifest_from, sums_of, chunk_sums}
+use Rattle.state_spec.specs.ManifestText.{manifest_text}
+use Rattle.state_spec.specs.Root.{meta_of, pieces_of, root_of, hashed}
+use Rattle.soundness.proofs.Strings.{one_or_clash, first_of_list, clash_within, cut_front}
+use Rattle.soundness.proofs.Joins.{cons_same, heads, joined, Are32, each_or_clash, hashes_cut, joined_parts, joined_same, lengths_same, AreShort}
+use Rattle.soundness.proofs.Texts.{File, chunks_in, contents, same_files, joined_chunks}
+
+-- ---- the lists of strings
+
+map_flat : {X : Type 0} (w : Bytes → Bytes) (g : X → List Bytes) (xs : List X) → map w (flat_map g xs) ≡ flat_map (λ x. map w (g x)) xs
+map_flat w g [] = refl
+map_flat w g (x ∷ xs) = map-append w (g x) (flat_map g xs) ∙ ap (λ (y : List Bytes). map w (g x) ++ y) (map_flat w g xs)
+
+abbrev pub pieces_in : State → List Bytes
+pieces_in s = pieces_of (manifest_of s)
+
+pub in_chunks : (s : State) (x : Bytes) → Contains (map chunk_string (chunks_in (files s))) x → Contains (hashed s) x
+unfolding hashed
+in_chunks s x h =
+    let cs : List Bytes = flat_map (λ f. map chunk_string (parts CHUNK_SIZE f.1)) (files s) in
+    let fs : List Bytes = map (λ f. file_string (chunk_sums (sums_of f))) (files s) in
+    let ps : List Bytes = map piece_string (pieces_in s) in
+    let rs : List Bytes = root_string s.version (meta_of (manifest_of s)).pieces ∷ [] in
+    Contains-append_left (cs ++ fs ++ ps) rs x (Contains-append_left (cs ++ fs) ps x (Contains-append_left cs fs x (subst (λ (y : List Bytes). Contains y x) (map_flat chunk_string (λ f. parts CHUNK_SIZE f.1) (files s)) h)))
+
+pub in_pieces : (s : State) (x : Bytes) → Contains (map piece_string (pieces_in s)) x → Contains (hashed s) x
+unfolding hashed
+in_pieces s x h =
+    let cs : List Bytes = flat_map (λ f. map chunk_string (parts CHUNK_SIZE f.1)) (files s) in
+    let fs : List Bytes = map (λ f. file_string (chunk_sums (sums_of f))) (files s) in
+    let ps : List Bytes = map piece_string (pieces_in s) in
+    let rs : List Bytes = root_string s.version (meta_of (manifest_of s)).pieces ∷ [] in
+    Contains-append_left (cs ++ fs ++ ps) rs x (Contains-append_right (cs ++ fs) ps x h)
+
+pub in_root : (s : State) → Contains (hashed s) (root_string s.version (meta_of (manifest_of s)).pieces)
+unfolding hashed
+in_root s =
+    let cs : List Bytes = flat_map (λ f. map chunk_string (parts CHUNK_SIZE f.1)) (files s) in
+    let fs : List Bytes = map (λ f. file_string (chunk_sums (sums_of f))) (files s) in
+    let ps : List Bytes = map piece_string (pieces_in s) in
+    let r : Bytes = root_string s.version (meta_of (manifest_of s)).pieces in
+    Contains-append_right (cs ++ fs ++ ps) (r ∷ []) r (first_of_list r [])
+
+-- ---- the hashes by SHA-256
+
+pub root_is : (s : State) → root_of s ≡ sha256 (root_string s.version (meta_of (manifest_of s)).pieces)
+unfolding root_of root_hash meta_of manifest_of manifest_from
+root_is s = refl
+
+pub pieces_are : (m : Manifest) → (meta_of m).pieces ≡ map (λ x. sha256 (piece_string x)) (pieces_of m)
+unfolding meta_of piece_hash
+pieces_are m = refl
+
+pub chunks_are : (xs : List Bytes) → map chunk_hash xs ≡ map (λ x. sha256 (chunk_string x)) xs
+unfolding chunk_hash
+chunks_are xs = refl
+
+pub pieces_32 : (xs : List Bytes) → Are32 (map (λ x. sha256 (piece_string x)) xs)
+pieces_32 [] = tt
+pieces_32 (x ∷ xs) = (length-sha256 _, pieces_32 xs)
+
+pub root_joined : (v w : ℕ) (ps qs : List Bytes) → root_string v ps ≡ root_string w qs → joined ps ≡ joined qs
+root_joined v w ps qs e =
+    (cut_front (be32 v ++ be32 (length ps)) (joined ps) (be32 w ++ be32 (length qs)) (joined qs) refl
+    (append_cancel_left (short_string (codes "ic-state-meta-manifest")) (be32 v ++ be32 (length ps) ++ joined ps) (be32 w ++ be32 (length qs) ++ joined qs) e)).1
+
+pub chunk_inj : (x y : Bytes) → chunk_string x ≡ chunk_string y → x ≡ y
+chunk_inj x y e = append_cancel_left (short_string (codes "ic-state-chunk")) x y e
+
+pub piece_inj : (x y : Bytes) → piece_string x ≡ piece_string y → x ≡ y
+piece_inj x y e = append_cancel_left (short_string (codes "ic-state-sub-manifest")) x y e
+
+-- ---- down from the root
+
+abbrev Clashes : State → State → Type 0
+Clashes s t = Clash (hashed s) (hashed t)
+
+root_level : (s t : State) → root_of s ≡ root_of t → (map (λ x. sha256 (piece_string x)) (pieces_in s) ≡ map (λ x. sha256 (piece_string x)) (pieces_in t)) ⊎ Clashes s t
+root_level s t e = by (one_or_clash (root_string s.version (meta_of (manifest_of s)).pieces) (root_string t.version (meta_of (manifest_of t)).pieces) (hashed s) (hashed t) (in_root s) (in_root t) (sym (root_is s) ∙ e ∙ root_is t))
+  where
+    by : (root_string s.version (meta_of (manifest_of s)).pieces ≡ root_string t.version (meta_of (manifest_of t)).pieces) ⊎ Clashes s t → (map (λ x. sha256 (piece_string x)) (pieces_in s) ≡ map (λ x. sha256 (piece_string x)) (pieces_in t)) ⊎ Clashes s t
+    by (inr c) = inr c
+    by (inl p) =
+        let ps : List Bytes = map (λ x. sha256 (piece_string x)) (pieces_in s) in
+        let qs : List Bytes = map (λ x. sha256 (piece_string x)) (pieces_in t) in
+        let j : joined ps ≡ joined qs = ap joined (sym (pieces_are (manifest_of s))) ∙ root_joined s.version t.version (meta_of (manifest_of s)).pieces (meta_of (manifest_of t)).pieces p ∙ ap joined (pieces_are (manifest_of t)) in
+        inl (hashes_cut ps qs (pieces_32 (pieces_in s)) (pieces_32 (pieces_in t)) j)
+
+piece_level : (s t : State) → (map (λ x. sha256 (piece_string x)) (pieces_in s) ≡ map (λ x. sha256 (piece_string x)) (pieces_in t)) ⊎ Clashes s t → (manifest_text (manifest_of s) ≡ manifest_text (manifest_of t)) ⊎ Clashes s t
+piece_level s t (inr c) = inr c
+piece_level s t (inl e) = by (each_or_clash piece_string piece_inj (pieces_in s) (pieces_in t) e)
+  where
+    by : (pieces_in s ≡ pieces_in t) ⊎ Clash (map piece_string (pieces_in s)) (map piece_string (pieces_in t)) → (manifest_text (manifest_of s) ≡ manifest_text (manifest_of t)) ⊎ Clashes s t
+    by (inr c) = inr (clash_within (map piece_string (pieces_in s)) (map piece_string (pieces_in t)) (hashed s) (hashed t) (in_pieces s) (in_pieces t) c)
+    by (inl p) = inl (sym (joined_parts PIECE_SIZE (manifest_text (manifest_of s)) (omega arith)) ∙ ap joined p ∙ joined_parts PIECE_SIZE (manifest_text (manifest_of t)) (omega arith))
+
+-- ---- the files of a state
+
+memories : List (Bytes × Canister) → List Bytes
+memories [] = []
+memories (c ∷ cs) = c.1.heap.bytes ∷ c.1.stable.bytes ∷ memories cs
+
+memory_contents : (cs : List (Bytes × Canister)) → contents (flat_map memory_files cs) ≡ memories cs
+unfolding memories
+memory_contents [] = refl
+memory_contents (c ∷ cs) = ap (λ (x : List Bytes). c.1.heap.bytes ∷ c.1.stable.bytes ∷ x) (memory_contents cs)
+
+state_contents : (s : State) → contents (files s) ≡ memories s.canisters ++ system_text (system_of s) ∷ []
+unfolding files
+state_contents s =
+    map-append (λ (f : File). f.1) (flat_map memory_files s.canisters) ((system_name, system_text (system_of s)) ∷ [])
+    ∙ ap (λ (x : List Bytes). x ++ system_text (system_of s) ∷ []) (memory_contents s.canisters)
+
+memory_count : (cs : List (Bytes × Canister)) → length (flat_map memory_files cs) ≡ 2 * length cs
+memory_count [] = refl
+memory_count (c ∷ cs) = omega (arith, memory_count cs)
+
+few_files : (s : State) → IsState s → length (files s) < 2 ^ 32
+unfolding files system_of
+few_files s h =
+    let last : List File = (system_name, system_text (system_of s)) ∷ [] in
+    let few = h.system.few_canisters in
+    let named : Bytes × Canister → Bytes × CanisterPart = λ c. (c.0, part_of c.1) in
+    let count = length-map s.canisters named in
+    omega (arith, few, count, memory_count s.canisters, length-append (flat_map memory_files s.canisters) last)
+
+short_memory : (m : Memory) → pages_of m ≤ MAX_MEMORY_PAGES → length m.bytes < 2 ^ 64
+short_memory m h = omega (arith, h)
+
+short_memories : (v : ℕ) (cs : List (Bytes × Canister)) → AllByRecursion (FitsCanister v) (map (λ c. (c.0, part_of c.1)) cs) → AreShort (memories cs)
+unfolding memories
+short_memories v [] h = tt
+short_memories v (c ∷ cs) h = (short_memory c.1.heap h.0.heap, (short_memory c.1.stable h.0.stable, short_memories v cs h.1))
+
+-- ---- down to the bytes
+
+record SameBytes (s t : State) : Type 0 where
+  memory : memories s.canisters ≡ memories t.canisters
+  system : system_text (system_of s) ≡ system_text (system_of t)
+
+file_level : (s t : State) → IsState s → IsState t → (manifest_text (manifest_of s) ≡ manifest_text (manifest_of t)) ⊎ Clashes s t → SameBytes s t ⊎ Clashes s t
+unfolding manifest_of system_of
+file_level s t hs ht (inr c) = inr c
+file_level s t hs ht (inl e) = by (each_or_clash chunk_string chunk_inj (chunks_in (files s)) (chunks_in (files t)) (sym (chunks_are (chunks_in (files s))) ∙ p.1 ∙ chunks_are (chunks_in (files t))))
+  where
+    p : (map (λ x. be64 (length x)) (contents (files s)) ≡ map (λ x. be64 (length x)) (contents (files t))) × (map chunk_hash (chunks_in (files s)) ≡ map chunk_hash (chunks_in (files t)))
+    p = same_files s.version t.version (files s) (files t) (hs.version ∙ sym ht.version) (few_files s hs) (few_files t ht) e
+
+    sizes : map (λ x. be64 (length x)) (memories s.canisters) ≡ map (λ x. be64 (length x)) (memories t.canisters)
+    sizes =
+        let a : Bytes = system_text (system_of s) in
+        let b : Bytes = system_text (system_of t) in
+        let w : Bytes → Bytes = λ x. be64 (length x) in
+        (same_from_push (map w (memories s.canisters)) (map w (memories t.canisters)) (w a) (w b)
+        (sym (map-append w (memories s.canisters) (a ∷ [])) ∙ ap (map w) (sym (state_contents s)) ∙ p.0 ∙ ap (map w) (state_contents t) ∙ map-append w (memories t.canisters) (b ∷ []))).0
+
+    one_more : (xs : List Bytes) (a : Bytes) → joined (xs ++ a ∷ []) ≡ joined xs ++ a
+    one_more xs a = flat_map-append (λ (x : Bytes). x) xs (a ∷ []) ∙ simp append-nil
+
+    by : (chunks_in (files s) ≡ chunks_in (files t)) ⊎ Clash (map chunk_string (chunks_in (files s))) (map chunk_string (chunks_in (files t))) → SameBytes s t ⊎ Clashes s t
+    by (inr c) = inr (clash_within (map chunk_string (chunks_in (files s))) (map chunk_string (chunks_in (files t))) (hashed s) (hashed t) (in_chunks s) (in_chunks t) c)
+    by (inl q) =
+        let a : Bytes = system_text (system_of s) in
+        let b : Bytes = system_text (system_of t) in
+        let all : joined (contents (files s)) ≡ joined (contents (files t)) = sym (joined_chunks (files s)) ∙ ap joined q ∙ joined_chunks (files t) in
+        let r = joined_same (memories s.canisters) (memories t.canisters) a b
+        (lengths_same (memories s.canisters) (memories t.canisters) (short_memories s.version s.canisters hs.system.canisters_fit) (short_memories t.version t.canisters ht.system.canisters_fit) sizes)
+        (sym (one_more (memories s.canisters) a) ∙ ap joined (sym (state_contents s)) ∙ all ∙ ap joined (state_contents t) ∙ one_more (memories t.canisters) b) in
+        inl (record { memory = r.0; system = r.1 })
+
+-- ---- from the bytes to the state
+
+part : Bytes × Canister → Bytes × CanisterPart
+part c = (c.0, part_of c.1)
+
+plain : Bytes × Canister → Bytes × Canister
+plain c = (c.0, without_history c.1)
+
+canister_from : Bytes → Option Bytes → Bytes → Bytes → Bytes → Bytes × Canister
+canister_from id wasm certified heap stable = (id, record { wasm = wasm; certified = certified; heap = record { bytes = heap; rounds = [] }; stable = record { bytes = stable; rounds = [] }; birth = 0 })
+
+state_from : ℕ → ℕ → List (Bytes × Canister) → List (List Bytes × Bytes) → State
+state_from version time canisters entries = record { version = version; time = time; canisters = canisters; entries = entries }
+
+plain_is : (c : Bytes × Canister) → plain c ≡ canister_from c.0 c.1.wasm c.1.certified c.1.heap.bytes c.1.stable.bytes
+unfolding plain canister_from
+plain_is c = refl
+
+from_same : (a b : Bytes) (w v : Option Bytes) (x y h k m n : Bytes) → a ≡ b → w ≡ v → x ≡ y → h ≡ k → m ≡ n → canister_from a w x h m ≡ canister_from b v y k n
+from_same a b w v x y h k m n p q r s t = cc
+
+state_same : (v w a b : ℕ) (cs ds : List (Bytes × Canister)) (es fs : List (List Bytes × Bytes)) → v ≡ w → a ≡ b → cs ≡ ds → es ≡ fs → state_from v a cs es ≡ state_from w b ds fs
+state_same v w a b cs ds es fs o p q r = cc
+
+one_canister : (c d : Bytes × Canister) → part c ≡ part d → c.1.heap.bytes ≡ d.1.heap.bytes → c.1.stable.bytes ≡ d.1.stable.bytes → plain c ≡ plain d
+unfolding part
+one_canister c d p h s =
+    plain_is c
+    ∙ from_same c.0 d.0 c.1.wasm d.1.wasm c.1.certified d.1.certified c.1.heap.bytes d.1.heap.bytes c.1.stable.bytes d.1.stable.bytes
+    (ap (λ (x : Bytes × CanisterPart). x.0) p) (ap (λ (x : Bytes × CanisterPart). x.1.wasm) p) (ap (λ (x : Bytes × CanisterPart). x.1.certified) p) h s
+    ∙ sym (plain_is d)
+
+canisters_same : (cs ds : List (Bytes × Canister)) → map part cs ≡ map part ds → memories cs ≡ memories ds → map plain cs ≡ map plain ds
+unfolding memories
+canisters_same [] [] p q = refl
+canisters_same [] (d ∷ ds) p q = absurd cc
+canisters_same (c ∷ cs) [] p q = absurd cc
+canisters_same (c ∷ cs) (d ∷ ds) p q =
+    let a = heads (part c) (part d) (map part cs) (map part ds) p in
+    let b = heads c.1.heap.bytes d.1.heap.bytes (c.1.stable.bytes ∷ memories cs) (d.1.stable.bytes ∷ memories ds) q in
+    let e = heads c.1.stable.bytes d.1.stable.bytes (memories cs) (memories ds) b.1 in
+    cons_same (plain c) (plain d) (map plain cs) (map plain ds) (one_canister c d a.0 b.0 e.0) (canisters_same cs ds a.1 e.1)
+
+parts_same : (s t : State) → system_of s ≡ system_of t → (s.time ≡ t.time) × (map part s.canisters ≡ map part t.canisters) × (s.entries ≡ t.entries)
+unfolding system_of part
+parts_same s t e = (ap (λ (x : SystemPart). x.time) e, ap (λ (x : SystemPart). x.canisters) e, ap (λ (x : SystemPart). x.entries) e)
+
+whole : (s t : State) → s.version ≡ t.version → system_of s ≡ system_of t → memories s.canisters ≡ memories t.canisters → SameState s t
+unfolding state_from plain
+whole s t v e m =
+    let p = parts_same s t e in
+    state_same s.version t.version s.time t.time (map plain s.canisters) (map plain t.canisters) s.entries t.entries v p.0 (canisters_same s.canisters t.canisters p.1 m) p.2
+
+module _ (again : (v : ℕ) (s : SystemPart) → IsSystem v s → read_system v (system_text s) ≡ Ok s) where
+  ok_is : (a b : SystemPart) → ◌≡◌ {A = Result SystemPart ℕ} (Ok a) (Ok b) → a ≡ b
+  ok_is a b e = cc
+
+  system_same : (s t : State) → IsState s → IsState t → system_text (system_of s) ≡ system_text (system_of t) → system_of s ≡ system_of t
+  system_same s t hs ht e =
+      ok_is (system_of s) (system_of t) (sym (again 1 (system_of s) (subst (λ (v : ℕ). IsSystem v (system_of s)) hs.version hs.system)) ∙ ap (read_system 1) e ∙ again 1 (system_of t) (subst (λ (v : ℕ). IsSystem v (system_of t)) ht.version ht.system))
+
+  pub same_root : (s t : State) → IsState s → IsState t → root_of s ≡ root_of t → SameState s t ⊎ Clash (hashed s) (hashed t)
+  same_root s t hs ht e = by (file_level s t hs ht (piece_level s t (root_level s t e)))
+    where
+      by : SameBytes s t ⊎ Clashes s t → SameState s t ⊎ Clashes s t
+      by (inr c) = inr c
+      by (inl b) = inl (whole s t (hs.version ∙ sym ht.version) (system_same s t hs ht b.system) b.memory)

@@ -1,0 +1,36 @@
+-- What a state is apart from the bytes of its memories and the rounds of their pages.
+use Rattle.std.specs.Prelude.{ℕ, List, map}
+use Rattle.format_spec.specs.Bytes.{Bytes}
+use Rattle.state_spec.specs.State.{State, Canister, CanisterPart, SystemPart, pages_of}
+use Rattle.sys_state.specs.declared.record.CanisterRecord.{CanisterRecord}
+
+-- canisters by ascending ids, entries by ascending paths
+pub record System : Type 0 where
+  pub time : ℕ
+  pub canisters : List (Bytes × CanisterRecord)
+  pub entries : List (List Bytes × Bytes)
+
+-- without the birth
+abbrev pub part_of_record : CanisterRecord → CanisterPart
+part_of_record c = record { wasm = c.module; certified = c.certified; heap = c.heap; stable = c.stable }
+
+-- without births: what the system text spells
+abbrev pub part_of : System → SystemPart
+part_of s = record {
+  time = s.time;
+  canisters = map (λ c. (c.0, part_of_record c.1)) s.canisters;
+  entries = s.entries;
+}
+
+abbrev pub record_of : Canister → CanisterRecord
+record_of c = record {
+  «module» = c.wasm;
+  certified = c.certified;
+  heap = pages_of c.heap;
+  stable = pages_of c.stable;
+  birth = c.birth;
+}
+
+-- what of a plain state isn't memory bytes or rounds
+abbrev pub kept_of : State → System
+kept_of s = record { time = s.time; canisters = map (λ c. (c.0, record_of c.1)) s.canisters; entries = s.entries }
