@@ -9,7 +9,7 @@ use Rattle.sha2.proofs.Facts256.{length-sha256}
 use Rattle.format_spec.specs.Bytes.{Bytes, parts, be32, be64, short_string}
 use Rattle.format_spec.specs.Hashes.{chunk_string, file_string, piece_string, root_string, chunk_hash, piece_hash, root_hash}
 use Rattle.format_spec.specs.declared.limits.TheConstants.{CHUNK_SIZE, PIECE_SIZE, MAX_MEMORY_PAGES}
-use Rattle.state_spec.specs.State.{State, Canister, CanisterPart, Memory, IsState, IsSystem, FitsCanister, SystemPart, system_of, part_of, pages_of, without_history, SameState}
+use Rattle.state_spec.specs.State.{State, Canister, CanisterPart, Memory, IsState, IsSystem, FitsCanister, SystemPart, system_of, part_of, pages_of, canister_without_history, SameState}
 use Rattle.state_spec.specs.SystemText.{system_text, read_system}
 use Rattle.state_spec.specs.Files.{files, memory_files, system_name}
 use Rattle.state_spec.specs.Manifest.{Manifest, manifest_of, manifest_from, sums_of, chunk_sums}
@@ -189,7 +189,7 @@ part : Bytes × Canister → Bytes × CanisterPart
 part c = (c.0, part_of c.1)
 
 plain : Bytes × Canister → Bytes × Canister
-plain c = (c.0, without_history c.1)
+plain c = (c.0, canister_without_history c.1)
 
 canister_from : Bytes → Option Bytes → Bytes → Bytes → Bytes → Bytes × Canister
 canister_from id wasm certified heap stable = (id, record { wasm = wasm; certified = certified; heap = record { bytes = heap; rounds = [] }; stable = record { bytes = stable; rounds = [] }; birth = 0 })
