@@ -4,6 +4,8 @@
 pub const PAGE_SIZE: usize = 4096;
 /// Pages in a chunk.
 pub const CHUNK_PAGES: usize = 256;
+/// Pages that one step of a job writes.
+pub const STEP_PAGES: usize = 256;
 /// Bytes in a chunk of a logical file.
 pub const CHUNK_SIZE: usize = 1_048_576;
 /// Bytes in a piece of a manifest.

@@ -6,9 +6,8 @@ use Rattle.std.proofs.lemmas.List.{take_all, drop-drop}
 use Rattle.std.proofs.lemmas.Grind.{div_ceil_times}
 use Rattle.sha2.specs.Sha256.{sha256}
 use Rattle.format_spec.specs.Bytes.{Bytes, parts, be32, be64, short_string}
-use Rattle.format_spec.specs.Hashes.{Clash}
 use Rattle.format_spec.proofs.Forms.{wide32, wide64}
-use Rattle.soundness.proofs.Strings.{one_or_clash, first_of_list, behind_first, clash_within, cut_front}
+use Rattle.soundness.proofs.Strings.{Meet, one_or_meet, first_of_list, behind_first, meet_within, cut_front}
 
 pub cons_same : {X : Type 0} (x y : X) (xs ys : List X) → x ≡ y → xs ≡ ys → x ∷ xs ≡ y ∷ ys
 cons_same x y xs ys p q = cc
@@ -42,18 +41,18 @@ joined_parts n s pos =
 -- ---- hashes
 
 module _ (w : Bytes → Bytes) (inj : (x y : Bytes) → w x ≡ w y → x ≡ y) where
-  each_both : (x y : Bytes) (xs ys : List Bytes) → (w x ≡ w y) ⊎ Clash (w x ∷ map w xs) (w y ∷ map w ys) → (xs ≡ ys) ⊎ Clash (map w xs) (map w ys) → (x ∷ xs ≡ y ∷ ys) ⊎ Clash (w x ∷ map w xs) (w y ∷ map w ys)
+  each_both : (x y : Bytes) (xs ys : List Bytes) → (w x ≡ w y) ⊎ Meet (w x ∷ map w xs) (w y ∷ map w ys) → (xs ≡ ys) ⊎ Meet (map w xs) (map w ys) → (x ∷ xs ≡ y ∷ ys) ⊎ Meet (w x ∷ map w xs) (w y ∷ map w ys)
   each_both x y xs ys (inr c) q = inr c
-  each_both x y xs ys (inl p) (inr c) = inr (clash_within (map w xs) (map w ys) (w x ∷ map w xs) (w y ∷ map w ys) (λ z h. behind_first (w x) (map w xs) z h) (λ z h. behind_first (w y) (map w ys) z h) c)
+  each_both x y xs ys (inl p) (inr c) = inr (meet_within (map w xs) (map w ys) (w x ∷ map w xs) (w y ∷ map w ys) (λ z h. behind_first (w x) (map w xs) z h) (λ z h. behind_first (w y) (map w ys) z h) c)
   each_both x y xs ys (inl p) (inl q) = inl (cons_same x y xs ys (inj x y p) q)
 
-  pub each_or_clash : (xs ys : List Bytes) → map (λ x. sha256 (w x)) xs ≡ map (λ x. sha256 (w x)) ys → (xs ≡ ys) ⊎ Clash (map w xs) (map w ys)
-  each_or_clash [] [] e = inl refl
-  each_or_clash [] (y ∷ ys) e = absurd cc
-  each_or_clash (x ∷ xs) [] e = absurd cc
-  each_or_clash (x ∷ xs) (y ∷ ys) e =
+  pub each_or_meet : (xs ys : List Bytes) → map (λ x. sha256 (w x)) xs ≡ map (λ x. sha256 (w x)) ys → (xs ≡ ys) ⊎ Meet (map w xs) (map w ys)
+  each_or_meet [] [] e = inl refl
+  each_or_meet [] (y ∷ ys) e = absurd cc
+  each_or_meet (x ∷ xs) [] e = absurd cc
+  each_or_meet (x ∷ xs) (y ∷ ys) e =
       let h = heads (sha256 (w x)) (sha256 (w y)) (map (λ z. sha256 (w z)) xs) (map (λ z. sha256 (w z)) ys) e in
-      each_both x y xs ys (one_or_clash (w x) (w y) (w x ∷ map w xs) (w y ∷ map w ys) (first_of_list (w x) (map w xs)) (first_of_list (w y) (map w ys)) h.0) (each_or_clash xs ys h.1)
+      each_both x y xs ys (one_or_meet (w x) (w y) (w x ∷ map w xs) (w y ∷ map w ys) (first_of_list (w x) (map w xs)) (first_of_list (w y) (map w ys)) h.0) (each_or_meet xs ys h.1)
 
 abbrev pub Are32 : List Bytes → Type 0
 Are32 hs = AllByRecursion (λ h. length h ≡ 32) hs

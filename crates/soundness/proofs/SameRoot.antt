@@ -7,16 +7,17 @@ use Rattle.std.proofs.lemmas.List.Elements.{Contains-append_left, Contains-appen
 use Rattle.sha2.specs.Sha256.{sha256}
 use Rattle.sha2.proofs.Facts256.{length-sha256}
 use Rattle.format_spec.specs.Bytes.{Bytes, parts, be32, be64, short_string}
-use Rattle.format_spec.specs.Hashes.{Clash, chunk_string, file_string, piece_string, root_string, chunk_hash, piece_hash, root_hash}
+use Rattle.format_spec.specs.Hashes.{chunk_string, file_string, piece_string, root_string, chunk_hash, piece_hash, root_hash}
 use Rattle.format_spec.specs.declared.limits.TheConstants.{CHUNK_SIZE, PIECE_SIZE, MAX_MEMORY_PAGES}
-use Rattle.state_spec.specs.State.{State, Canister, CanisterPart, Memory, IsState, IsSystem, FitsCanister, SystemPart, system_of, part_of, pages_of, without_history, SameState}
+use Rattle.state_spec.specs.State.{State, Canister, CanisterPart, Memory, IsState, IsSystem, FitsCanister, SystemPart, system_of, part_of, pages_of, canister_without_history, SameState}
 use Rattle.state_spec.specs.SystemText.{system_text, read_system}
 use Rattle.state_spec.specs.Files.{files, memory_files, system_name}
 use Rattle.state_spec.specs.Manifest.{Manifest, manifest_of, manifest_from, sums_of, chunk_sums}
 use Rattle.state_spec.specs.ManifestText.{manifest_text}
 use Rattle.state_spec.specs.Root.{meta_of, pieces_of, root_of, hashed}
-use Rattle.soundness.proofs.Strings.{one_or_clash, first_of_list, clash_within, cut_front}
-use Rattle.soundness.proofs.Joins.{cons_same, heads, joined, Are32, each_or_clash, hashes_cut, joined_parts, joined_same, lengths_same, AreShort}
+use Rattle.state_spec.proofs.BothWays.{system_again}
+use Rattle.soundness.proofs.Strings.{Meet, one_or_meet, first_of_list, meet_within, cut_front}
+use Rattle.soundness.proofs.Joins.{cons_same, heads, joined, Are32, each_or_meet, hashes_cut, joined_parts, joined_same, lengths_same, AreShort}
 use Rattle.soundness.proofs.Texts.{File, chunks_in, contents, same_files, joined_chunks}
 
 -- ---- the lists of strings
@@ -86,13 +87,13 @@ piece_inj x y e = append_cancel_left (short_string (codes "ic-state-sub-manifest
 
 -- ---- down from the root
 
-abbrev Clashes : State → State → Type 0
-Clashes s t = Clash (hashed s) (hashed t)
+abbrev Meets : State → State → Type 0
+Meets s t = Meet (hashed s) (hashed t)
 
-root_level : (s t : State) → root_of s ≡ root_of t → (map (λ x. sha256 (piece_string x)) (pieces_in s) ≡ map (λ x. sha256 (piece_string x)) (pieces_in t)) ⊎ Clashes s t
-root_level s t e = by (one_or_clash (root_string s.version (meta_of (manifest_of s)).pieces) (root_string t.version (meta_of (manifest_of t)).pieces) (hashed s) (hashed t) (in_root s) (in_root t) (sym (root_is s) ∙ e ∙ root_is t))
+root_level : (s t : State) → root_of s ≡ root_of t → (map (λ x. sha256 (piece_string x)) (pieces_in s) ≡ map (λ x. sha256 (piece_string x)) (pieces_in t)) ⊎ Meets s t
+root_level s t e = by (one_or_meet (root_string s.version (meta_of (manifest_of s)).pieces) (root_string t.version (meta_of (manifest_of t)).pieces) (hashed s) (hashed t) (in_root s) (in_root t) (sym (root_is s) ∙ e ∙ root_is t))
   where
-    by : (root_string s.version (meta_of (manifest_of s)).pieces ≡ root_string t.version (meta_of (manifest_of t)).pieces) ⊎ Clashes s t → (map (λ x. sha256 (piece_string x)) (pieces_in s) ≡ map (λ x. sha256 (piece_string x)) (pieces_in t)) ⊎ Clashes s t
+    by : (root_string s.version (meta_of (manifest_of s)).pieces ≡ root_string t.version (meta_of (manifest_of t)).pieces) ⊎ Meets s t → (map (λ x. sha256 (piece_string x)) (pieces_in s) ≡ map (λ x. sha256 (piece_string x)) (pieces_in t)) ⊎ Meets s t
     by (inr c) = inr c
     by (inl p) =
         let ps : List Bytes = map (λ x. sha256 (piece_string x)) (pieces_in s) in
@@ -100,12 +101,12 @@ root_level s t e = by (one_or_clash (root_string s.version (meta_of (manifest_of
         let j : joined ps ≡ joined qs = ap joined (sym (pieces_are (manifest_of s))) ∙ root_joined s.version t.version (meta_of (manifest_of s)).pieces (meta_of (manifest_of t)).pieces p ∙ ap joined (pieces_are (manifest_of t)) in
         inl (hashes_cut ps qs (pieces_32 (pieces_in s)) (pieces_32 (pieces_in t)) j)
 
-piece_level : (s t : State) → (map (λ x. sha256 (piece_string x)) (pieces_in s) ≡ map (λ x. sha256 (piece_string x)) (pieces_in t)) ⊎ Clashes s t → (manifest_text (manifest_of s) ≡ manifest_text (manifest_of t)) ⊎ Clashes s t
+piece_level : (s t : State) → (map (λ x. sha256 (piece_string x)) (pieces_in s) ≡ map (λ x. sha256 (piece_string x)) (pieces_in t)) ⊎ Meets s t → (manifest_text (manifest_of s) ≡ manifest_text (manifest_of t)) ⊎ Meets s t
 piece_level s t (inr c) = inr c
-piece_level s t (inl e) = by (each_or_clash piece_string piece_inj (pieces_in s) (pieces_in t) e)
+piece_level s t (inl e) = by (each_or_meet piece_string piece_inj (pieces_in s) (pieces_in t) e)
   where
-    by : (pieces_in s ≡ pieces_in t) ⊎ Clash (map piece_string (pieces_in s)) (map piece_string (pieces_in t)) → (manifest_text (manifest_of s) ≡ manifest_text (manifest_of t)) ⊎ Clashes s t
-    by (inr c) = inr (clash_within (map piece_string (pieces_in s)) (map piece_string (pieces_in t)) (hashed s) (hashed t) (in_pieces s) (in_pieces t) c)
+    by : (pieces_in s ≡ pieces_in t) ⊎ Meet (map piece_string (pieces_in s)) (map piece_string (pieces_in t)) → (manifest_text (manifest_of s) ≡ manifest_text (manifest_of t)) ⊎ Meets s t
+    by (inr c) = inr (meet_within (map piece_string (pieces_in s)) (map piece_string (pieces_in t)) (hashed s) (hashed t) (in_pieces s) (in_pieces t) c)
     by (inl p) = inl (sym (joined_parts PIECE_SIZE (manifest_text (manifest_of s)) (omega arith)) ∙ ap joined p ∙ joined_parts PIECE_SIZE (manifest_text (manifest_of t)) (omega arith))
 
 -- ---- the files of a state
@@ -152,10 +153,10 @@ record SameBytes (s t : State) : Type 0 where
   memory : memories s.canisters ≡ memories t.canisters
   system : system_text (system_of s) ≡ system_text (system_of t)
 
-file_level : (s t : State) → IsState s → IsState t → (manifest_text (manifest_of s) ≡ manifest_text (manifest_of t)) ⊎ Clashes s t → SameBytes s t ⊎ Clashes s t
+file_level : (s t : State) → IsState s → IsState t → (manifest_text (manifest_of s) ≡ manifest_text (manifest_of t)) ⊎ Meets s t → SameBytes s t ⊎ Meets s t
 unfolding manifest_of system_of
 file_level s t hs ht (inr c) = inr c
-file_level s t hs ht (inl e) = by (each_or_clash chunk_string chunk_inj (chunks_in (files s)) (chunks_in (files t)) (sym (chunks_are (chunks_in (files s))) ∙ p.1 ∙ chunks_are (chunks_in (files t))))
+file_level s t hs ht (inl e) = by (each_or_meet chunk_string chunk_inj (chunks_in (files s)) (chunks_in (files t)) (sym (chunks_are (chunks_in (files s))) ∙ p.1 ∙ chunks_are (chunks_in (files t))))
   where
     p : (map (λ x. be64 (length x)) (contents (files s)) ≡ map (λ x. be64 (length x)) (contents (files t))) × (map chunk_hash (chunks_in (files s)) ≡ map chunk_hash (chunks_in (files t)))
     p = same_files s.version t.version (files s) (files t) (hs.version ∙ sym ht.version) (few_files s hs) (few_files t ht) e
@@ -171,8 +172,8 @@ file_level s t hs ht (inl e) = by (each_or_clash chunk_string chunk_inj (chunks_
     one_more : (xs : List Bytes) (a : Bytes) → joined (xs ++ a ∷ []) ≡ joined xs ++ a
     one_more xs a = flat_map-append (λ (x : Bytes). x) xs (a ∷ []) ∙ simp append-nil
 
-    by : (chunks_in (files s) ≡ chunks_in (files t)) ⊎ Clash (map chunk_string (chunks_in (files s))) (map chunk_string (chunks_in (files t))) → SameBytes s t ⊎ Clashes s t
-    by (inr c) = inr (clash_within (map chunk_string (chunks_in (files s))) (map chunk_string (chunks_in (files t))) (hashed s) (hashed t) (in_chunks s) (in_chunks t) c)
+    by : (chunks_in (files s) ≡ chunks_in (files t)) ⊎ Meet (map chunk_string (chunks_in (files s))) (map chunk_string (chunks_in (files t))) → SameBytes s t ⊎ Meets s t
+    by (inr c) = inr (meet_within (map chunk_string (chunks_in (files s))) (map chunk_string (chunks_in (files t))) (hashed s) (hashed t) (in_chunks s) (in_chunks t) c)
     by (inl q) =
         let a : Bytes = system_text (system_of s) in
         let b : Bytes = system_text (system_of t) in
@@ -188,7 +189,7 @@ part : Bytes × Canister → Bytes × CanisterPart
 part c = (c.0, part_of c.1)
 
 plain : Bytes × Canister → Bytes × Canister
-plain c = (c.0, without_history c.1)
+plain c = (c.0, canister_without_history c.1)
 
 canister_from : Bytes → Option Bytes → Bytes → Bytes → Bytes → Bytes × Canister
 canister_from id wasm certified heap stable = (id, record { wasm = wasm; certified = certified; heap = record { bytes = heap; rounds = [] }; stable = record { bytes = stable; rounds = [] }; birth = 0 })
@@ -235,17 +236,16 @@ whole s t v e m =
     let p = parts_same s t e in
     state_same s.version t.version s.time t.time (map plain s.canisters) (map plain t.canisters) s.entries t.entries v p.0 (canisters_same s.canisters t.canisters p.1 m) p.2
 
-module _ (again : (v : ℕ) (s : SystemPart) → IsSystem v s → read_system v (system_text s) ≡ Ok s) where
-  ok_is : (a b : SystemPart) → ◌≡◌ {A = Result SystemPart ℕ} (Ok a) (Ok b) → a ≡ b
-  ok_is a b e = cc
+ok_is : (a b : SystemPart) → ◌≡◌ {A = Result SystemPart ℕ} (Ok a) (Ok b) → a ≡ b
+ok_is a b e = cc
 
-  system_same : (s t : State) → IsState s → IsState t → system_text (system_of s) ≡ system_text (system_of t) → system_of s ≡ system_of t
-  system_same s t hs ht e =
-      ok_is (system_of s) (system_of t) (sym (again 1 (system_of s) (subst (λ (v : ℕ). IsSystem v (system_of s)) hs.version hs.system)) ∙ ap (read_system 1) e ∙ again 1 (system_of t) (subst (λ (v : ℕ). IsSystem v (system_of t)) ht.version ht.system))
+system_same : (s t : State) → IsState s → IsState t → system_text (system_of s) ≡ system_text (system_of t) → system_of s ≡ system_of t
+system_same s t hs ht e =
+    ok_is (system_of s) (system_of t) (sym (system_again 1 (system_of s) (subst (λ (v : ℕ). IsSystem v (system_of s)) hs.version hs.system)) ∙ ap (read_system 1) e ∙ system_again 1 (system_of t) (subst (λ (v : ℕ). IsSystem v (system_of t)) ht.version ht.system))
 
-  pub same_root : (s t : State) → IsState s → IsState t → root_of s ≡ root_of t → SameState s t ⊎ Clash (hashed s) (hashed t)
-  same_root s t hs ht e = by (file_level s t hs ht (piece_level s t (root_level s t e)))
-    where
-      by : SameBytes s t ⊎ Clashes s t → SameState s t ⊎ Clashes s t
-      by (inr c) = inr c
-      by (inl b) = inl (whole s t (hs.version ∙ sym ht.version) (system_same s t hs ht b.system) b.memory)
+pub same_root : (s t : State) → IsState s → IsState t → root_of s ≡ root_of t → SameState s t ⊎ Meet (hashed s) (hashed t)
+same_root s t hs ht e = by (file_level s t hs ht (piece_level s t (root_level s t e)))
+  where
+    by : SameBytes s t ⊎ Meets s t → SameState s t ⊎ Meets s t
+    by (inr c) = inr c
+    by (inl b) = inl (whole s t (hs.version ∙ sym ht.version) (system_same s t hs ht b.system) b.memory)

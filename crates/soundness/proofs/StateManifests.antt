@@ -11,7 +11,8 @@ use Rattle.std.proofs.lemmas.List.Sums.{sum_by-cons}
 use Rattle.format_spec.specs.Bytes.{Bytes, are_bytes, bytes_cmp, ascending, parts, part_count}
 use Rattle.format_spec.specs.Hashes.{ChunkSum, chunk_hash, file_hash}
 use Rattle.format_spec.specs.declared.limits.TheConstants.{CHUNK_SIZE, PAGE_SIZE, MAX_MEMORY_PAGES, MAX_STATE_PAGES, MAX_SYSTEM}
-use Rattle.state_spec.specs.State.{State, Canister, CanisterPart, Memory, IsState, IsMemory, FitsCanister, system_of, part_of, pages_of, pages_in, all_pages, is_id}
+use Rattle.format_spec.proofs.ByteStrings.{tested}
+use Rattle.state_spec.specs.State.{State, Canister, IsByteCanister, CanisterPart, Memory, IsState, IsMemory, FitsCanister, system_of, part_of, pages_of, pages_in, all_pages, is_id}
 use Rattle.state_spec.specs.SystemText.{system_text}
 use Rattle.state_spec.specs.Files.{files, memory_files, heap_name, stable_name, system_name}
 use Rattle.state_spec.specs.Manifest.{FileRow, ChunkRow, FileSums, chunk_sums, file_row, chunk_rows, sums_of, manifest_from, manifest_of, sums_in, chunk_size_at, chunk_offset}
@@ -80,9 +81,9 @@ rows_sum (c ∷ cs) q =
 
 -- ---- the ids
 
-ids_good : (v : ℕ) (cs : List (Bytes × Canister)) → AllByRecursion (FitsCanister v) (map named cs) → AllByRecursion (λ c. are_bytes c.0 ≡ true) cs → list_all (λ id. is_id id && are_bytes id) (ids_of cs) ≡ true
+ids_good : (v : ℕ) (cs : List (Bytes × Canister)) → AllByRecursion (FitsCanister v) (map named cs) → AllByRecursion IsByteCanister cs → list_all (λ id. is_id id && are_bytes id) (ids_of cs) ≡ true
 ids_good v [] p q = refl
-ids_good v (c ∷ cs) p q = and_from (is_id c.0 && are_bytes c.0) (list_all (λ id. is_id id && are_bytes id) (ids_of cs)) (and_from (is_id c.0) (are_bytes c.0) p.0.id q.0) (ids_good v cs p.1 q.1)
+ids_good v (c ∷ cs) p q = and_from (is_id c.0 && are_bytes c.0) (list_all (λ id. is_id id && are_bytes id) (ids_of cs)) (and_from (is_id c.0) (are_bytes c.0) p.0.id (tested c.0 q.0.id)) (ids_good v cs p.1 q.1)
 
 ids_below : (k : Bytes) (cs : List (Bytes × Canister)) → below_all bytes_cmp k (map named cs) ≡ true → list_all (λ j. is_lt (bytes_cmp k j)) (ids_of cs) ≡ true
 ids_below k [] h = refl
@@ -198,7 +199,7 @@ manifest_good s h =
       version = h.version;
       ids = ids_of cs;
       few_ids = omega (arith, count, parts_count, h.system.few_canisters);
-      ids_good = ids_good s.version cs h.system.canisters_fit h.ids_are_bytes;
+      ids_good = ids_good s.version cs h.system.canisters_fit h.bytes.canisters;
       ids_ascend = ids_ascend cs h.system.ids_ascend;
       names = ap (map (λ (r : FileRow). r.name)) rows ∙ row_names cs (system_row s) refl;
       memories_fit = subst (λ (x : List FileRow). AllByRecursion FitsMemory x) (sym front) (rows_fit s.version cs h.system.canisters_fit h.memories);

@@ -13,7 +13,7 @@ use Rattle.state_spec.specs.State.{SystemPart, CanisterPart}
 use Rattle.tree_spec.specs.Tree.{Tree, empty, fork, labeled, leaf, pruned, flatten, labels, is_leaf, is_good_inside, is_well_formed, half, forks_within, forks}
 use Rattle.tree_spec.specs.Labelled.{Children, none, leaf_at, node_at, put_leaf, put_node, put_path, with_wasm, canister_children, entry_children, with_canisters, labelled, child_trees, tree_of, state_tree}
 use Rattle.tree_spec.specs.Witness.{child_labels}
-use Rattle.soundness.specs.Whole.{IsWhole}
+use Rattle.tree_spec.specs.Whole.{IsWhole}
 use Rattle.soundness.proofs.Levels.{labels_in}
 
 -- ---- labelled trees under forks

@@ -1,5 +1,5 @@
-use Rattle.soundness.proofs.Lookups.{lookups_whole}
+use Rattle.soundness.proofs.Witnessed.{lookups_tell}
 use Rattle.soundness.proofs.laws.lookups_agree.Goals as goal
 
 pub returns : goal.returns
-returns c = record { whole = λ t u path g w o e. lookups_whole t u path g w o e }
+returns c = λ t u path hashes t_bytes whole ordered u_bytes same. lookups_tell t u path hashes t_bytes whole ordered u_bytes same

@@ -3,7 +3,7 @@ use Rattle.sha2.specs.Sha256.{sha256}
 use Rattle.format_spec.specs.Bytes.{Bytes, short_string}
 use Rattle.format_spec.specs.Hashes.{labeled_string}
 use Rattle.tree_spec.specs.Tree.{reconstruct, hashed}
-use Rattle.soundness.proofs.laws.short_hashes_move_labels.Goals as goal
+use Rattle.soundness.proofs.premises.short_hashes_move_labels.Goals as goal
 
 strings : (l : Bytes) (b : ℕ) (h : Bytes) → labeled_string (l ++ b ∷ []) h ≡ labeled_string l (b ∷ h)
 strings l b h = ap (λ (x : Bytes). short_string (codes "ic-hashtree-labeled") ++ x) (append_assoc l (b ∷ []) h)

@@ -4,7 +4,7 @@ use Rattle.tree_spec.specs.Lookup.{lookup}
 use Rattle.tree_spec.specs.Computing.{trees_compute}
 use Rattle.soundness.specs.Samples.{only_a, only_b}
 use Rattle.soundness.proofs.Apart.{no_clash}
-use Rattle.soundness.proofs.laws.cut_trees_may_disagree.Goals as goal
+use Rattle.soundness.proofs.premises.cut_trees_may_disagree.Goals as goal
 
 pub returns-clause-well_formed : goal.returns-clause-well_formed
 unfolding is_well_formed
