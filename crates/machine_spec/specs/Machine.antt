@@ -1,0 +1,49 @@
+-- The plain machine: what it holds between two lines, and how a step is said.
+use Rattle.std.specs.Prelude.{ℕ, Bool, true, false, List, [], ◌∷◌, Option, Some, None}
+use Rattle.format_spec.specs.Bytes.{Bytes}
+use Rattle.state_spec.specs.State.{State, Canister}
+use Rattle.script_text.specs.declared.reply.Reply.{Reply}
+use Rattle.script_text.specs.declared.reply.Reply.TheVariants.{Fine, Refused}
+use Rattle.script_text.specs.declared.reply.Refusal.{Refusal}
+use Rattle.script_text.specs.declared.reply.Refusal.TheVariants.{NoCanister}
+use Rattle.machine_spec.specs.States.{empty_state, canister_in}
+
+-- the live state and its height
+pub record Machine : Type 0 where
+  pub live : State
+  pub height : ℕ
+
+-- the machine of an empty store
+abbrev pub start : Machine
+start = record { live = empty_state; height = 1 }
+
+-- a reply, and the machine after it
+pub record Outcome : Type 0 where
+  pub reply : Reply
+  pub after : Machine
+
+abbrev pub answered : Reply → Machine → Outcome
+answered reply m = record { reply = reply; after = m }
+
+-- `ok`, with another live state
+abbrev pub now_live : Machine → State → Outcome
+now_live m s = answered Fine (record m { live = s })
+
+-- a refusal with the machine as it was where the test holds, else what the step does
+abbrev pub refused_if : Bool → Refusal → Machine → (Machine → Outcome) → Outcome
+refused_if true refusal m act = answered (Refused refusal) m
+refused_if false refusal m act = act m
+
+-- the first refusal whose test holds, else what the step does
+abbrev pub unless : List (Bool × Refusal) → Machine → (Machine → Outcome) → Outcome
+unless [] m act = act m
+unless (check ∷ checks) m act = refused_if check.0 check.1 m (λ n. unless checks n act)
+
+-- a refusal where there is no value, else what the step does with it
+abbrev pub unless_none : {A : Type 0} → Option A → Refusal → Machine → (A → Outcome) → Outcome
+unless_none None refusal m act = answered (Refused refusal) m
+unless_none (Some x) refusal m act = act x
+
+-- what a step does with a canister of the live state
+abbrev pub on_canister : Machine → Bytes → (Canister → Outcome) → Outcome
+on_canister m id act = unless_none (canister_in m.live id) NoCanister m act

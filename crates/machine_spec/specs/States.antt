@@ -1,0 +1,29 @@
+-- Plain states, as the steps of the machine change them.
+use Rattle.std.specs.Prelude.{ℕ, List, [], Option, None}
+use Rattle.std.specs.FinMap.{find, put}
+use Rattle.format_spec.specs.Bytes.{Bytes, bytes_cmp}
+use Rattle.state_spec.specs.State.{State, Canister, Memory}
+use Rattle.state_spec.specs.Memory.{no_memory}
+use Rattle.sys_state.specs.declared.mem.Mem.{Mem}
+use Rattle.sys_state.specs.declared.mem.Mem.TheVariants.{Heap, Stable}
+
+abbrev pub empty_state : State
+empty_state = record { version = 1; time = 0; canisters = []; entries = [] }
+
+abbrev pub canister_in : State → Bytes → Option Canister
+canister_in s id = find bytes_cmp id s.canisters
+
+abbrev pub with_canister : State → Bytes → Canister → State
+with_canister s id c = record s { canisters = put bytes_cmp id c s.canisters }
+
+-- an empty canister that is born at a height
+abbrev pub newborn : ℕ → Canister
+newborn height = record { wasm = None; certified = []; heap = no_memory; stable = no_memory; birth = height }
+
+abbrev pub memory_of : Canister → Mem → Memory
+memory_of c Heap = c.heap
+memory_of c Stable = c.stable
+
+abbrev pub with_memory : Canister → Mem → Memory → Canister
+with_memory c Heap m = record c { heap = m }
+with_memory c Stable m = record c { stable = m }

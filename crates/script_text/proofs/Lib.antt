@@ -1,0 +1,4 @@
+pub mod Forms
+pub mod Ids
+pub mod Lines
+pub mod Numbers

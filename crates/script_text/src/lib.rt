@@ -1,0 +1,16 @@
+//! What a script says: its lines, the commands that they spell, and the texts of replies.
+#![tactic(auto)]
+
+mod command;
+mod keywords;
+mod parsing;
+mod reply;
+mod status;
+mod texts;
+mod words;
+
+pub use command::{Command, HeightOrLive};
+pub use parsing::{is_silent, parse};
+pub use reply::{Refusal, Reply};
+pub use status::Status;
+pub use texts::{write_bad_line, write_reply};

@@ -1,0 +1,111 @@
+//! The words of a line, read.
+
+ghost use Rattle.std.specs.Prelude.{◌≡◌, IfOk, map};
+ghost use Rattle.std.specs.List.{list_all};
+ghost use Rattle.byte_codec.specs.Hex.{is_lower_digit};
+ghost use Rattle.script_text.specs.Script.{words};
+ghost use Rattle.script_text.specs.Words.{is_digit, is_number, number_of, hex_of, id_of, mem_of, height_or_live};
+
+use crate::command::HeightOrLive;
+use byte_codec::{Blob, HexError, NoMemory, hex_bytes};
+use format_spec::MAX_ID;
+use std::alloc::Global;
+use sys_state::{CanisterId, Mem};
+
+/// The words of a line: one space stands between two.
+pub fn words_of(alloc: Global, line: &[u8]) -> Result<Vec<&[u8]>, NoMemory>
+    ensures { IfOk result (λ found. map (λ word. word.now) found.items ≡ words line.now) }
+{
+    Ok(line.split(|byte| *byte == b' ').collect(alloc)?)
+}
+
+fn are_digits(word: &[u8]) -> bool
+    ensures { result ≡ list_all is_digit word.now }
+{
+    word.iter().all(|byte| matches!(*byte, b'0'..=b'9'))
+}
+
+// Whether a word is decimal digits without a leading zero, or `0`.
+fn is_numeral(word: &[u8]) -> bool
+    ensures { result ≡ is_number word.now }
+{
+    match word {
+        [] => false,
+        [first, rest @ ..] => are_digits(word) && (*first != b'0' || rest.is_empty()),
+    }
+}
+
+/// A number below 2^64.
+pub fn read_number(word: &[u8]) -> Option<u64>
+    ensures { result ≡ number_of word.now }
+{
+    if !is_numeral(word) {
+        return None;
+    }
+    let text = std::str::from_utf8(word).ok()?;
+    text.parse::<u64>().ok()
+}
+
+/// Bytes in hexadecimal, or `-` for none.
+pub fn read_hex(alloc: Global, word: &[u8]) -> Result<Option<Blob>, NoMemory>
+    ensures { IfOk result (λ bytes. bytes ≡ hex_of word.now) }
+{
+    if word.is_empty() {
+        return Ok(None);
+    }
+    if word == b"-".as_slice() {
+        return Ok(Some(Blob::from_slice(alloc, &[])?));
+    }
+    match hex_bytes(alloc, word) {
+        Ok(bytes) => Ok(Some(bytes)),
+        Err(HexError::Bad) => Ok(None),
+        Err(HexError::Memory) => Err(NoMemory),
+    }
+}
+
+fn are_hex_digits(word: &[u8]) -> bool
+    ensures { result ≡ list_all is_lower_digit word.now }
+{
+    word.iter()
+        .all(|byte| matches!(*byte, b'0'..=b'9' | b'a'..=b'f'))
+}
+
+/// The id of a canister, in hexadecimal.
+pub fn read_id(word: &[u8]) -> Option<CanisterId>
+    ensures { result ≡ id_of word.now }
+{
+    if !are_hex_digits(word) {
+        return None;
+    }
+    let count = word.len() / 2;
+    if count > MAX_ID {
+        return None;
+    }
+    let mut bytes = [0; MAX_ID];
+    let room = &mut bytes[..count];
+    hex::decode_to_slice(word, room).ok()?;
+    CanisterId::new(room)
+}
+
+/// The name of a memory.
+pub fn read_mem(word: &[u8]) -> Option<Mem>
+    ensures { result ≡ mem_of word.now }
+{
+    if word == b"heap".as_slice() {
+        return Some(Mem::Heap);
+    }
+    if word == b"stable".as_slice() {
+        return Some(Mem::Stable);
+    }
+    None
+}
+
+/// `live`.
+pub fn read_at(word: &[u8]) -> Option<HeightOrLive>
+    ensures { result ≡ height_or_live word.now }
+{
+    if word == b"live".as_slice() {
+        return Some(HeightOrLive::Live);
+    }
+    None
+}
