@@ -1,0 +1,5 @@
+mod Lists
+mod Places
+mod Keys
+mod Kept
+mod Canisters
