@@ -81,3 +81,10 @@ kept_with s kept cs few sorted good sum =
       canisters = fit.1;
       entries = kept.entries;
     }
+
+fits_in : (cs : List (Bytes × CanisterRecord)) → AllByRecursion (FitsCanister 1) (map (over bytes_cmp part_of_record) cs) → AllByRecursion (λ c. FitsCanister 1 (c.0, part_of_record c.1)) cs
+fits_in [] h = tt
+fits_in (c ∷ cs) h = (h.0, fits_in cs h.1)
+
+pub canisters_fit : (s : System) → IsKept s → AllByRecursion (λ c. FitsCanister 1 (c.0, part_of_record c.1)) s.canisters
+canisters_fit s kept = fits_in s.canisters kept.system.canisters_fit

@@ -3,3 +3,4 @@ mod Places
 mod Keys
 mod Kept
 mod Canisters
+mod Text

@@ -74,7 +74,7 @@ impl Path {
     {
         let mut labels = Vec::with_capacity(alloc, self.labels.len())?;
         for label in &self.labels {
-            labels.push(Blob::from_slice(alloc, label.bytes())?)?;
+            labels.push(label.copy(alloc)?)?;
         }
         Ok(Path { labels })
     }

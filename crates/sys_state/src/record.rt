@@ -24,7 +24,7 @@ fn copy_module(alloc: Global, module: &Option<Blob>) -> Result<Option<Blob>, NoM
 {
     match module {
         None => Ok(None),
-        Some(bytes) => Ok(Some(Blob::from_slice(alloc, bytes.bytes())?)),
+        Some(bytes) => Ok(Some(bytes.copy(alloc)?)),
     }
 }
 
@@ -50,7 +50,7 @@ impl CanisterRecord {
     {
         Ok(CanisterRecord {
             module: copy_module(alloc, &self.module)?,
-            certified: Blob::from_slice(alloc, self.certified.bytes())?,
+            certified: self.certified.copy(alloc)?,
             heap: self.heap,
             stable: self.stable,
             birth: self.birth,

@@ -8,6 +8,7 @@ ghost use Rattle.sys_state.specs.Calls.{canister_in};
 
 mod canisters;
 mod copying;
+mod encoding;
 
 use crate::canister_id::CanisterId;
 use crate::path::Path;
@@ -76,6 +77,22 @@ impl SysState {
         ensures kept { IsKept self.now }
     {
         self.canisters.len() as u32
+    }
+
+    /// How many entries there are: at most 16,384.
+    pub fn entries(&self) -> u32
+        ensures count { result ≡ length self.now.entries }
+        ensures kept { IsKept self.now }
+    {
+        self.entries.len() as u32
+    }
+
+    /// The i-th entry in order of paths, from 0. None from their number on.
+    pub fn entry(&self, i: u32) -> Option<(&Path, &Blob)>
+        ensures { MatchOption result (length self.now.entries ≤ i) (λ e. slice_get self.now.entries i ≡ Some (e.0.now, e.1.now)) }
+    {
+        let (path, value) = self.entries.get(i as usize)?;
+        Some((path, value))
     }
 
     /// The i-th canister in order of ids, from 0. None from their number on.

@@ -27,7 +27,7 @@ fn copy_entries(alloc: Global, entries: &[(Path, Blob)]) -> Result<Vec<(Path, Bl
 {
     let mut copies = Vec::with_capacity(alloc, entries.len())?;
     for (path, value) in entries {
-        copies.push((path.copy(alloc)?, Blob::from_slice(alloc, value.bytes())?))?;
+        copies.push((path.copy(alloc)?, value.copy(alloc)?))?;
     }
     Ok(copies)
 }
