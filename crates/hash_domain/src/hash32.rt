@@ -1,3 +1,5 @@
+ghost use Rattle.std.specs.Prelude.{◌≡◌, length};
+
 use std::marker::Model;
 
 /// A hash of 32 bytes.
@@ -13,4 +15,14 @@ impl Model for Hash32 {
     ghost view = { λ hash. hash.0 };
 
     ghost inverse = { λ bytes. record { 0 = bytes } };
+}
+
+impl Hash32 {
+    /// The 32 bytes.
+    pub fn bytes(&self) -> &[u8]
+        ensures value { result.now ≡ self.now }
+        ensures size { length result.now ≡ 32 }
+    {
+        &self.0
+    }
 }

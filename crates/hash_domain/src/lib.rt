@@ -1,6 +1,16 @@
 //! The hashes of chunks, files, pieces, manifests and trees.
 #![tactic(auto)]
 
+mod chunk_sum;
+mod chunks;
 mod hash32;
+mod manifests;
+#[cfg(test)]
+mod tests;
+mod trees;
 
+pub use chunk_sum::ChunkSum;
+pub use chunks::{ChunkHasher, chunk_hash, plain_hash};
 pub use hash32::Hash32;
+pub use manifests::{file_hash, piece_hash, root_hash};
+pub use trees::{tree_empty, tree_fork, tree_label, tree_leaf};
