@@ -1,4 +1,6 @@
-pub mod Forms
 pub mod Ids
+pub mod Joined
+pub mod Labels
 pub mod Lines
-pub mod Numbers
+pub mod Numerals
+pub mod WordCounts

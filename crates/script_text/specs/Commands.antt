@@ -1,52 +1,118 @@
 -- The command that a line spells.
-use Rattle.std.specs.Prelude.{ℕ, ◌+◌, nat_le, Bool, false, if◌then◌else◌, List, [], ◌∷◌, length, Option, Some, None}
+use Rattle.std.specs.Prelude.{ℕ, List, [], ◌∷◌, Option, Some, None}
 use Rattle.std.specs.Option.{option_map, option_and_then}
 use Rattle.format_spec.specs.Bytes.{Bytes}
-use Rattle.format_spec.specs.declared.limits.TheConstants.{CHUNK_SIZE}
-use Rattle.sys_state.specs.declared.mem.Mem.{Mem}
-use Rattle.sys_state.specs.declared.mem.Mem.TheVariants.{Heap, Stable}
+use Rattle.format_spec.specs.declared.limits.TheConstants.{MAX_CERTIFIED, MAX_VALUE, MAX_READ}
 use Rattle.script_text.specs.declared.command.Command.{Command}
 use Rattle.script_text.specs.declared.command.Command.TheVariants as commands
 use Rattle.script_text.specs.declared.keywords.Keyword.{Keyword}
-use Rattle.script_text.specs.declared.keywords.Keyword.TheVariants.{Canister, Write, Root}
+use Rattle.script_text.specs.declared.keywords.Keyword.TheVariants.{Canister, Drop, Grow, Write, Module, Certify, Time}
+use Rattle.script_text.specs.declared.keywords.Keyword.TheVariants.{Put, Del, Read, Heights, Root, Manifest}
 use Rattle.script_text.specs.Keywords.{keyword_of}
 use Rattle.script_text.specs.Script.{words}
-use Rattle.script_text.specs.Words.{number_of, hex_of, id_of, mem_of, height_or_live}
+use Rattle.script_text.specs.Words.{such_that, number_of, number_up_to, hex_of, hex_up_to, id_of, mem_of, height_or_live}
+use Rattle.script_text.specs.Words.{module_of, path_of}
+
+-- ---- what so many words give, and none for another number of them
+
+abbrev pub no_words : Option Command → List Bytes → Option Command
+no_words command [] = command
+no_words command _ = None
+
+abbrev pub one_word : (Bytes → Option Command) → List Bytes → Option Command
+one_word f (a ∷ []) = f a
+one_word f _ = None
+
+abbrev pub two_words : (Bytes → Bytes → Option Command) → List Bytes → Option Command
+two_words f (a ∷ b ∷ []) = f a b
+two_words f _ = None
+
+abbrev pub three_words : (Bytes → Bytes → Bytes → Option Command) → List Bytes → Option Command
+three_words f (a ∷ b ∷ c ∷ []) = f a b c
+three_words f _ = None
+
+abbrev pub four_words : (Bytes → Bytes → Bytes → Bytes → Option Command) → List Bytes → Option Command
+four_words f (a ∷ b ∷ c ∷ d ∷ []) = f a b c d
+four_words f _ = None
+
+abbrev pub five_words : (Bytes → Bytes → Bytes → Bytes → Bytes → Option Command) → List Bytes → Option Command
+five_words f (a ∷ b ∷ c ∷ d ∷ e ∷ []) = f a b c d e
+five_words f _ = None
+
+-- ---- the words behind the first one
 
 -- `canister ID`
-abbrev pub canister_of : List Bytes → Option Command
-canister_of (id ∷ []) = option_map commands.Canister (id_of id)
-canister_of _ = None
+abbrev pub canister_of : Bytes → Option Command
+canister_of id = option_map commands.Canister (id_of id)
 
--- so far a write is to a heap, and ends within its first chunk
-abbrev pub is_small_write : Mem → ℕ → Bytes → Bool
-is_small_write Heap offset bytes = nat_le (offset + length bytes) CHUNK_SIZE
-is_small_write Stable offset bytes = false
+-- `drop ID`
+abbrev pub drop_of : Bytes → Option Command
+drop_of id = option_map commands.Remove (id_of id)
 
-abbrev pub small_write : Bytes → Mem → ℕ → Bytes → Option Command
-small_write id mem offset bytes =
-    if is_small_write mem offset bytes then Some (commands.Write id mem offset bytes) else None
+-- `grow ID MEM N`
+abbrev pub grow_of : Bytes → Bytes → Bytes → Option Command
+grow_of id mem pages =
+    option_and_then (λ i. option_and_then (λ m. option_map (λ n.
+    commands.Grow i m n) (number_of pages)) (mem_of mem)) (id_of id)
 
 -- `write ID MEM OFFSET HEX`
-abbrev pub write_by : Bytes → Bytes → Bytes → Bytes → Option Command
-write_by id mem offset bytes =
-    option_and_then (λ i. option_and_then (λ m. option_and_then (λ at. option_and_then (λ b.
-    small_write i m at b) (hex_of bytes)) (number_of offset)) (mem_of mem)) (id_of id)
+abbrev pub write_of : Bytes → Bytes → Bytes → Bytes → Option Command
+write_of id mem offset bytes =
+    option_and_then (λ i. option_and_then (λ m. option_and_then (λ at. option_map (λ b.
+    commands.Write i m at b) (hex_of bytes)) (number_of offset)) (mem_of mem)) (id_of id)
 
-abbrev pub write_of : List Bytes → Option Command
-write_of (id ∷ mem ∷ offset ∷ bytes ∷ []) = write_by id mem offset bytes
-write_of _ = None
+-- `module ID HEX` and `module ID none`
+abbrev pub module_command_of : Bytes → Bytes → Option Command
+module_command_of id bytes = option_and_then (λ i. option_map (λ m. commands.Module i m) (module_of bytes)) (id_of id)
+
+-- `certify ID HEX`
+abbrev pub certify_of : Bytes → Bytes → Option Command
+certify_of id bytes =
+    option_and_then (λ i. option_map (λ b. commands.Certify i b) (hex_up_to MAX_CERTIFIED bytes)) (id_of id)
+
+-- `time N`
+abbrev pub time_of : Bytes → Option Command
+time_of time = option_map commands.Time (number_of time)
+
+-- `put PATH HEX`
+abbrev pub put_of : Bytes → Bytes → Option Command
+put_of path value =
+    option_and_then (λ p. option_map (λ b. commands.Put p b) (hex_up_to MAX_VALUE value)) (path_of path)
+
+-- `del PATH`
+abbrev pub del_of : Bytes → Option Command
+del_of path = option_map commands.Del (path_of path)
+
+-- `read HL ID MEM OFFSET LEN`
+abbrev pub read_of : Bytes → Bytes → Bytes → Bytes → Bytes → Option Command
+read_of at id mem offset len =
+    option_and_then (λ h. option_and_then (λ i. option_and_then (λ m. option_and_then (λ o. option_map (λ n.
+    commands.Read h i m o n) (number_up_to MAX_READ len)) (number_of offset)) (mem_of mem)) (id_of id))
+    (height_or_live at)
 
 -- `root HL`
-abbrev pub root_of : List Bytes → Option Command
-root_of (at ∷ []) = option_map commands.Root (height_or_live at)
-root_of _ = None
+abbrev pub root_of : Bytes → Option Command
+root_of at = option_map commands.Root (height_or_live at)
+
+-- `manifest HL`
+abbrev pub manifest_of : Bytes → Option Command
+manifest_of at = option_map commands.Manifest (height_or_live at)
 
 -- the command of a keyword and the words behind it
 abbrev pub command_by : Keyword → List Bytes → Option Command
-command_by Canister rest = canister_of rest
-command_by Write rest = write_of rest
-command_by Root rest = root_of rest
+command_by Canister rest = one_word canister_of rest
+command_by Drop rest = one_word drop_of rest
+command_by Grow rest = three_words grow_of rest
+command_by Write rest = four_words write_of rest
+command_by Module rest = two_words module_command_of rest
+command_by Certify rest = two_words certify_of rest
+command_by Time rest = one_word time_of rest
+command_by Put rest = two_words put_of rest
+command_by Del rest = one_word del_of rest
+command_by Read rest = five_words read_of rest
+command_by Heights rest = no_words (Some commands.Heights) rest
+command_by Root rest = one_word root_of rest
+command_by Manifest rest = one_word manifest_of rest
 
 abbrev pub command_of_words : List Bytes → Option Command
 command_of_words [] = None

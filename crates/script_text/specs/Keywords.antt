@@ -3,11 +3,22 @@ use Rattle.std.specs.Prelude.{if◌then◌else◌, Option, Some, None, codes}
 use Rattle.std.specs.Str.{bytes_eq}
 use Rattle.format_spec.specs.Bytes.{Bytes}
 use Rattle.script_text.specs.declared.keywords.Keyword.{Keyword}
-use Rattle.script_text.specs.declared.keywords.Keyword.TheVariants.{Canister, Write, Root}
+use Rattle.script_text.specs.declared.keywords.Keyword.TheVariants.{Canister, Drop, Grow, Write, Module, Certify, Time}
+use Rattle.script_text.specs.declared.keywords.Keyword.TheVariants.{Put, Del, Read, Heights, Root, Manifest}
 
 abbrev pub keyword_of : Bytes → Option Keyword
 keyword_of word =
     if bytes_eq word (codes "canister") then Some Canister
+    else if bytes_eq word (codes "drop") then Some Drop
+    else if bytes_eq word (codes "grow") then Some Grow
     else if bytes_eq word (codes "write") then Some Write
+    else if bytes_eq word (codes "module") then Some Module
+    else if bytes_eq word (codes "certify") then Some Certify
+    else if bytes_eq word (codes "time") then Some Time
+    else if bytes_eq word (codes "put") then Some Put
+    else if bytes_eq word (codes "del") then Some Del
+    else if bytes_eq word (codes "read") then Some Read
+    else if bytes_eq word (codes "heights") then Some Heights
     else if bytes_eq word (codes "root") then Some Root
+    else if bytes_eq word (codes "manifest") then Some Manifest
     else None

@@ -1,22 +1,49 @@
 -- How replies are written.
-use Rattle.std.specs.Prelude.{ℕ, List, ◌++◌, codes}
+use Rattle.std.specs.Prelude.{ℕ, List, [], ◌∷◌, ◌++◌, codes, decimal}
+use Rattle.std.specs.List.{flat_map}
 use Rattle.hex.specs.Hex.{encode_lower}
 use Rattle.format_spec.specs.Bytes.{Bytes}
 use Rattle.script_text.specs.declared.reply.Refusal.{Refusal}
-use Rattle.script_text.specs.declared.reply.Refusal.TheVariants.{Exists, ManyCanisters, NoCanister}
+use Rattle.script_text.specs.declared.reply.Refusal.TheVariants.{Exists, ManyCanisters, NoCanister, MemoryFull, StateFull}
+use Rattle.script_text.specs.declared.reply.Refusal.TheVariants.{Reserved, PathConflict, TreeFull, NoPath, NoHeight, PastEnd}
 use Rattle.script_text.specs.declared.reply.Reply.{Reply}
-use Rattle.script_text.specs.declared.reply.Reply.TheVariants.{Fine, Root, Refused}
+use Rattle.script_text.specs.declared.reply.Reply.TheVariants as replies
+
+-- bytes in hexadecimal, or `-` for none
+abbrev pub hex_or_dash : Bytes → Bytes
+hex_or_dash [] = codes "-"
+hex_or_dash (byte ∷ bytes) = encode_lower (byte ∷ bytes)
+
+-- numbers with commas between them, or `-` for none
+abbrev pub numbers_text : List ℕ → Bytes
+numbers_text [] = codes "-"
+numbers_text (n ∷ ns) = decimal n ++ flat_map (λ k. codes "," ++ decimal k) ns
 
 abbrev pub refusal_text : Refusal → Bytes
 refusal_text Exists = codes "Exists"
 refusal_text ManyCanisters = codes "ManyCanisters"
 refusal_text NoCanister = codes "NoCanister"
+refusal_text MemoryFull = codes "MemoryFull"
+refusal_text StateFull = codes "StateFull"
+refusal_text Reserved = codes "Reserved"
+refusal_text PathConflict = codes "PathConflict"
+refusal_text TreeFull = codes "TreeFull"
+refusal_text NoPath = codes "NoPath"
+refusal_text NoHeight = codes "NoHeight"
+refusal_text PastEnd = codes "PastEnd"
 
 -- the text of a reply, without its line feed
 abbrev pub reply_text : Reply → Bytes
-reply_text Fine = codes "ok"
-reply_text (Root root) = codes "root " ++ encode_lower root
-reply_text (Refused refusal) = codes "refused " ++ refusal_text refusal
+reply_text replies.Fine = codes "ok"
+reply_text (replies.Bytes bytes) = codes "data " ++ hex_or_dash bytes
+reply_text (replies.Heights live memory published) =
+    codes "heights live " ++ decimal live ++ codes " memory " ++ numbers_text memory
+    ++ codes " published " ++ numbers_text published
+reply_text (replies.Root root) = codes "root " ++ encode_lower root
+reply_text (replies.Manifest files chunks pieces bytes) =
+    codes "manifest files " ++ decimal files ++ codes " chunks " ++ decimal chunks
+    ++ codes " pieces " ++ decimal pieces ++ codes " bytes " ++ decimal bytes
+reply_text (replies.Refused refusal) = codes "refused " ++ refusal_text refusal
 
 -- the text for a line that fits no form
 abbrev pub bad_line_text : Bytes

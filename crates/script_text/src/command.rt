@@ -1,19 +1,27 @@
 use byte_codec::Blob;
-use sys_state::{CanisterId, Mem};
+use sys_state::{CanisterId, Mem, Path};
 
 /// Which state a line asks about.
 #[derive(Clone, Copy, Debug, PartialEq, Eq)]
 pub enum HeightOrLive {
     /// The live state.
     Live,
+    /// The state that is kept at this height, 1 to 2^62.
+    Height(u64),
 }
 
 /// What a line of a script asks for.
 #[derive(Debug, Drop)]
 pub enum Command {
     /// `canister ID` adds an empty canister.
-    Canister {
+    Canister { id: CanisterId },
+    /// `drop ID` removes a canister.
+    Remove { id: CanisterId },
+    /// `grow ID MEM N` adds so many pages of zeros to a memory.
+    Grow {
         id: CanisterId,
+        mem: Mem,
+        pages: u64,
     },
     /// `write ID MEM OFFSET HEX` writes bytes to a memory, which grows to hold them.
     Write {
@@ -22,8 +30,31 @@ pub enum Command {
         offset: u64,
         bytes: Blob,
     },
-    /// `root HL` asks for the root hash of a state's manifest.
-    Root {
-        at: HeightOrLive,
+    /// `module ID HEX` installs a module of at most 16,384 bytes, `module ID none` removes it.
+    Module {
+        id: CanisterId,
+        module: Option<Blob>,
     },
+    /// `certify ID HEX` sets the certified data, at most 32 bytes.
+    Certify { id: CanisterId, bytes: Blob },
+    /// `time N` sets the time.
+    Time { time: u64 },
+    /// `put PATH HEX` sets an entry to a value of at most 1,024 bytes.
+    Put { path: Path, value: Blob },
+    /// `del PATH` removes an entry.
+    Del { path: Path },
+    /// `read HL ID MEM OFFSET LEN` asks for at most 65,536 bytes of a memory.
+    Read {
+        at: HeightOrLive,
+        id: CanisterId,
+        mem: Mem,
+        offset: u64,
+        len: u64,
+    },
+    /// `heights` asks which heights there are.
+    Heights,
+    /// `root HL` asks for the root hash of a state's manifest.
+    Root { at: HeightOrLive },
+    /// `manifest HL` asks for the sizes of a state's manifest.
+    Manifest { at: HeightOrLive },
 }

@@ -2,14 +2,18 @@
 #![tactic(auto)]
 
 mod command;
+mod forms;
 mod keywords;
+mod numbers;
 mod parsing;
+mod paths;
 mod reply;
 mod status;
 mod texts;
 mod words;
 
 pub use command::{Command, HeightOrLive};
+pub use numbers::Numbers;
 pub use parsing::{is_silent, parse};
 pub use reply::{Refusal, Reply};
 pub use status::Status;

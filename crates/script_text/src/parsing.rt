@@ -1,16 +1,20 @@
 //! The command that a line spells.
 
-ghost use Rattle.std.specs.Prelude.{◌≡◌, IfOk, map};
-ghost use Rattle.script_text.specs.Commands.{canister_of, write_by, write_of, root_of, is_small_write, command_by, command_of};
+ghost use Rattle.std.specs.Prelude.{◌≡◌, IfOk, map, Some};
+ghost use Rattle.script_text.specs.Commands.{canister_of, drop_of, grow_of, write_of, module_command_of, certify_of};
+ghost use Rattle.script_text.specs.Commands.{time_of, put_of, del_of, read_of, root_of, manifest_of};
+ghost use Rattle.script_text.specs.Commands.{no_words, one_word, two_words, three_words, four_words, five_words};
+ghost use Rattle.script_text.specs.Commands.{command_by, command_of};
 ghost use Rattle.script_text.specs.Script.{is_silent as is_silent_line};
 
 use crate::command::Command;
 use crate::keywords::{Keyword, read_keyword};
-use crate::words::{read_at, read_hex, read_id, read_mem, read_number, words_of};
+use crate::forms::{
+    canister, certify, del, drop, grow, manifest, module, put, read, root, time, write,
+};
+use crate::words::words_of;
 use byte_codec::NoMemory;
-use format_spec::CHUNK_SIZE;
 use std::alloc::Global;
-use sys_state::Mem;
 
 /// Whether a line has no reply: it is empty, or begins with `#`.
 pub fn is_silent(line: &[u8]) -> bool
@@ -19,93 +23,146 @@ pub fn is_silent(line: &[u8]) -> bool
     matches!(line, [] | [b'#', ..])
 }
 
-// `canister ID`
 fn parse_canister(rest: &[&[u8]]) -> Option<Command>
-    ensures { result ≡ canister_of (map (λ word. word.now) rest.now) }
+    ensures { result ≡ one_word canister_of (map (λ word. word.now) rest.now) }
 {
-    let [id] = rest else {
+    if rest.len() != 1 {
         return None;
-    };
-    let id = read_id(id)?;
-    Some(Command::Canister { id })
-}
-
-// Whether a write is to a heap and ends within its first chunk.
-fn is_small(mem: Mem, offset: u64, bytes: &[u8]) -> bool
-    ensures { result ≡ is_small_write mem offset bytes.now }
-{
-    match mem {
-        Mem::Heap => {
-            let limit = CHUNK_SIZE as u64;
-            let length = bytes.len() as u64;
-            length <= limit && offset <= limit - length
-        }
-        Mem::Stable => false,
     }
+    canister(rest[0])
 }
 
-// `ID MEM OFFSET HEX` behind `write`
-fn parse_write_words(
-    alloc: Global,
-    id: &[u8],
-    mem: &[u8],
-    offset: &[u8],
-    bytes: &[u8],
-) -> Result<Option<Command>, NoMemory>
-    ensures { IfOk result (λ found. found ≡ write_by id.now mem.now offset.now bytes.now) }
+fn parse_drop(rest: &[&[u8]]) -> Option<Command>
+    ensures { result ≡ one_word drop_of (map (λ word. word.now) rest.now) }
 {
-    let Some(id) = read_id(id) else {
-        return Ok(None);
-    };
-    let Some(mem) = read_mem(mem) else {
-        return Ok(None);
-    };
-    let Some(offset) = read_number(offset) else {
-        return Ok(None);
-    };
-    let Some(bytes) = read_hex(alloc, bytes)? else {
-        return Ok(None);
-    };
-    if !is_small(mem, offset, bytes.bytes()) {
-        return Ok(None);
+    if rest.len() != 1 {
+        return None;
     }
-    Ok(Some(Command::Write {
-        id,
-        mem,
-        offset,
-        bytes,
-    }))
+    drop(rest[0])
 }
 
-// `write ID MEM OFFSET HEX`
+fn parse_grow(rest: &[&[u8]]) -> Option<Command>
+    ensures { result ≡ three_words grow_of (map (λ word. word.now) rest.now) }
+{
+    if rest.len() != 3 {
+        return None;
+    }
+    grow(rest[0], rest[1], rest[2])
+}
+
 fn parse_write(alloc: Global, rest: &[&[u8]]) -> Result<Option<Command>, NoMemory>
-    ensures { IfOk result (λ found. found ≡ write_of (map (λ word. word.now) rest.now)) }
+    ensures { IfOk result (λ found. found ≡ four_words write_of (map (λ word. word.now) rest.now)) }
 {
     if rest.len() != 4 {
         return Ok(None);
     }
-    parse_write_words(alloc, rest[0], rest[1], rest[2], rest[3])
+    write(alloc, rest[0], rest[1], rest[2], rest[3])
 }
 
-// `root HL`
-fn parse_root(rest: &[&[u8]]) -> Option<Command>
-    ensures { result ≡ root_of (map (λ word. word.now) rest.now) }
+fn parse_module(alloc: Global, rest: &[&[u8]]) -> Result<Option<Command>, NoMemory>
+    ensures { IfOk result (λ found. found ≡ two_words module_command_of (map (λ word. word.now) rest.now)) }
 {
-    let [at] = rest else {
+    if rest.len() != 2 {
+        return Ok(None);
+    }
+    module(alloc, rest[0], rest[1])
+}
+
+fn parse_certify(alloc: Global, rest: &[&[u8]]) -> Result<Option<Command>, NoMemory>
+    ensures { IfOk result (λ found. found ≡ two_words certify_of (map (λ word. word.now) rest.now)) }
+{
+    if rest.len() != 2 {
+        return Ok(None);
+    }
+    certify(alloc, rest[0], rest[1])
+}
+
+fn parse_time(rest: &[&[u8]]) -> Option<Command>
+    ensures { result ≡ one_word time_of (map (λ word. word.now) rest.now) }
+{
+    if rest.len() != 1 {
         return None;
-    };
-    let at = read_at(at)?;
-    Some(Command::Root { at })
+    }
+    time(rest[0])
+}
+
+fn parse_put(alloc: Global, rest: &[&[u8]]) -> Result<Option<Command>, NoMemory>
+    ensures { IfOk result (λ found. found ≡ two_words put_of (map (λ word. word.now) rest.now)) }
+{
+    if rest.len() != 2 {
+        return Ok(None);
+    }
+    put(alloc, rest[0], rest[1])
+}
+
+fn parse_del(alloc: Global, rest: &[&[u8]]) -> Result<Option<Command>, NoMemory>
+    ensures { IfOk result (λ found. found ≡ one_word del_of (map (λ word. word.now) rest.now)) }
+{
+    if rest.len() != 1 {
+        return Ok(None);
+    }
+    del(alloc, rest[0])
+}
+
+fn parse_read(rest: &[&[u8]]) -> Option<Command>
+    ensures { result ≡ five_words read_of (map (λ word. word.now) rest.now) }
+{
+    if rest.len() != 5 {
+        return None;
+    }
+    read(rest[0], rest[1], rest[2], rest[3], rest[4])
+}
+
+fn parse_root(rest: &[&[u8]]) -> Option<Command>
+    ensures { result ≡ one_word root_of (map (λ word. word.now) rest.now) }
+{
+    if rest.len() != 1 {
+        return None;
+    }
+    root(rest[0])
+}
+
+fn parse_manifest(rest: &[&[u8]]) -> Option<Command>
+    ensures { result ≡ one_word manifest_of (map (λ word. word.now) rest.now) }
+{
+    if rest.len() != 1 {
+        return None;
+    }
+    manifest(rest[0])
+}
+
+fn parse_heights(rest: &[&[u8]]) -> Option<Command>
+    ensures { result ≡ no_words (Some Command.Heights) (map (λ word. word.now) rest.now) }
+{
+    if rest.is_empty() {
+        Some(Command::Heights)
+    } else {
+        None
+    }
 }
 
 // The command of a keyword and the words behind it.
-fn parse_by(alloc: Global, keyword: Keyword, rest: &[&[u8]]) -> Result<Option<Command>, NoMemory>
+fn parse_by(
+    alloc: Global,
+    keyword: Keyword,
+    rest: &[&[u8]],
+) -> Result<Option<Command>, NoMemory>
     ensures { IfOk result (λ found. found ≡ command_by keyword (map (λ word. word.now) rest.now)) }
 {
     match keyword {
         Keyword::Canister => Ok(parse_canister(rest)),
+        Keyword::Drop => Ok(parse_drop(rest)),
+        Keyword::Grow => Ok(parse_grow(rest)),
         Keyword::Write => parse_write(alloc, rest),
+        Keyword::Module => parse_module(alloc, rest),
+        Keyword::Certify => parse_certify(alloc, rest),
+        Keyword::Time => Ok(parse_time(rest)),
+        Keyword::Put => parse_put(alloc, rest),
+        Keyword::Del => parse_del(alloc, rest),
+        Keyword::Read => Ok(parse_read(rest)),
+        Keyword::Heights => Ok(parse_heights(rest)),
         Keyword::Root => Ok(parse_root(rest)),
+        Keyword::Manifest => Ok(parse_manifest(rest)),
     }
 }
 

@@ -4,11 +4,12 @@ ghost use Rattle.std.specs.Prelude.{◌≡◌, IfOk, map};
 ghost use Rattle.std.specs.List.{list_all};
 ghost use Rattle.byte_codec.specs.Hex.{is_lower_digit};
 ghost use Rattle.script_text.specs.Script.{words};
-ghost use Rattle.script_text.specs.Words.{is_digit, is_number, number_of, hex_of, id_of, mem_of, height_or_live};
+ghost use Rattle.script_text.specs.Words.{is_digit, is_number, number_of, number_up_to, hex_of, hex_up_to, id_of, mem_of};
+ghost use Rattle.script_text.specs.Words.{module_of, height_of, height_or_live};
 
 use crate::command::HeightOrLive;
 use byte_codec::{Blob, HexError, NoMemory, hex_bytes};
-use format_spec::MAX_ID;
+use format_spec::{MAX_HEIGHT, MAX_ID, MAX_MODULE};
 use std::alloc::Global;
 use sys_state::{CanisterId, Mem};
 
@@ -100,12 +101,59 @@ pub fn read_mem(word: &[u8]) -> Option<Mem>
     None
 }
 
-/// `live`.
+/// A height, 1 to 2^62.
+pub fn read_height(word: &[u8]) -> Option<u64>
+    ensures { result ≡ height_of word.now }
+{
+    let height = read_number(word)?;
+    if 1 <= height && height <= MAX_HEIGHT {
+        Some(height)
+    } else {
+        None
+    }
+}
+
+/// A height or `live`.
 pub fn read_at(word: &[u8]) -> Option<HeightOrLive>
     ensures { result ≡ height_or_live word.now }
 {
     if word == b"live".as_slice() {
         return Some(HeightOrLive::Live);
     }
-    None
+    let height = read_height(word)?;
+    Some(HeightOrLive::Height(height))
+}
+
+/// A number that is at most this.
+pub fn read_number_up_to(most: u64, word: &[u8]) -> Option<u64>
+    ensures { result ≡ number_up_to most word.now }
+{
+    let number = read_number(word)?;
+    if number <= most { Some(number) } else { None }
+}
+
+/// At most so many bytes in hexadecimal, or `-` for none.
+pub fn read_hex_up_to(alloc: Global, most: usize, word: &[u8]) -> Result<Option<Blob>, NoMemory>
+    ensures { IfOk result (λ bytes. bytes ≡ hex_up_to most word.now) }
+{
+    let Some(bytes) = read_hex(alloc, word)? else {
+        return Ok(None);
+    };
+    if bytes.bytes().len() > most {
+        return Ok(None);
+    }
+    Ok(Some(bytes))
+}
+
+/// A module in hexadecimal, or `none`.
+pub fn read_module(alloc: Global, word: &[u8]) -> Result<Option<Option<Blob>>, NoMemory>
+    ensures { IfOk result (λ found. found ≡ module_of word.now) }
+{
+    if word == b"none".as_slice() {
+        return Ok(Some(None));
+    }
+    let Some(bytes) = read_hex_up_to(alloc, MAX_MODULE, word)? else {
+        return Ok(None);
+    };
+    Ok(Some(Some(bytes)))
 }

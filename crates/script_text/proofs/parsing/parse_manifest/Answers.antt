@@ -1,0 +1,12 @@
+use Rattle.std.proofs.Common.{◌≡◌, ◌∙◌, Option, subst}
+use Rattle.std.specs.Result.{IfOk}
+use Rattle.script_text.proofs.WordCounts.{one_word_here, one_word_other}
+use Rattle.script_text.specs.Commands.{manifest_of}
+use Rattle.script_text.specs.declared.command.Command.{Command}
+use Rattle.script_text.proofs.parsing.parse_manifest.Goals as goal
+
+pub returns-then-rest-ne1 : goal.returns-then-rest-ne1
+returns-then-rest-ne1 c = one_word_other manifest_of (λ word. word.now) c.args.rest.now c.if-rest-ne1.true
+
+pub returns : goal.returns
+returns c = c.manifest.ensures ∙ one_word_here manifest_of (λ word. word.now) c.args.rest.now _ c.if-rest-ne1.false
