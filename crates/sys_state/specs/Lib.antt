@@ -1,2 +1,4 @@
 pub mod Id
 pub mod System
+pub mod Places
+pub mod Calls

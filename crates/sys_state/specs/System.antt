@@ -1,7 +1,8 @@
 -- What a state is apart from the bytes of its memories and the rounds of their pages.
-use Rattle.std.specs.Prelude.{ℕ, List, map}
-use Rattle.format_spec.specs.Bytes.{Bytes}
-use Rattle.state_spec.specs.State.{State, Canister, CanisterPart, SystemPart, pages_of}
+use Rattle.std.specs.Prelude.{ℕ, ◌^◌, ◌<◌, List, map, IfSome}
+use Rattle.std.specs.List.{AllByRecursion}
+use Rattle.format_spec.specs.Bytes.{Bytes, IsBytes}
+use Rattle.state_spec.specs.State.{State, Canister, CanisterPart, SystemPart, IsSystem, pages_of}
 use Rattle.sys_state.specs.declared.record.CanisterRecord.{CanisterRecord}
 
 -- canisters by ascending ids, entries by ascending paths
@@ -9,6 +10,9 @@ pub record System : Type 0 where
   pub time : ℕ
   pub canisters : List (Bytes × CanisterRecord)
   pub entries : List (List Bytes × Bytes)
+
+abbrev pub system : ℕ → List (Bytes × CanisterRecord) → List (List Bytes × Bytes) → System
+system time canisters entries = record { time = time; canisters = canisters; entries = entries }
 
 -- without the birth
 abbrev pub part_of_record : CanisterRecord → CanisterPart
@@ -34,3 +38,22 @@ record_of c = record {
 -- what of a plain state isn't memory bytes or rounds
 abbrev pub kept_of : State → System
 kept_of s = record { time = s.time; canisters = map (λ c. (c.0, record_of c.1)) s.canisters; entries = s.entries }
+
+-- ---- what is within the limits
+
+-- of bytes, with a birth of 64 bits
+pub record IsCanister (c : Bytes × CanisterRecord) : Type 0 where
+  pub id : IsBytes c.0
+  pub wasm : IfSome c.1.module IsBytes
+  pub certified : IsBytes c.1.certified
+  pub birth : c.1.birth < 2 ^ 64
+
+pub record IsEntry (e : List Bytes × Bytes) : Type 0 where
+  pub path : AllByRecursion IsBytes e.0
+  pub value : IsBytes e.1
+
+-- within all limits, so that a text spells it
+pub record IsKept (s : System) : Type 0 where
+  pub system : IsSystem 1 (part_of s)
+  pub canisters : AllByRecursion IsCanister s.canisters
+  pub entries : AllByRecursion IsEntry s.entries

@@ -2,9 +2,16 @@
 #![tactic(auto)]
 
 mod canister_id;
+mod error;
 mod mem;
+mod path;
+mod place;
 mod record;
+mod state;
 
 pub use canister_id::CanisterId;
+pub use error::SysError;
 pub use mem::Mem;
+pub use path::Path;
 pub use record::CanisterRecord;
+pub use state::SysState;

@@ -1,0 +1,90 @@
+-- A state within the limits, after a change of its canisters.
+use Rattle.std.proofs.Common.{◌≡◌, ℕ, ◌+◌, ◌≤◌, true, ◌&&◌, List, [], ◌∷◌, ◌++◌, length, map, refl, sym, ap, ◌∙◌, arith}
+use Rattle.std.specs.List.{AllByRecursion}
+use Rattle.std.specs.FinMap.{is_sorted}
+use Rattle.std.specs.FinMap.Entries.{below_all}
+use Rattle.std.specs.Ordering.{is_lt}
+use Rattle.std.proofs.lemmas.List.{map-append, length-map}
+use Rattle.std.proofs.lemmas.List.Sums.{sum_by-append}
+use Rattle.format_spec.specs.declared.limits.TheConstants.{MAX_CANISTERS, MAX_STATE_PAGES}
+use Rattle.std.specs.declared.cmp.Ordering.{Ordering}
+use Rattle.format_spec.specs.Bytes.{Bytes, bytes_cmp}
+use Rattle.state_spec.specs.State.{FitsCanister, all_pages, pages_in}
+use Rattle.sys_state.specs.declared.record.CanisterRecord.{CanisterRecord}
+use Rattle.sys_state.specs.System.{System, part_of_record, IsKept, IsCanister}
+
+-- ---- keys beside other values are in order as before
+
+module _ {K X Y : Type 0} (R : K → K → Ordering) (f : X → Y) where
+  abbrev pub over : K × X → K × Y
+  over e = (e.0, f e.1)
+
+  below_all-over : (k : K) (es : List (K × X)) → below_all R k (map over es) ≡ below_all R k es
+  below_all-over k [] = refl
+  below_all-over k (e ∷ es) = ap (λ b. is_lt (R k e.0) && b) (below_all-over k es)
+
+  pub is_sorted-over : (es : List (K × X)) → is_sorted R (map over es) ≡ is_sorted R es
+  is_sorted-over [] = refl
+  is_sorted-over (e ∷ es) = λ i. below_all-over e.0 es i && is_sorted-over es i
+
+pub ids_sorted : (s : System) → IsKept s → is_sorted bytes_cmp s.canisters ≡ true
+ids_sorted s kept = sym (is_sorted-over bytes_cmp part_of_record s.canisters) ∙ kept.system.ids_ascend
+
+pub few_canisters : (s : System) → IsKept s → length s.canisters ≤ MAX_CANISTERS
+few_canisters s kept = omega (arith, kept.system.few_canisters, length-map s.canisters (over bytes_cmp part_of_record))
+
+-- ---- what holds of each canister
+
+pub record Good (c : Bytes × CanisterRecord) : Type 0 where
+  pub fits : FitsCanister 1 (c.0, part_of_record c.1)
+  pub bytes : IsCanister c
+
+goods_in : (cs : List (Bytes × CanisterRecord)) → AllByRecursion (FitsCanister 1) (map (over bytes_cmp part_of_record) cs) → AllByRecursion IsCanister cs → AllByRecursion Good cs
+goods_in [] fits bytes = tt
+goods_in (c ∷ cs) fits bytes = (record { fits = fits.0; bytes = bytes.0 }, goods_in cs fits.1 bytes.1)
+
+pub goods : (s : System) → IsKept s → AllByRecursion Good s.canisters
+goods s kept = goods_in s.canisters kept.system.canisters_fit kept.canisters
+
+all_fit : (cs : List (Bytes × CanisterRecord)) → AllByRecursion Good cs → AllByRecursion (FitsCanister 1) (map (over bytes_cmp part_of_record) cs) × AllByRecursion IsCanister cs
+all_fit [] good = (tt, tt)
+all_fit (c ∷ cs) good = let p = all_fit cs good.1 in ((good.0.fits, p.0), (good.0.bytes, p.1))
+
+-- ---- the pages of all memories
+
+abbrev pub pages : List (Bytes × CanisterRecord) → ℕ
+pages cs = all_pages (map (over bytes_cmp part_of_record) cs)
+
+pub pages-join : (cs ds : List (Bytes × CanisterRecord)) → pages (cs ++ ds) ≡ pages cs + pages ds
+pages-join cs ds = ap all_pages (map-append (over bytes_cmp part_of_record) cs ds) ∙ sum_by-append (λ c. pages_in c.1) (map (over bytes_cmp part_of_record) cs) (map (over bytes_cmp part_of_record) ds)
+
+pub pages-one : (c : Bytes × CanisterRecord) → pages (c ∷ []) ≡ c.1.heap + c.1.stable
+pages-one c = omega arith
+
+-- ---- with other canisters
+
+pub kept_with : (s : System) → IsKept s → (cs : List (Bytes × CanisterRecord)) → length cs ≤ MAX_CANISTERS → is_sorted bytes_cmp cs ≡ true → AllByRecursion Good cs → pages cs ≤ MAX_STATE_PAGES → IsKept (record s { canisters = cs })
+kept_with s kept cs few sorted good sum =
+    let fit = all_fit cs good in
+    record {
+      system = record {
+        time = kept.system.time;
+        few_canisters = omega (arith, few, length-map cs (over bytes_cmp part_of_record));
+        ids_ascend = is_sorted-over bytes_cmp part_of_record cs ∙ sorted;
+        canisters_fit = fit.0;
+        pages_fit = sum;
+        few_entries = kept.system.few_entries;
+        paths_ascend = kept.system.paths_ascend;
+        paths_apart = kept.system.paths_apart;
+        entries_fit = kept.system.entries_fit;
+      };
+      canisters = fit.1;
+      entries = kept.entries;
+    }
+
+fits_in : (cs : List (Bytes × CanisterRecord)) → AllByRecursion (FitsCanister 1) (map (over bytes_cmp part_of_record) cs) → AllByRecursion (λ c. FitsCanister 1 (c.0, part_of_record c.1)) cs
+fits_in [] h = tt
+fits_in (c ∷ cs) h = (h.0, fits_in cs h.1)
+
+pub canisters_fit : (s : System) → IsKept s → AllByRecursion (λ c. FitsCanister 1 (c.0, part_of_record c.1)) s.canisters
+canisters_fit s kept = fits_in s.canisters kept.system.canisters_fit

@@ -1,0 +1,6 @@
+mod Lists
+mod Places
+mod Keys
+mod Kept
+mod Canisters
+mod Text

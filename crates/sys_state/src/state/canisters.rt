@@ -1,0 +1,62 @@
+//! Changes of a state's canisters.
+
+ghost use Rattle.std.specs.Prelude.{◌≡◌, ◌≤◌, length, OnOk, OnErr, IfSome};
+ghost use Rattle.sys_state.specs.Calls.{Answers, answer, create_refusal, extend_refusal, Creates, Changes, newborn, extended};
+
+use super::SysState;
+use crate::canister_id::CanisterId;
+use crate::error::SysError;
+use crate::mem::Mem;
+use crate::record::CanisterRecord;
+use byte_codec::Blob;
+use format_spec::{MAX_CANISTERS, MAX_MEMORY_PAGES, MAX_STATE_PAGES};
+use std::alloc::Global;
+
+impl SysState {
+    /// Adds a canister without module, certified data and pages, which is born at this height.
+    ///
+    /// Exists where the canister is there, else ManyCanisters where 1,024 canisters are there, else Memory
+    /// where memory runs out. After an error the state is as it was.
+    pub fn create(&mut self, alloc: Global, id: CanisterId, birth: u64) -> Result<(), SysError>
+        ensures answer { Answers (create_refusal self.old id) result }
+        ensures created { OnOk result (Creates self.old self.new id (newborn birth)) }
+        ensures unchanged { OnErr result (self.new ≡ self.old) }
+    {
+        let _bytes = id.bytes();
+        let Err(i) = self.place(&id) else {
+            return Err(SysError::Exists);
+        };
+        if self.canisters.len() >= MAX_CANISTERS {
+            return Err(SysError::ManyCanisters);
+        }
+        let record = CanisterRecord::newborn(alloc, birth)?;
+        self.canisters.insert(i as usize, (id, record))?;
+        Ok(())
+    }
+
+    /// Adds so many pages to a memory.
+    ///
+    /// NoCanister where the canister is not there, else MemoryFull where the memory would have more than 65,536
+    /// pages, else StateFull where all memories together would have more than 262,144. After an error the state
+    /// is as it was.
+    pub fn extend(&mut self, id: &CanisterId, mem: Mem, pages: u64) -> Result<(), SysError>
+        ensures answer { result ≡ answer (extend_refusal self.old id.now mem pages) }
+        ensures extended { OnOk result (Changes self.old self.new id.now (extended mem pages)) }
+        ensures unchanged { OnErr result (self.new ≡ self.old) }
+    {
+        let Ok(i) = self.place(id) else {
+            return Err(SysError::NoCanister);
+        };
+        let record = &mut self.canisters[i as usize].1;
+        let old = record.pages(mem);
+        if u64::from(old).saturating_add(pages) > MAX_MEMORY_PAGES as u64 {
+            return Err(SysError::MemoryFull);
+        }
+        if u64::from(self.pages) + pages > MAX_STATE_PAGES as u64 {
+            return Err(SysError::StateFull);
+        }
+        record.set_pages(mem, old + pages as u32);
+        self.pages += pages as u32;
+        Ok(())
+    }
+}
