@@ -1,23 +1,23 @@
 -- Changes of one canister.
-use Rattle.std.proofs.Common.{◌≡◌, ℕ, ◌+◌, ◌^◌, ◌<◌, ◌≤◌, IsTrue, nat_lt, nat_le, true, List, [], ◌∷◌, ◌++◌, length, get_or, set, sym, ap, subst, ◌∙◌, arith, length-set, length-append}
-use Rattle.std.specs.List.{AllByRecursion, insert}
+use Rattle.std.proofs.Common.{◌≡◌, ℕ, ◌+◌, ◌^◌, ◌<◌, ◌≤◌, IsTrue, nat_lt, nat_le, true, List, [], ◌∷◌, ◌++◌, length, get_or, set, sym, ap, subst, ◌∙◌, arith, length-set, length-append, refl, Option, IfSome}
+use Rattle.std.specs.List.{AllByRecursion, insert, remove}
 use Rattle.std.specs.FinMap.{is_sorted, put}
 use Rattle.std.proofs.lemmas.Bool.{and_from, lt-ltb, le-leb}
 use Rattle.std.proofs.lemmas.List.Edits.{length-insert}
 use Rattle.format_spec.specs.Bytes.{Bytes, IsBytes, bytes_cmp}
-use Rattle.format_spec.specs.declared.limits.TheConstants.{MAX_CANISTERS, MAX_ID, MAX_MEMORY_PAGES, MAX_STATE_PAGES}
+use Rattle.format_spec.specs.declared.limits.TheConstants.{MAX_CANISTERS, MAX_ID, MAX_MEMORY_PAGES, MAX_STATE_PAGES, MAX_CERTIFIED, MAX_MODULE}
 use Rattle.state_spec.specs.State.{is_id}
 use Rattle.sys_state.specs.declared.mem.Mem.{Mem}
 use Rattle.sys_state.specs.declared.mem.Mem.TheVariants.{Heap, Stable}
 use Rattle.sys_state.specs.declared.record.CanisterRecord.{CanisterRecord}
-use Rattle.sys_state.specs.Calls.{all_pages_of, pages_of, extended, newborn, Changes, Creates}
+use Rattle.sys_state.specs.Calls.{all_pages_of, pages_of, extended, newborn, with_certified, with_module, Changes, Creates, Removes}
 use Rattle.sys_state.specs.Id.{IsId}
 use Rattle.sys_state.specs.Places.{Stands, IsAbsent}
 use Rattle.sys_state.specs.System.{System, IsKept}
 use Rattle.sys_state.proofs.Keys.{ids_total}
 use Rattle.sys_state.proofs.Kept.{ids_sorted, few_canisters, Good, goods, kept_with, pages, pages-join, pages-one}
 use Rattle.sys_state.proofs.Lists.{all_parts, all_join}
-use Rattle.sys_state.proofs.Places.{entry_there, sorted_put, set_split, set_is_put, set_replaces, insert_split, insert_is_put, insert_replaces}
+use Rattle.sys_state.proofs.Places.{entry_there, sorted_put, set_split, set_is_put, set_replaces, insert_split, insert_is_put, insert_replaces, remove_split, remove_is_without, remove_sorted, remove_replaces}
 
 abbrev Named : Type 0
 Named = Bytes × CanisterRecord
@@ -27,6 +27,11 @@ pub record Changed (old new : System) (id : Bytes) (more : ℕ) (change : Canist
   pub kept : IsKept new
   pub pages : all_pages_of new ≡ all_pages_of old + more
   pub changes : Changes old new id change
+
+pub record Removed (old new : System) (id : Bytes) (fewer : ℕ) : Type 0 where
+  pub kept : IsKept new
+  pub pages : all_pages_of new + fewer ≡ all_pages_of old
+  pub removes : Removes old new id
 
 module _ (s : System) (kept : IsKept s) (id : Bytes) (i : ℕ) (at : Stands bytes_cmp id s.canisters i) where
   sorted : is_sorted bytes_cmp s.canisters ≡ true
@@ -91,6 +96,53 @@ module _ (s : System) (kept : IsKept s) (id : Bytes) (i : ℕ) (at : Stands byte
   pub extends : (mem : Mem) (more : ℕ) (x : Named) (y : CanisterRecord) → x ≡ get_or s.canisters i x → y ≡ extended mem more x.1 → pages_of mem x.1 + more ≤ MAX_MEMORY_PAGES → all_pages_of s + more ≤ MAX_STATE_PAGES
       → Changed s (record s { canisters = set s.canisters i (x.0, y) }) id more (extended mem more)
   extends mem more x y read is bound sum = written (extended mem more) more x y read is (extended_good mem more x.1 bound) (extended_pages mem more x.1) sum
+
+  same_sum : (n : ℕ) → n ≡ n + 0
+  same_sum n = omega arith
+
+  pub certifies : (bytes : Bytes) (x : Named) → x ≡ get_or s.canisters i x → IsBytes bytes → length bytes ≤ MAX_CERTIFIED
+      → Changed s (record s { canisters = set s.canisters i (x.0, with_certified bytes x.1) }) id 0 (with_certified bytes)
+  certifies bytes x read are short = written (with_certified bytes) 0 x (with_certified bytes x.1) read refl
+      (λ g. record {
+        fits = record { id = g.fits.id; wasm = g.fits.wasm; certified = short; heap = g.fits.heap; stable = g.fits.stable };
+        bytes = record { id = g.bytes.id; wasm = g.bytes.wasm; certified = are; birth = g.bytes.birth };
+      }) (same_sum (x.1.heap + x.1.stable)) (omega (arith, kept.system.pages_fit))
+
+  pub installs : (wasm : Option Bytes) (x : Named) → x ≡ get_or s.canisters i x → IfSome wasm IsBytes → IfSome wasm (λ m. length m ≤ MAX_MODULE)
+      → Changed s (record s { canisters = set s.canisters i (x.0, with_module wasm x.1) }) id 0 (with_module wasm)
+  installs wasm x read are short = written (with_module wasm) 0 x (with_module wasm x.1) read refl
+      (λ g. record {
+        fits = record { id = g.fits.id; wasm = short; certified = g.fits.certified; heap = g.fits.heap; stable = g.fits.stable };
+        bytes = record { id = g.bytes.id; wasm = are; certified = g.bytes.certified; birth = g.bytes.birth };
+      }) (same_sum (x.1.heap + x.1.stable)) (omega (arith, kept.system.pages_fit))
+
+  -- ---- a canister that goes
+
+  pub was_small : (x : Named) → x ≡ get_or s.canisters i x → (x.1.heap ≤ MAX_MEMORY_PAGES) × (x.1.stable ≤ MAX_MEMORY_PAGES)
+  was_small x read =
+      let value_is : at.value ≡ x.1 = sym (ap (λ (e : Named). e.1) (entry_there bytes_cmp ids_total id s.canisters sorted i at x read)) in
+      subst (λ (c : CanisterRecord). (c.heap ≤ MAX_MEMORY_PAGES) × (c.stable ≤ MAX_MEMORY_PAGES)) value_is (was_good.fits.heap, was_good.fits.stable)
+
+  pub removes : (x : Named) → x ≡ get_or s.canisters i x → Removed s (record s { canisters = remove s.canisters i }) id (x.1.heap + x.1.stable)
+  removes x read =
+      let value_is : at.value ≡ x.1 = sym (ap (λ (e : Named). e.1) (entry_there bytes_cmp ids_total id s.canisters sorted i at x read)) in
+      let split = remove_split bytes_cmp ids_total id s.canisters sorted i at in
+      let left : pages (remove s.canisters i) ≡ pages at.at.before + pages at.at.after = ap pages split ∙ pages-join at.at.before at.at.after in
+      let sum : pages (remove s.canisters i) + (at.value.heap + at.value.stable) ≡ pages s.canisters = omega (arith, old_pages, left) in
+      let sum_here : pages (remove s.canisters i) + (x.1.heap + x.1.stable) ≡ pages s.canisters = subst (λ (c : CanisterRecord). pages (remove s.canisters i) + (c.heap + c.stable) ≡ pages s.canisters) value_is sum in
+      let length_left : length s.canisters ≡ length (remove s.canisters i) + 1 =
+      ap length at.at.split ∙ omega (arith, length-append at.at.before ((id, at.value) ∷ at.at.after), ap length split, length-append at.at.before at.at.after) in
+      record {
+        kept = kept_with s kept (remove s.canisters i) (omega (arith, length_left, few_canisters s kept)) (remove_sorted bytes_cmp ids_total id s.canisters sorted i at)
+            (subst (AllByRecursion Good) (sym split) (all_join Good at.at.before at.at.after parts_good.0 parts_good.1.1)) (omega (arith, sum, kept.system.pages_fit));
+        pages = sum_here;
+        removes = record {
+          c = at.value;
+          was = at.found;
+          now = ap (λ (cs : List Named). record s { canisters = cs }) (remove_is_without bytes_cmp ids_total id s.canisters sorted i at);
+          split = remove_replaces bytes_cmp ids_total id s.canisters sorted i at;
+        };
+      }
 
 -- ---- a new canister
 

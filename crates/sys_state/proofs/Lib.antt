@@ -4,3 +4,5 @@ mod Keys
 mod Kept
 mod Canisters
 mod Text
+mod Paths
+mod Entries

@@ -1,9 +1,9 @@
 -- Where a key stands among entries in order, and what a change at that place does.
-use Rattle.std.proofs.Common.{◌≡◌, ℕ, zero, suc, ◌+◌, ◌<◌, ◌≤◌, Bool, true, false, cond, T, List, [], ◌∷◌, ◌++◌, length, get_or, set, take, drop, Some, None, Result, Ok, Err, refl, sym, ap, subst, ◌∙◌, arith, add-one}
-use Rattle.std.specs.List.{AllByRecursion, AllWithin, count_by, insert}
+use Rattle.std.proofs.Common.{◌≡◌, ℕ, zero, suc, ◌+◌, ◌<◌, ◌≤◌, Bool, true, false, not, cond, T, List, [], ◌∷◌, ◌++◌, length, get_or, set, take, drop, Some, None, Result, Ok, Err, refl, sym, ap, subst, ◌∙◌, arith, add-one, append_assoc, length-append}
+use Rattle.std.specs.List.{AllByRecursion, AllWithin, count_by, insert, remove}
 use Rattle.std.specs.List.Sorted.{IsSearchInRange, IsBinarySearchResult, IsSortedBy}
 use Rattle.std.specs.FinMap.{find, put, is_sorted, IsAntisymmetric}
-use Rattle.std.specs.FinMap.Entries.{below_all, by_order, is_sorted-put}
+use Rattle.std.specs.FinMap.Entries.{below_all, by_order, is_sorted-put, is_sorted-where_key}
 use Rattle.std.specs.Cmp.{IsTotalOrder, tied_itself}
 use Rattle.std.specs.Ordering.{is_lt, is_eq, eq_by_cmp, ordering_reverse}
 use Rattle.std.specs.declared.cmp.Ordering.{Ordering}
@@ -15,6 +15,7 @@ use Rattle.std.proofs.lemmas.List.Sums.{sum_by-append}
 use Rattle.std.proofs.Math.Seq.{split_at}
 use Rattle.format_spec.proofs.Ascending.{less_is}
 use Rattle.sys_state.specs.Places.{place_of, Replaces, Stands, IsAbsent, Places}
+use Rattle.sys_state.specs.Calls.{without}
 use Rattle.sys_state.proofs.Lists.{all_parts}
 
 pub greater_from_less : {K : Type 0} (R : K → K → Ordering) → IsTotalOrder R → (x y : K) → R x y ≡ Less → R y x ≡ Greater
@@ -138,6 +139,22 @@ module _ {K X : Type 0} (R : K → K → Ordering) (o : IsTotalOrder R) where
     pub put_absent : (before : List (K × X)) (v : X) (after : List (K × X)) → Below key before → Above key after → put R key v (before ++ after) ≡ before ++ (key, v) ∷ after
     put_absent before v after below above = put_before v before after below ∙ ap (λ es. before ++ es) (put_above v after above)
 
+  -- ---- without a key
+
+  kept_first : (key : K) (e : K × X) (es : List (K × X)) → eq_by_cmp R key e.0 ≡ false → without R key (e ∷ es) ≡ e ∷ without R key es
+  kept_first key e es unlike = ap (λ b. cond (not b) (e ∷ without R key es) (without R key es)) unlike
+
+  without_before : (key : K) (before rest : List (K × X)) → Below key before → without R key (before ++ rest) ≡ before ++ without R key rest
+  without_before key [] rest h = refl
+  without_before key (b ∷ before) rest h = kept_first key b (before ++ rest) (unlike_before key b h.0) ∙ ap (λ es. b ∷ es) (without_before key before rest h.1)
+
+  without_above : (key : K) (after : List (K × X)) → Above key after → without R key after ≡ after
+  without_above key [] h = refl
+  without_above key (e ∷ after) h = kept_first key e after (unlike_after key e h.0) ∙ ap (λ es. e ∷ es) (without_above key after h.1)
+
+  without_here : (key : K) (v : X) (after : List (K × X)) → Above key after → without R key ((key, v) ∷ after) ≡ after
+  without_here key v after h = ap (λ r. cond (not (is_eq r)) ((key, v) ∷ without R key after) (without R key after)) (tied_itself o key) ∙ without_above key after h
+
   -- ---- what a search finds
 
   sorted_pairs : (es : List (K × X)) → is_sorted R es ≡ true → (k : ℕ) (d : K × X) → suc k < length es → R (get_or es k d).0 (get_or es (suc k) d).0 ≡ Less
@@ -189,7 +206,7 @@ module _ {K X : Type 0} (R : K → K → Ordering) (o : IsTotalOrder R) where
     pub entry_there : (i : ℕ) (s : Stands R key es i) (x : K × X) → x ≡ get_or es i x → x ≡ (key, s.value)
     entry_there i s x read = read ∙ ap (λ l. get_or l i x) s.at.split ∙ get_or_at s.at.before (key, s.value) s.at.after x i s.at.count
 
-    below_stands : (i : ℕ) (s : Stands R key es i) → Below key s.at.before
+    pub below_stands : (i : ℕ) (s : Stands R key es i) → Below key s.at.before
     below_stands i s = (parted s.at.before (key, s.value) s.at.after (subst (λ l. is_sorted R l ≡ true) s.at.split sorted)).0
 
     pub set_split : (i : ℕ) (s : Stands R key es i) (v : X) → set es i (key, v) ≡ s.at.before ++ (key, v) ∷ s.at.after
@@ -197,6 +214,32 @@ module _ {K X : Type 0} (R : K → K → Ordering) (o : IsTotalOrder R) where
 
     pub set_is_put : (i : ℕ) (s : Stands R key es i) (v : X) → set es i (key, v) ≡ put R key v es
     set_is_put i s v = set_split i s v ∙ sym (ap (put R key v) s.at.split ∙ put_stands key s.at.before v s.value s.at.after (below_stands i s))
+
+    pub above_stands : (i : ℕ) (s : Stands R key es i) → Above key s.at.after
+    above_stands i s = (parted s.at.before (key, s.value) s.at.after (subst (λ l. is_sorted R l ≡ true) s.at.split sorted)).1
+
+    pub remove_split : (i : ℕ) (s : Stands R key es i) → remove es i ≡ s.at.before ++ s.at.after
+    remove_split i s =
+        ap (λ l. remove l i) s.at.split
+        ∙ (λ j. take_at s.at.before ((key, s.value) ∷ s.at.after) i s.at.count j ++ behind i s j)
+      where
+        behind : (k : ℕ) (t : Stands R key es k) → drop (suc k) (t.at.before ++ (key, t.value) ∷ t.at.after) ≡ t.at.after
+        behind k t =
+            ap (λ l. drop (suc k) l) (sym (append_assoc t.at.before ((key, t.value) ∷ []) t.at.after))
+            ∙ drop_at (t.at.before ++ (key, t.value) ∷ []) t.at.after (suc k) (omega (arith, length-append t.at.before ((key, t.value) ∷ []), t.at.count))
+
+    pub remove_is_without : (i : ℕ) (s : Stands R key es i) → remove es i ≡ without R key es
+    remove_is_without i s =
+        remove_split i s
+        ∙ sym (ap (without R key) s.at.split ∙ without_before key s.at.before ((key, s.value) ∷ s.at.after) (below_stands i s) ∙ ap (λ l. s.at.before ++ l) (without_here key s.value s.at.after (above_stands i s)))
+
+    pub remove_sorted : (i : ℕ) (s : Stands R key es i) → is_sorted R (remove es i) ≡ true
+    remove_sorted i s =
+        ap (is_sorted R) (remove_is_without i s)
+        ∙ from_T (is_sorted R (without R key es)) (is_sorted-where_key R (λ k. not (eq_by_cmp R key k)) es (subst T (sym sorted) tt))
+
+    pub remove_replaces : (i : ℕ) (s : Stands R key es i) → Replaces es (remove es i) (place_of R key es) ((key, s.value) ∷ []) []
+    remove_replaces i s = record { before = s.at.before; after = s.at.after; old_is = s.at.split; new_is = remove_split i s; count = s.at.count ∙ sym s.place }
 
     pub set_replaces : (i : ℕ) (s : Stands R key es i) (v : X) → Replaces es (set es i (key, v)) (place_of R key es) ((key, s.value) ∷ []) ((key, v) ∷ [])
     set_replaces i s v = record { before = s.at.before; after = s.at.after; old_is = s.at.split; new_is = set_split i s v; count = s.at.count ∙ sym s.place }

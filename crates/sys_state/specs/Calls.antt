@@ -1,10 +1,14 @@
 -- What the calls of a state refuse, and what they change.
-use Rattle.std.specs.Prelude.{◌≡◌, ℕ, ◌+◌, [], ◌∷◌, length, Option, Some, None, Result, Ok, Err, is_some, nat_le, nat_lt, if◌then◌else◌}
+use Rattle.std.specs.Prelude.{◌≡◌, ℕ, ◌+◌, List, [], ◌∷◌, length, Option, Some, None, Result, Ok, Err, is_some, nat_le, nat_lt, if◌then◌else◌, Bool, not, ◌&&◌, ◌||◌}
 use Rattle.std.specs.Result.{IsOkUnless}
+use Rattle.std.specs.List.{list_any}
 use Rattle.std.specs.FinMap.{find, put}
-use Rattle.format_spec.specs.Bytes.{Bytes, bytes_cmp}
-use Rattle.format_spec.specs.declared.limits.TheConstants.{MAX_CANISTERS}
-use Rattle.state_spec.specs.State.{memory_limit, state_limit, all_pages}
+use Rattle.std.specs.FinMap.Entries.{where_key}
+use Rattle.std.specs.Ordering.{eq_by_cmp}
+use Rattle.std.specs.declared.cmp.Ordering.{Ordering}
+use Rattle.format_spec.specs.Bytes.{Bytes, bytes_cmp, path_cmp}
+use Rattle.format_spec.specs.declared.limits.TheConstants.{MAX_CANISTERS, MAX_ENTRIES}
+use Rattle.state_spec.specs.State.{memory_limit, state_limit, all_pages, is_reserved, is_prefix}
 use Rattle.sys_state.specs.declared.error.SysError.{SysError}
 use Rattle.sys_state.specs.declared.error.SysError.TheVariants as errors
 use Rattle.sys_state.specs.declared.mem.Mem.{Mem}
@@ -25,6 +29,10 @@ abbrev pub Answers : Option SysError → Result (Unit {0}) SysError → Type 0
 Answers (Some e) result = result ≡ Err e
 Answers None result = IsOkUnless result errors.Memory
 
+-- the entries but that of the key
+abbrev pub without : {K X : Type 0} → (K → K → Ordering) → K → List (K × X) → List (K × X)
+without R key es = where_key R (λ k. not (eq_by_cmp R key k)) es
+
 -- ---- canisters
 
 abbrev pub canister_in : System → Bytes → Option CanisterRecord
@@ -32,6 +40,9 @@ canister_in s id = find bytes_cmp id s.canisters
 
 abbrev pub with_canister : System → Bytes → CanisterRecord → System
 with_canister s id c = record s { canisters = put bytes_cmp id c s.canisters }
+
+abbrev pub without_canister : System → Bytes → System
+without_canister s id = record s { canisters = without bytes_cmp id s.canisters }
 
 -- an empty canister
 abbrev pub newborn : ℕ → CanisterRecord
@@ -50,6 +61,12 @@ with_pages Stable n c = record c { stable = n }
 -- so many pages more
 abbrev pub extended : Mem → ℕ → CanisterRecord → CanisterRecord
 extended mem more c = with_pages mem (pages_of mem c + more) c
+
+abbrev pub with_module : Option Bytes → CanisterRecord → CanisterRecord
+with_module wasm c = record c { «module» = wasm }
+
+abbrev pub with_certified : Bytes → CanisterRecord → CanisterRecord
+with_certified bytes c = record c { certified = bytes }
 
 -- the pages of all memories
 abbrev pub all_pages_of : System → ℕ
@@ -76,7 +93,35 @@ pages_refusal s mem more (Some c) =
 abbrev pub extend_refusal : System → Bytes → Mem → ℕ → Option SysError
 extend_refusal s id mem more = pages_refusal s mem more (canister_in s id)
 
--- ---- changes
+-- ---- entries
+
+abbrev pub is_proper_prefix : List Bytes → List Bytes → Bool
+is_proper_prefix p q = is_prefix p q && not (is_prefix q p)
+
+-- a proper prefix of the path is an entry, or the path is a proper prefix of one
+abbrev pub has_conflict : List (List Bytes × Bytes) → List Bytes → Bool
+has_conflict es path = list_any (λ e. is_proper_prefix e.0 path || is_proper_prefix path e.0) es
+
+abbrev pub is_entry : System → List Bytes → Bool
+is_entry s path = is_some (find path_cmp path s.entries)
+
+abbrev pub put_refusal : System → List Bytes → Option SysError
+put_refusal s path =
+    if is_reserved path then Some errors.Reserved
+    else if has_conflict s.entries path then Some errors.PathConflict
+    else if not (is_entry s path) && nat_le MAX_ENTRIES (length s.entries) then Some errors.TreeFull
+    else None
+
+abbrev pub del_refusal : System → List Bytes → Option SysError
+del_refusal s path = if is_entry s path then None else Some errors.NoPath
+
+abbrev pub with_entry : System → List Bytes → Bytes → System
+with_entry s path value = record s { entries = put path_cmp path value s.entries }
+
+abbrev pub without_entry : System → List Bytes → System
+without_entry s path = record s { entries = without path_cmp path s.entries }
+
+-- ---- changes of canisters
 
 -- the canister is there now, behind those with lower ids
 pub record Creates (old new : System) (id : Bytes) (c : CanisterRecord) : Type 0 where
@@ -90,3 +135,10 @@ pub record Changes (old new : System) (id : Bytes) (change : CanisterRecord → 
   pub was : canister_in old id ≡ Some c
   pub now : new ≡ with_canister old id (change c)
   pub split : Replaces old.canisters new.canisters (place_of bytes_cmp id old.canisters) ((id, c) ∷ []) ((id, change c) ∷ [])
+
+-- the canister is gone
+pub record Removes (old new : System) (id : Bytes) : Type 0 where
+  pub c : CanisterRecord
+  pub was : canister_in old id ≡ Some c
+  pub now : new ≡ without_canister old id
+  pub split : Replaces old.canisters new.canisters (place_of bytes_cmp id old.canisters) ((id, c) ∷ []) []

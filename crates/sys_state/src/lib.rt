@@ -7,6 +7,7 @@ mod mem;
 mod path;
 mod place;
 mod record;
+mod size;
 mod state;
 
 pub use canister_id::CanisterId;

@@ -5,8 +5,8 @@ ghost use Rattle.std.specs.Cmp.{eq_by_cmp_equiv, partial_equiv_from_equiv, parti
 ghost use Rattle.std.specs.Cmp.Lexicographic.{nat_list_cmp_total, lists_total};
 ghost use Rattle.std.specs.Ordering.{as_partial_cmp, eq_by_cmp};
 ghost use Rattle.std.proofs.Common.{refl};
-ghost use Rattle.format_spec.specs.Bytes.{IsBytes, path_cmp};
-ghost use Rattle.state_spec.specs.State.{is_path, is_label};
+ghost use Rattle.format_spec.specs.Bytes.{IsBytes, path_cmp, same_bytes};
+ghost use Rattle.state_spec.specs.State.{is_path, is_label, is_prefix, is_reserved as is_reserved_path};
 
 use byte_codec::{Blob, NoMemory};
 use format_spec::{MAX_LABEL, MAX_LABELS};
@@ -68,6 +68,24 @@ impl Path {
         &self.labels
     }
 
+    /// Whether it is the other path, or the other goes on behind it.
+    pub fn begins(&self, other: &Path) -> bool
+        ensures { result ≡ is_prefix self.now other.now }
+    {
+        let (labels, others) = (self.labels(), other.labels());
+        labels.len() <= others.len() && order_labels(labels, &others[..labels.len()]).is_eq()
+    }
+
+    /// Whether the tree keeps its first label for itself: `time` and `canister`.
+    pub fn is_reserved(&self) -> bool
+        ensures { result ≡ is_reserved_path self.now }
+    {
+        match self.labels() {
+            [] => false,
+            [first, ..] => is_same(first.bytes(), b"time") || is_same(first.bytes(), b"canister"),
+        }
+    }
+
     /// The same path.
     pub fn copy(&self, alloc: Global) -> Result<Path, NoMemory>
         ensures { IfOk result (λ path. path ≡ self.now) }
@@ -78,6 +96,12 @@ impl Path {
         }
         Ok(Path { labels })
     }
+}
+
+fn is_same(a: &[u8], b: &[u8]) -> bool
+    ensures { result ≡ same_bytes a.now b.now }
+{
+    a.cmp(&b).is_eq()
 }
 
 fn order_labels(a: &[Blob], b: &[Blob]) -> Ordering

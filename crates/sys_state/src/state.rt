@@ -9,6 +9,7 @@ ghost use Rattle.sys_state.specs.Calls.{canister_in};
 mod canisters;
 mod copying;
 mod encoding;
+mod entries;
 
 use crate::canister_id::CanisterId;
 use crate::path::Path;

@@ -1,16 +1,30 @@
 //! Changes of a state's canisters.
 
 ghost use Rattle.std.specs.Prelude.{◌≡◌, ◌≤◌, length, OnOk, OnErr, IfSome};
-ghost use Rattle.sys_state.specs.Calls.{Answers, answer, create_refusal, extend_refusal, Creates, Changes, newborn, extended};
+ghost use Rattle.sys_state.specs.Calls.{Answers, answer, create_refusal, extend_refusal, find_refusal};
+ghost use Rattle.sys_state.specs.Calls.{Creates, Changes, Removes, newborn, extended, with_module, with_certified};
+ghost use Rattle.format_spec.specs.Bytes.{IsBytes};
+ghost use Rattle.state_spec.specs.SystemText.{wasm_fits};
 
 use super::SysState;
 use crate::canister_id::CanisterId;
 use crate::error::SysError;
 use crate::mem::Mem;
 use crate::record::CanisterRecord;
+use crate::size::is_within;
 use byte_codec::Blob;
-use format_spec::{MAX_CANISTERS, MAX_MEMORY_PAGES, MAX_STATE_PAGES};
+use format_spec::{MAX_CANISTERS, MAX_CERTIFIED, MAX_MEMORY_PAGES, MAX_MODULE, MAX_STATE_PAGES};
 use std::alloc::Global;
+
+fn is_module(module: &Option<Blob>) -> bool
+    ensures test { result ≡ wasm_fits «module».now }
+    ensures bytes { IfSome «module».now IsBytes }
+{
+    match module {
+        None => true,
+        Some(module) => is_within(module, MAX_MODULE),
+    }
+}
 
 impl SysState {
     /// Adds a canister without module, certified data and pages, which is born at this height.
@@ -57,6 +71,56 @@ impl SysState {
         }
         record.set_pages(mem, old + pages as u32);
         self.pages += pages as u32;
+        Ok(())
+    }
+
+    /// Removes a canister with its memories. NoCanister where it is not there; the state is then as it was.
+    pub fn remove(&mut self, id: &CanisterId) -> Result<(), SysError>
+        ensures answer { result ≡ answer (find_refusal self.old id.now) }
+        ensures removed { OnOk result (Removes self.old self.new id.now) }
+        ensures unchanged { OnErr result (self.new ≡ self.old) }
+    {
+        let Ok(i) = self.place(id) else {
+            return Err(SysError::NoCanister);
+        };
+        let (_, record) = self.canisters.remove(i as usize);
+        self.pages -= record.heap + record.stable;
+        Ok(())
+    }
+
+    /// Installs a module of at most 16,384 bytes, or removes the one that is there.
+    ///
+    /// NoCanister where the canister is not there; the state is then as it was.
+    pub fn set_module(&mut self, id: &CanisterId, module: Option<Blob>) -> Result<(), SysError>
+        requires { IfSome «module» (λ m. length m ≤ MAX_MODULE) }
+        ensures answer { result ≡ answer (find_refusal self.old id.now) }
+        ensures changed { OnOk result (Changes self.old self.new id.now (with_module «module»)) }
+        ensures unchanged { OnErr result (self.new ≡ self.old) }
+    {
+        let fits = is_module(&module);
+        prove!(fits);
+        let Ok(i) = self.place(id) else {
+            return Err(SysError::NoCanister);
+        };
+        self.canisters[i as usize].1.module = module;
+        Ok(())
+    }
+
+    /// Sets the certified data, at most 32 bytes.
+    ///
+    /// NoCanister where the canister is not there; the state is then as it was.
+    pub fn set_certified(&mut self, id: &CanisterId, bytes: Blob) -> Result<(), SysError>
+        requires { length bytes ≤ MAX_CERTIFIED }
+        ensures answer { result ≡ answer (find_refusal self.old id.now) }
+        ensures changed { OnOk result (Changes self.old self.new id.now (with_certified bytes)) }
+        ensures unchanged { OnErr result (self.new ≡ self.old) }
+    {
+        let fits = is_within(&bytes, MAX_CERTIFIED);
+        prove!(fits);
+        let Ok(i) = self.place(id) else {
+            return Err(SysError::NoCanister);
+        };
+        self.canisters[i as usize].1.certified = bytes;
         Ok(())
     }
 }
