@@ -1,0 +1,4 @@
+pub mod Gives
+pub mod Hex
+pub mod Leb
+pub mod HexErrors

@@ -1,4 +1,8 @@
-ghost use Rattle.std.specs.Prelude.{◌≡◌, IfOk};
+//! Byte strings.
+
+ghost use Rattle.std.specs.Prelude.{◌≡◌, IfOk, bytes_eq};
+ghost use Rattle.std.specs.Cmp.{partial_equiv_from_equiv};
+ghost use Rattle.std.specs.Cmp.Lexicographic.{nat_list_eq_equiv};
 
 use crate::error::NoMemory;
 use std::alloc::Global;
@@ -29,10 +33,34 @@ impl Blob {
         })
     }
 
+    /// These bytes, which aren't copied.
+    pub fn from_vec(bytes: Vec<u8>) -> Blob
+        ensures { result ≡ bytes.items }
+    {
+        Blob { bytes }
+    }
+
     /// The bytes.
     pub fn bytes(&self) -> &[u8]
         ensures { result.now ≡ self.now }
     {
         &self.bytes
+    }
+
+    /// A byte string of the same bytes.
+    pub fn copy(&self, alloc: Global) -> Result<Blob, NoMemory>
+        ensures { IfOk result (λ blob. blob ≡ self.now) }
+    {
+        Blob::from_slice(alloc, &self.bytes)
+    }
+}
+
+impl PartialEq for Blob {
+    ghost eq = { λ a b. bytes_eq a b };
+
+    ghost laws = { partial_equiv_from_equiv nat_list_eq_equiv };
+
+    fn eq(&self, other: &Blob) -> bool {
+        self.bytes.as_slice() == other.bytes.as_slice()
     }
 }

@@ -1,0 +1,3 @@
+pub mod LebSteps
+pub mod HexDigits
+pub mod Strings

@@ -1,0 +1,18 @@
+use Rattle.std.proofs.Common.{arith, refl}
+use Rattle.disk_model.specs.declared.event.Act.TheVariants.{Look}
+use Rattle.disk_model.specs.Record.{files_in}
+use Rattle.disk_model.specs.Mem.{mem_view}
+use Rattle.disk_model.proofs.Steps.{did, done_look, reads_after, total_after}
+use Rattle.disk_model.proofs.mem.MemDisk.look.Goals as goal
+
+pub invariant_of-self-2 : goal.invariant_of-self-2
+invariant_of-self-2 c = record {
+  reads = reads_after (files_in c.args.self.now.first.entries) c.args.self.now.events.items Look _ _ _ c.reserve.ensures.items c.note.ensures c.args.self.now.reads;
+  total = total_after (files_in c.args.self.now.first.entries) c.args.self.now.events.items Look _ _ _ c.reserve.ensures.items c.note.ensures c.args.self.now.total;
+}
+
+pub returns-clause-looks : goal.returns-clause-looks
+unfolding mem_view
+returns-clause-looks c =
+    done_look _ _ _ c.args.count (did (files_in c.args.self.now.first.entries) c.args.self.now.events.items Look _ _ c.args.self.now.bytes_read c.reserve.ensures.items c.note.ensures)
+    refl refl refl (omega (arith, c.saturating_add-self.ensures)) (omega (arith, c.saturating_add-self.ensures))

@@ -1,0 +1,20 @@
+use Rattle.std.proofs.Common.{None, ◌∙◌, ap}
+use Rattle.disk_model.specs.declared.event.Act.TheVariants.{Remove}
+use Rattle.disk_model.specs.Files.{Files, replaced}
+use Rattle.disk_model.specs.Record.{files_in}
+use Rattle.disk_model.specs.Mem.{mem_view}
+use Rattle.disk_model.proofs.Steps.{did, reads_after, total_after}
+use Rattle.disk_model.proofs.mem.MemDiskDisk.remove.Goals as goal
+
+pub invariant_of-self-2 : goal.invariant_of-self-2
+invariant_of-self-2 c = record {
+  reads = reads_after (files_in c.args.self.now.first.entries) c.args.self.now.events.items (Remove c.args.name) _ _ _ c.reserve.ensures.items c.note.ensures (
+      (λ i q. c.take_file.ensures.taken q i)
+      ∙ ap (λ (f : Files). replaced f c.args.name None) c.args.self.now.reads
+      );
+  total = total_after (files_in c.args.self.now.first.entries) c.args.self.now.events.items (Remove c.args.name) _ _ _ c.reserve.ensures.items c.note.ensures c.args.self.now.total;
+}
+
+pub returns-clause-does : goal.returns-clause-does
+unfolding mem_view
+returns-clause-does c = did (files_in c.args.self.now.first.entries) c.args.self.now.events.items (Remove c.args.name) _ _ _ c.reserve.ensures.items c.note.ensures

@@ -1,0 +1,18 @@
+//! Named files, and what a crash may leave of them.
+#![tactic(auto)]
+
+mod disk;
+mod event;
+mod files;
+mod image;
+mod laws;
+mod mem;
+mod name;
+
+pub use disk::{Disk, DiskError};
+pub use laws::{laws_of_calls, laws_of_frames, laws_of_moments};
+pub use mem::{MemDisk, NoMemory};
+pub use name::{Kind, Name};
+
+#[cfg(test)]
+mod tests;
