@@ -1,11 +1,10 @@
 -- Strings joined and cut: parts, hashes of 32 bytes, rows.
-use Rattle.std.proofs.Common.{◌≡◌, ◌⊎◌, ℕ, zero, suc, ◌+◌, ◌*◌, ◌^◌, ◌<◌, List, [], ◌∷◌, ◌++◌, length, map, take, drop, refl, sym, ap, ◌∙◌, inl, inr, arith, length-append, append_assoc, take-add}
-use Rattle.std.specs.List.{flat_map, range_with_len, AllByRecursion}
-use Rattle.std.specs.Int.{div_ceil, from_be_bytes, w32, w64}
-use Rattle.std.proofs.lemmas.List.{take_all, drop-drop}
-use Rattle.std.proofs.lemmas.Grind.{div_ceil_times}
+use Rattle.std.proofs.Common.{◌≡◌, ◌⊎◌, ℕ, ◌^◌, ◌<◌, List, [], ◌∷◌, ◌++◌, length, map, refl, sym, ap, ◌∙◌, inl, inr, arith, length-append, append_assoc}
+use Rattle.std.specs.List.{AllByRecursion}
+use Rattle.std.specs.Int.{from_be_bytes, w32, w64}
 use Rattle.sha2.specs.Sha256.{sha256}
-use Rattle.format_spec.specs.Bytes.{Bytes, parts, be32, be64, short_string}
+use Rattle.format_spec.specs.Bytes.{Bytes, be32, be64, short_string}
+use Rattle.format_spec.proofs.Parts.{joined}
 use Rattle.format_spec.proofs.Forms.{wide32, wide64}
 use Rattle.soundness.proofs.Strings.{Meet, one_or_meet, first_of_list, behind_first, meet_within, cut_front}
 
@@ -14,29 +13,6 @@ cons_same x y xs ys p q = cc
 
 pub heads : {X : Type 0} (x y : X) (xs ys : List X) → x ∷ xs ≡ y ∷ ys → (x ≡ y) × (xs ≡ ys)
 heads x y xs ys e = (cc, cc)
-
-abbrev pub joined : List Bytes → Bytes
-joined xs = flat_map (λ x. x) xs
-
--- ---- parts
-
-step_at : (n k a : ℕ) (s : Bytes) → take n (drop (a * n) s) ++ take (k * n) (drop ((a + 1) * n) s) ≡ take (suc k * n) (drop (a * n) s)
-step_at n k a s =
-    let at : (a + 1) * n ≡ a * n + n = omega arith in
-    let more : n + k * n ≡ suc k * n = omega arith in
-    let d : drop ((a + 1) * n) s ≡ drop n (drop (a * n) s) = ap (λ (m : ℕ). drop m s) at ∙ sym (drop-drop n (a * n) s) in
-    ap (λ (x : Bytes). take n (drop (a * n) s) ++ take (k * n) x) d ∙ sym (take-add n (k * n) (drop (a * n) s)) ∙ ap (λ (m : ℕ). take m (drop (a * n) s)) more
-
-parts_at : (n : ℕ) (s : Bytes) (k a : ℕ) → joined (map (λ i. take n (drop (i * n) s)) (range_with_len a k)) ≡ take (k * n) (drop (a * n) s)
-parts_at n s zero a = let z : 0 ≡ 0 * n = omega arith in ap (λ (m : ℕ). take m (drop (a * n) s)) z
-parts_at n s (suc k) a = ap (λ (x : Bytes). take n (drop (a * n) s) ++ x) (parts_at n s k (a + 1)) ∙ step_at n k a s
-
-pub joined_parts : (n : ℕ) (s : Bytes) → 0 < n → joined (parts n s) ≡ s
-unfolding parts
-joined_parts n s pos =
-    let k : ℕ = div_ceil (length s) n in
-    let z : 0 * n ≡ 0 = omega arith in
-    parts_at n s k 0 ∙ ap (λ (m : ℕ). take (k * n) (drop m s)) z ∙ take_all (k * n) s (div_ceil_times (length s) n pos).0
 
 -- ---- hashes
 

@@ -17,7 +17,8 @@ use Rattle.state_spec.specs.ManifestText.{manifest_text}
 use Rattle.state_spec.specs.Root.{meta_of, pieces_of, root_of, hashed}
 use Rattle.state_spec.proofs.BothWays.{system_again}
 use Rattle.soundness.proofs.Strings.{Meet, one_or_meet, first_of_list, meet_within, cut_front}
-use Rattle.soundness.proofs.Joins.{cons_same, heads, joined, Are32, each_or_meet, hashes_cut, joined_parts, joined_same, lengths_same, AreShort}
+use Rattle.format_spec.proofs.Parts.{joined, joined_parts}
+use Rattle.soundness.proofs.Joins.{cons_same, heads, Are32, each_or_meet, hashes_cut, joined_same, lengths_same, AreShort}
 use Rattle.soundness.proofs.Texts.{File, chunks_in, contents, same_files, joined_chunks}
 
 -- ---- the lists of strings

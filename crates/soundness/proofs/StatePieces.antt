@@ -1,16 +1,15 @@
 -- The manifest of a valid state has 1 to 128 pieces.
-use Rattle.std.proofs.Common.{◌≡◌, ℕ, suc, ◌+◌, ◌*◌, ◌<◌, ◌≤◌, List, [], ◌∷◌, ◌++◌, length, map, take, drop, codes, refl, sym, ap, ◌∙◌, subst, arith, length-append}
-use Rattle.std.specs.List.{flat_map, AllByRecursion, range_with_len}
+use Rattle.std.proofs.Common.{◌≡◌, ℕ, suc, ◌+◌, ◌*◌, ◌<◌, ◌≤◌, List, [], ◌∷◌, ◌++◌, length, map, codes, refl, sym, ap, ◌∙◌, subst, arith, length-append}
+use Rattle.std.specs.List.{flat_map, AllByRecursion}
 use Rattle.std.specs.Int.{div_ceil}
 use Rattle.std.proofs.lemmas.Grind.{div_ceil_times}
 use Rattle.std.proofs.lemmas.List.{length-map}
 use Rattle.std.proofs.lemmas.List.Concat.{flat_map-append}
-use Rattle.std.proofs.lemmas.List.FromFn.{length-range_with_len}
 use Rattle.std.proofs.lemmas.List.Sums.{sum_by-cons, sum_by_push}
 use Rattle.hex.specs.Hex.{encode_lower, lower_digits}
 use Rattle.hex.proofs.HexLemmas.{length-encode_with}
 use Rattle.sha2.proofs.Facts256.{length-sha256}
-use Rattle.format_spec.specs.Bytes.{Bytes, be32, be64, short_string, parts, part_count}
+use Rattle.format_spec.specs.Bytes.{Bytes, be32, be64, short_string, parts}
 use Rattle.format_spec.specs.Hashes.{chunk_hash, file_hash, piece_hash}
 use Rattle.format_spec.specs.declared.limits.TheConstants.{CHUNK_SIZE, PIECE_SIZE, MAX_ID}
 use Rattle.std.proofs.lemmas.Bool.{and_parts, leb-true}
@@ -21,6 +20,7 @@ use Rattle.state_spec.specs.Files.{files, file_name, heap_name, stable_name, sys
 use Rattle.state_spec.specs.Manifest.{FileRow, ChunkRow, file_row, chunk_rows, sums_of, manifest_from, manifest_of}
 use Rattle.state_spec.specs.ManifestText.{manifest_text, file_row_text, chunk_row_text, all_sizes}
 use Rattle.state_spec.specs.Root.{IsMeta, meta_of}
+use Rattle.format_spec.proofs.Parts.{parts_length}
 use Rattle.soundness.proofs.Joins.{Are32}
 use Rattle.soundness.proofs.Texts.{File, chunks_in, hashes_in, row_hashes, row_length, chunks_32}
 use Rattle.soundness.proofs.SystemSizes.{system_size}
@@ -71,10 +71,6 @@ rows_text v (c ∷ cs) h =
 chunks_text : (rs : List ChunkRow) → Are32 (hashes_in rs) → length (flat_map chunk_row_text rs) ≡ 48 * length rs
 chunks_text [] h = refl
 chunks_text (r ∷ rs) h = omega (arith, row_length r h.0, chunks_text rs h.1, length-append (chunk_row_text r) (flat_map chunk_row_text rs))
-
-parts_length : (n : ℕ) (s : Bytes) → length (parts n s) ≡ div_ceil (length s) n
-unfolding parts
-parts_length n s = length-map (range_with_len 0 (part_count n (length s))) (λ (i : ℕ). take n (drop (i * n) s)) ∙ length-range_with_len 0 (part_count n (length s))
 
 chunks_bound : (fs : List File) → length (chunks_in fs) * CHUNK_SIZE ≤ all_sizes (rows_of fs) + length fs * CHUNK_SIZE
 chunks_bound [] = omega arith

@@ -10,7 +10,8 @@ use Rattle.state_spec.specs.Manifest.{manifest_of, manifest_from}
 use Rattle.state_spec.specs.ManifestText.{manifest_text}
 use Rattle.state_spec.specs.Root.{MetaManifest, meta_of, root_of, root_of_meta, hashed}
 use Rattle.soundness.proofs.Strings.{Meet, one_or_meet, first_of_list, behind_first, meet_within}
-use Rattle.soundness.proofs.Joins.{joined, each_or_meet, hashes_cut, joined_parts}
+use Rattle.format_spec.proofs.Parts.{joined, joined_parts}
+use Rattle.soundness.proofs.Joins.{each_or_meet, hashes_cut}
 use Rattle.soundness.proofs.Texts.{chunks_in, hashes_in, row_hashes}
 use Rattle.soundness.proofs.SameRoot.{pieces_in, in_chunks, in_pieces, in_root, root_is, pieces_are, chunks_are, pieces_32, root_joined, chunk_inj, piece_inj}
 

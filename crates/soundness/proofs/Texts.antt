@@ -10,7 +10,8 @@ use Rattle.format_spec.specs.declared.limits.TheConstants.{CHUNK_SIZE}
 use Rattle.state_spec.specs.Manifest.{Manifest, FileRow, ChunkRow, chunk_sums, file_row, chunk_rows, sums_of, manifest_from, chunk_size_at, chunk_offset}
 use Rattle.state_spec.specs.ManifestText.{manifest_text, file_row_text, chunk_row_text}
 use Rattle.soundness.proofs.Strings.{cut_front}
-use Rattle.soundness.proofs.Joins.{cons_same, joined, Are32, be32_same, name_cut, joined_parts}
+use Rattle.format_spec.proofs.Parts.{joined, joined_parts}
+use Rattle.soundness.proofs.Joins.{cons_same, Are32, be32_same, name_cut}
 
 four : (n : ℕ) → length (be32 n) ≡ 4
 four n = refl
