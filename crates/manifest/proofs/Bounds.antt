@@ -1,0 +1,124 @@
+-- How long names and lists of a state within the limits are.
+use Rattle.std.proofs.Common.{◌≡◌, ℕ, suc, ◌+◌, ◌*◌, ◌<◌, ◌≤◌, List, [], ◌∷◌, ◌++◌, length, map, ◌∙◌, arith}
+use Rattle.std.specs.Prelude.{codes}
+use Rattle.std.specs.List.{AllByRecursion, flat_map}
+use Rattle.std.proofs.lemmas.List.{length-map, length-append}
+use Rattle.hex.specs.Hex.{encode_lower, lower_digits}
+use Rattle.hex.proofs.HexLemmas.{length-encode_with}
+use Rattle.format_spec.specs.Bytes.{Bytes, part_count, parts}
+use Rattle.format_spec.specs.Hashes.{ChunkSum, chunk_hash}
+use Rattle.format_spec.specs.declared.limits.TheConstants.{CHUNK_SIZE, PAGE_SIZE}
+use Rattle.state_spec.specs.State.{SystemPart, CanisterPart, IsSystem, FitsCanister}
+use Rattle.state_spec.specs.SystemText.{system_text}
+use Rattle.state_spec.specs.Files.{file_name, heap_name, stable_name, memories_in, system_name}
+use Rattle.state_spec.specs.Manifest.{FileSums, ChunkRow, chunk_sums, chunk_rows, file_row, memory_sums, file_sums, manifest_from, chunk_hashes}
+use Rattle.soundness.proofs.SystemSizes.{id_size, system_size}
+use Rattle.sys_state.specs.declared.record.CanisterRecord.{CanisterRecord}
+use Rattle.sys_state.specs.System.{System, IsKept, part_of_record}
+use Rattle.manifest.specs.Fits.{FitsText, FitSums}
+use Rattle.manifest.proofs.Cutting.{length-parts}
+use Rattle.manifest.proofs.Growing.{length-sums_from}
+
+abbrev part_in : Bytes × CanisterRecord → Bytes × CanisterPart
+part_in d = (d.0, part_of_record d.1)
+
+pub few_canisters : (s : System) → IsKept s → length s.canisters ≤ 1024
+few_canisters s kept =
+    let few = kept.system.few_canisters in
+    let count = length-map s.canisters part_in in
+    omega (arith, few, count)
+
+-- ---- each file
+
+pub record Small (f : FileSums) : Type 0 where
+  pub name : length f.name < 256
+  pub hashes : length f.hashes ≤ 256
+
+name_size : (id memory : Bytes) → length id ≤ 29 → length memory ≤ 6 → length (file_name id memory) < 256
+name_size id memory short few =
+    let a : Bytes = codes "canister/" ++ encode_lower id in
+    omega (arith, short, few, length-encode_with lower_digits id, length-append (codes "canister/") (encode_lower id), length-append a (codes "/"), length-append (a ++ codes "/") memory)
+
+few_chunks : (pages n : ℕ) → pages ≤ 65536 → n ≡ part_count CHUNK_SIZE (pages * PAGE_SIZE) → n ≤ 256
+few_chunks pages n few is = omega arith
+
+heads : (x y : ℕ) (xs ys : List ℕ) → x ∷ xs ≡ y ∷ ys → (x ≡ y) × (xs ≡ ys)
+heads x y xs ys e = (cc, cc)
+
+abbrev named : List (Bytes × CanisterPart) → List (Bytes × ℕ)
+named cs = flat_map (λ (c : Bytes × CanisterPart). (heap_name c.0, c.1.heap) ∷ (stable_name c.0, c.1.stable) ∷ []) cs
+
+abbrev counts : List (Bytes × ℕ) → List ℕ
+counts ms = map (λ (m : Bytes × ℕ). part_count CHUNK_SIZE (m.1 * PAGE_SIZE)) ms
+
+abbrev lengths : List (List Bytes) → List ℕ
+lengths ls = map (λ (l : List Bytes). length l) ls
+
+small_memories : (cs : List (Bytes × CanisterPart)) (ls : List (List Bytes)) → AllByRecursion (FitsCanister 1) cs → lengths ls ≡ counts (named cs)
+    → AllByRecursion Small (memory_sums (named cs) ls) × (length (memory_sums (named cs) ls) ≤ 2 * length cs)
+small_memories [] ls fit e = (tt, omega arith)
+small_memories (c ∷ cs) [] fit e = (tt, omega arith)
+small_memories (c ∷ cs) (a ∷ []) fit e = absurd (none (heads (length a) (part_count CHUNK_SIZE (c.1.heap * PAGE_SIZE)) [] (part_count CHUNK_SIZE (c.1.stable * PAGE_SIZE) ∷ counts (named cs)) e).1)
+  where
+    none : {x : ℕ} {xs : List ℕ} → [] ≡ x ∷ xs → ⊥
+    none h = cc
+small_memories (c ∷ cs) (a ∷ b ∷ ls) fit e =
+    let r = heads (length a) (part_count CHUNK_SIZE (c.1.heap * PAGE_SIZE)) (length b ∷ lengths ls) (part_count CHUNK_SIZE (c.1.stable * PAGE_SIZE) ∷ counts (named cs)) e in
+    let s = heads (length b) (part_count CHUNK_SIZE (c.1.stable * PAGE_SIZE)) (lengths ls) (counts (named cs)) r.1 in
+    let id = id_size c.0 fit.0.id in
+    let rest = small_memories cs ls fit.1 s.1 in (
+      (
+        record { name = name_size c.0 (codes "heap") id (omega arith); hashes = few_chunks c.1.heap (length a) fit.0.heap r.0 },
+        (record { name = name_size c.0 (codes "stable") id (omega arith); hashes = few_chunks c.1.stable (length b) fit.0.stable s.0 }, rest.0),
+      ),
+      (let k = rest.1 in omega arith),
+    )
+
+-- ---- all files
+
+all_join : {X : Type 0} (P : X → Type 0) (xs ys : List X) → AllByRecursion P xs → AllByRecursion P ys → AllByRecursion P (xs ++ ys)
+all_join P [] ys p q = q
+all_join P (x ∷ xs) ys p q = (p.0, all_join P xs ys p.1 q)
+
+rows_few : (n : ℕ) (fs : List FileSums) → AllByRecursion Small fs → length (chunk_rows n fs) ≤ 256 * length fs
+rows_few n [] small = omega arith
+rows_few n (f ∷ fs) small =
+    let own : List ChunkRow = map (λ (c : ChunkSum). record { file = n; sum = c }) (chunk_sums f) in
+    let len : length own ≡ length f.hashes = length-map (chunk_sums f) (λ (c : ChunkSum). record { file = n; sum = c }) ∙ length-sums_from f.size f.hashes in
+    omega (arith, rows_few (suc n) fs small.1, length-append own (chunk_rows (suc n) fs), len, small.0.hashes)
+
+names_short : (fs : List FileSums) → AllByRecursion Small fs → AllByRecursion (λ row. length row.name < 256) (map file_row fs)
+names_short [] small = tt
+names_short (f ∷ fs) small = (small.0.name, names_short fs small.1)
+
+pub few_memories : (s : SystemPart) (hashes : List (List Bytes)) → IsSystem 1 s → FitSums s hashes → length (memory_sums (memories_in s) hashes) ≤ 2048
+few_memories s hashes good fit =
+    let few = (small_memories s.canisters hashes good.canisters_fit fit).1 in
+    let count : length s.canisters ≤ 1024 = good.few_canisters in
+    omega (arith, few, count)
+
+pub few_system_chunks : (s : SystemPart) → IsSystem 1 s → length (chunk_hashes (system_text s)) ≤ 64
+few_system_chunks s good =
+    let text : Bytes = system_text s in
+    let size : length text ≤ 67108864 = (system_size 1 s good).1 in
+    let chunks : length (chunk_hashes text) ≡ part_count CHUNK_SIZE (length text) = length-map (parts CHUNK_SIZE text) chunk_hash ∙ length-parts CHUNK_SIZE text in
+    omega (arith, chunks, size)
+
+pub fits_text : (s : SystemPart) (hashes : List (List Bytes)) → IsSystem 1 s → FitSums s hashes → FitsText (manifest_from 1 (file_sums s hashes))
+unfolding manifest_from file_sums
+fits_text s hashes good fit =
+    let ms = small_memories s.canisters hashes good.canisters_fit fit in
+    let text : Bytes = system_text s in
+    let chunks : length (chunk_hashes text) ≤ 64 = few_system_chunks s good in
+    let last : FileSums = record { name = system_name; size = length text; hashes = chunk_hashes text } in
+    let last_small : Small last = record { name = omega arith; hashes = omega (arith, chunks) } in
+    let fs : List FileSums = memory_sums (memories_in s) hashes ++ last ∷ [] in
+    let small : AllByRecursion Small fs = all_join Small (memory_sums (memories_in s) hashes) (last ∷ []) ms.0 (last_small, tt) in
+    let count : length fs ≡ length (memory_sums (memories_in s) hashes) + 1 = length-append (memory_sums (memories_in s) hashes) (last ∷ []) in
+    let few : length s.canisters ≤ 1024 = good.few_canisters in
+    let many = ms.1 in
+    record {
+      files = omega (arith, length-map fs file_row, count, few, many);
+      chunks = omega (arith, rows_few 0 fs small, count, few, many);
+      names = names_short fs small;
+    }

@@ -1,0 +1,126 @@
+-- The manifest that is made of a state's parts is that of the state.
+use Rattle.std.proofs.Common.{◌≡◌, ℕ, ◌*◌, ◌^◌, ◌<◌, ◌≤◌, List, [], ◌∷◌, ◌++◌, length, map, take, refl, sym, ap, ◌∙◌, arith}
+use Rattle.std.specs.List.{flat_map}
+use Rattle.std.proofs.lemmas.List.{length-map, take_all}
+use Rattle.format_spec.specs.Bytes.{Bytes, part_count, parts}
+use Rattle.format_spec.specs.Hashes.{chunk_hash}
+use Rattle.format_spec.specs.declared.limits.TheConstants.{CHUNK_SIZE, PAGE_SIZE}
+use Rattle.state_spec.specs.State.{State, Canister, CanisterPart, SystemPart, IsSystem, Memory, pages_of, system_of, memory_bytes}
+use Rattle.state_spec.specs.State as State
+use Rattle.state_spec.specs.SystemText.{system_text}
+use Rattle.state_spec.specs.Files.{heap_name, stable_name, memory_files, files, system_name, memories_in}
+use Rattle.state_spec.specs.Manifest.{Manifest, FileSums, sums_of, chunk_hashes, memory_sums, file_sums, file_row, manifest_from, manifest_of}
+use Rattle.sys_state.specs.declared.record.CanisterRecord.{CanisterRecord}
+use Rattle.sys_state.specs.System.{kept_of, part_of, record_of, part_of_record}
+use Rattle.manifest.specs.Fits.{FitSums, FitMemories}
+use Rattle.manifest.specs.Adding.{Adds, all_memory_sums}
+use Rattle.manifest.proofs.Cutting.{length-parts}
+use Rattle.manifest.proofs.Growing.{added}
+use Rattle.manifest.proofs.Bounds.{few_memories, few_system_chunks}
+
+-- ---- the system text behind the memories
+
+pub made : (mid new : Manifest) (s : SystemPart) (hashes : List (List Bytes)) (name text : Bytes) (size : ℕ) (own : List Bytes)
+    → mid ≡ manifest_from 1 (all_memory_sums s hashes) → Adds mid new (record { name = name; size = size; hashes = own })
+    → name ≡ system_name → size ≡ length text → own ≡ chunk_hashes text → text ≡ system_text s → new ≡ manifest_from 1 (file_sums s hashes)
+unfolding file_sums
+made mid new s hashes name text size own is adds named sized hashed texted =
+    let last : FileSums = record { name = name; size = size; hashes = own } in
+    let same : last ≡ sums_of (system_name, text) = λ i. record { name = named i; size = sized i; hashes = hashed i } in
+    added mid new (all_memory_sums s hashes) last adds is
+    ∙ ap (λ (f : FileSums). manifest_from 1 (all_memory_sums s hashes ++ f ∷ [])) (same ∙ ap (λ (t : Bytes). sums_of (system_name, t)) texted)
+
+pub few_files : (m : Manifest) (s : SystemPart) (hashes : List (List Bytes)) → IsSystem 1 s → FitSums s hashes → m ≡ manifest_from 1 (all_memory_sums s hashes) → length m.files < 2 ^ 32
+unfolding manifest_from
+few_files m s hashes good fit is =
+    let count : length m.files ≡ length (all_memory_sums s hashes) = ap (λ (x : Manifest). length x.files) is ∙ length-map (all_memory_sums s hashes) file_row in
+    let few = few_memories s hashes good fit in
+    omega (arith, count, few)
+
+pub few_hashes : (s : SystemPart) (text : Bytes) (own : List Bytes) → IsSystem 1 s → own ≡ chunk_hashes text → text ≡ system_text s → length own < 2 ^ 32
+few_hashes s text own good is texted =
+    let few = few_system_chunks s good in
+    let same : length own ≡ length (chunk_hashes (system_text s)) = ap length (is ∙ ap chunk_hashes texted) in
+    omega (arith, few, same)
+
+-- ---- hashes of bytes that fit
+
+pub fit_hashes : (s : SystemPart) (memories : List Bytes) → FitMemories s memories → FitSums s (map chunk_hashes memories)
+fit_hashes s memories fit = go memories (memories_in s) fit
+  where
+    heads : (x y : ℕ) (xs ys : List ℕ) → x ∷ xs ≡ y ∷ ys → (x ≡ y) × (xs ≡ ys)
+    heads x y xs ys e = (cc, cc)
+
+    go : (bs : List Bytes) (ms : List (Bytes × ℕ)) → map (λ (b : Bytes). length b) bs ≡ map (λ (m : Bytes × ℕ). m.1 * PAGE_SIZE) ms
+        → map (λ (l : List Bytes). length l) (map chunk_hashes bs) ≡ map (λ (m : Bytes × ℕ). part_count CHUNK_SIZE (m.1 * PAGE_SIZE)) ms
+    go [] [] e = refl
+    go [] (m ∷ ms) e = absurd cc
+    go (b ∷ bs) [] e = absurd cc
+    go (b ∷ bs) (m ∷ ms) e =
+        let h = heads (length b) (m.1 * PAGE_SIZE) (map (λ (x : Bytes). length x) bs) (map (λ (x : Bytes × ℕ). x.1 * PAGE_SIZE) ms) e in
+        let count : length (chunk_hashes b) ≡ part_count CHUNK_SIZE (m.1 * PAGE_SIZE) =
+        length-map (parts CHUNK_SIZE b) chunk_hash ∙ length-parts CHUNK_SIZE b ∙ ap (part_count CHUNK_SIZE) h.0 in
+        let rest = go bs ms h.1 in
+        λ i. count i ∷ rest i
+
+-- ---- a plain state
+
+abbrev named : List (Bytes × Canister) → List (Bytes × ℕ)
+named cs = flat_map (λ (c : Bytes × CanisterPart). (heap_name c.0, c.1.heap) ∷ (stable_name c.0, c.1.stable) ∷ []) (map (λ (c : Bytes × Canister). (c.0, State.part_of c.1)) cs)
+
+abbrev bytes_in : List (Bytes × Canister) → List Bytes
+bytes_in cs = flat_map (λ (c : Bytes × Canister). c.1.heap.bytes ∷ c.1.stable.bytes ∷ []) cs
+
+heads : (x y : ℕ) (xs ys : List ℕ) → x ∷ xs ≡ y ∷ ys → (x ≡ y) × (xs ≡ ys)
+heads x y xs ys e = (cc, cc)
+
+sized : (name : Bytes) (m : Memory) → length m.bytes ≡ pages_of m * PAGE_SIZE → sums_of (name, m.bytes) ≡ record { name = name; size = pages_of m * PAGE_SIZE; hashes = chunk_hashes m.bytes }
+sized name m whole = λ i. record { name = name; size = whole i; hashes = chunk_hashes m.bytes }
+
+all_sums : (cs : List (Bytes × Canister)) (end : List (Bytes × Bytes)) → map (λ (b : Bytes). length b) (bytes_in cs) ≡ map (λ (m : Bytes × ℕ). m.1 * PAGE_SIZE) (named cs)
+    → map sums_of (flat_map memory_files cs ++ end) ≡ memory_sums (named cs) (map chunk_hashes (bytes_in cs)) ++ map sums_of end
+all_sums [] end fit = refl
+all_sums (c ∷ cs) end fit =
+    let h = heads (length c.1.heap.bytes) (pages_of c.1.heap * PAGE_SIZE) (length c.1.stable.bytes ∷ map (λ (b : Bytes). length b) (bytes_in cs)) ((pages_of c.1.stable * PAGE_SIZE) ∷ map (λ (m : Bytes × ℕ). m.1 * PAGE_SIZE) (named cs)) fit in
+    let s = heads (length c.1.stable.bytes) (pages_of c.1.stable * PAGE_SIZE) (map (λ (b : Bytes). length b) (bytes_in cs)) (map (λ (m : Bytes × ℕ). m.1 * PAGE_SIZE) (named cs)) h.1 in
+    λ i. sized (heap_name c.0) c.1.heap h.0 i ∷ sized (stable_name c.0) c.1.stable s.0 i ∷ all_sums cs end s.1 i
+
+pub of_state : (s : State) (p : SystemPart) (memories : List Bytes) → FitMemories p memories → s.version ≡ 1 → system_of s ≡ p → memory_bytes s ≡ memories
+    → manifest_from 1 (file_sums p (map chunk_hashes memories)) ≡ manifest_of s
+unfolding manifest_of files file_sums system_of
+of_state s p memories fit one parts-are bytes-are =
+    let fit' : map (λ (b : Bytes). length b) (bytes_in s.canisters) ≡ map (λ (m : Bytes × ℕ). m.1 * PAGE_SIZE) (named s.canisters) =
+    ap (λ (ms : List Bytes). map (λ (b : Bytes). length b) ms) bytes-are ∙ fit ∙ sym (ap (λ (q : SystemPart). map (λ (m : Bytes × ℕ). m.1 * PAGE_SIZE) (memories_in q)) parts-are) in
+    let own = all_sums s.canisters ((system_name, system_text (system_of s)) ∷ []) fit' in
+    ap (λ (q : SystemPart). manifest_from 1 (file_sums q (map chunk_hashes memories))) (sym parts-are)
+    ∙ ap (λ (ms : List Bytes). manifest_from 1 (file_sums (system_of s) (map chunk_hashes ms))) (sym bytes-are)
+    ∙ ap (λ (v : ℕ). manifest_from v (file_sums (system_of s) (map chunk_hashes (memory_bytes s)))) (sym one)
+    ∙ ap (manifest_from s.version) (sym own)
+
+abbrev kept : Bytes × Canister → Bytes × CanisterRecord
+kept c = (c.0, record_of c.1)
+
+abbrev bare : Bytes × CanisterRecord → Bytes × CanisterPart
+bare c = (c.0, part_of_record c.1)
+
+abbrev parts_in : Bytes × Canister → Bytes × CanisterPart
+parts_in c = (c.0, State.part_of c.1)
+
+-- what of the state is kept has its parts
+pub kept_parts : (s : State) → part_of (kept_of s) ≡ system_of s
+unfolding system_of
+kept_parts s = ap (λ (cs : List (Bytes × CanisterPart)). record { time = s.time; canisters = cs; entries = s.entries }) (go s.canisters)
+  where
+    go : (cs : List (Bytes × Canister)) → map bare (map kept cs) ≡ map parts_in cs
+    go [] = refl
+    go (c ∷ cs) = ap (λ (rest : List (Bytes × CanisterPart)). (c.0, State.part_of c.1) ∷ rest) (go cs)
+
+-- the hashes of all memories, one memory after another
+pub scratch_hashes : {V W : Type 0} (hashes : V → List Bytes) (bytes : W → Bytes) (sums : List V) (memories : List W) (i : ℕ) → length memories ≤ i
+    → map hashes sums ≡ map (λ m. chunk_hashes (bytes m)) (take i memories) → map hashes sums ≡ map chunk_hashes (map bytes memories)
+scratch_hashes {W = W} hashes bytes sums memories i le so_far =
+    so_far ∙ ap (λ (ms : List W). map (λ m. chunk_hashes (bytes m)) ms) (take_all i memories le) ∙ twice memories
+  where
+    twice : (ms : List W) → map (λ m. chunk_hashes (bytes m)) ms ≡ map chunk_hashes (map bytes ms)
+    twice [] = refl
+    twice (m ∷ ms) = ap (λ (rest : List (List Bytes)). chunk_hashes (bytes m) ∷ rest) (twice ms)

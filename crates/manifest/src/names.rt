@@ -1,0 +1,25 @@
+//! The names of logical files.
+
+ghost use Rattle.std.specs.Prelude.{◌≡◌, IfOk};
+ghost use Rattle.state_spec.specs.Files.{file_name};
+
+use byte_codec::{Blob, NoMemory, Writer, hex_text};
+use std::alloc::Global;
+use sys_state::CanisterId;
+
+/// The file of all of a state that isn't memory bytes.
+pub(crate) const SYSTEM: &[u8] = b"system";
+
+/// The file of a canister's memory: `heap` or `stable`.
+pub(crate) fn memory_name(alloc: Global, id: &CanisterId, memory: &[u8]) -> Result<Blob, NoMemory>
+    ensures { IfOk result (λ name. name ≡ file_name id.now memory.now) }
+{
+    let digits = hex_text(alloc, id.bytes())?;
+    let length = 10 + digits.bytes().len().min(64) + memory.len().min(64);
+    let mut name = Writer::with_capacity(alloc, length)?;
+    name.bytes(b"canister/")?;
+    name.bytes(digits.bytes())?;
+    name.bytes(b"/")?;
+    name.bytes(memory)?;
+    Ok(name.into_blob())
+}
