@@ -1,12 +1,11 @@
 -- How a run ends.
 use Rattle.std.specs.Prelude.{◌≡◌, ◌⊎◌, ℕ, ◌+◌, ◌≤◌, ◌<◌, List, [], ◌∷◌, ◌++◌, length, map, codes, decimal, Result, Ok, Err, OnOk}
-use Rattle.std.specs.List.{flat_map}
 use Rattle.format_spec.specs.Bytes.{Bytes}
 use Rattle.format_spec.specs.declared.limits.TheConstants.{MAX_LINE, MAX_LINES}
 use Rattle.io_edge.specs.Faults.{IsProperPrefix, Rose}
 use Rattle.machine_spec.specs.Answers.{Turn, answer, answers, after_turns}
 use Rattle.machine_spec.specs.Machine.{start}
-use Rattle.script_text.specs.Script.{lines, feeds, AreWithinLimits}
+use Rattle.script_text.specs.Script.{lines, feeds, joined, AreWithinLimits}
 use Rattle.script_text.specs.declared.status.Status.{Status}
 use Rattle.script_text.specs.declared.status.Status.TheVariants.{Done, Usage, ReadFault, WriteFault, LongLine, ManyLines, Memory}
 use Rattle.state_cli.specs.declared.session.Stop.{Stop}
@@ -15,10 +14,6 @@ use Rattle.state_cli.specs.declared.session.Stop.TheVariants as stops
 -- the lines of turns
 abbrev pub lines_of : List Turn → List Bytes
 lines_of turns = map (λ turn. turn.line) turns
-
--- lines, each with a line feed behind it
-abbrev pub joined : List Bytes → Bytes
-joined done = flat_map (λ line. line ++ 10 ∷ []) done
 
 -- the last line of a status is written, or a part of it where the sink failed
 abbrev pub Closes : ℕ → ℕ → Bytes → Bytes → Type 0

@@ -1,8 +1,9 @@
 //! What a line is answered.
 
-ghost use Rattle.std.specs.Prelude.{◌≡◌, OnOk};
+ghost use Rattle.std.specs.Prelude.{◌≡◌, [], OnOk, Some};
 ghost use Rattle.machine_spec.specs.Answers.{answer, after_turn, answer_to, after_command};
 ghost use Rattle.machine_spec.specs.Machine.{Machine};
+ghost use Rattle.script_text.specs.Commands.{FitsForm};
 ghost use Rattle.state_manager.specs.Kept.{Keeps};
 
 use byte_codec::NoMemory;
@@ -17,13 +18,14 @@ fn answer_command(
     command: &Command,
     out: &mut Vec<u8>,
 ) -> Result<(), NoMemory>
-    requires { out.old.items ≡ [] }
+    requires empty { out.old.items ≡ [] }
+    requires fits { FitsForm command.now }
     ensures { (m : Machine) → Keeps manager.old m → OnOk result ((out.new.items ≡ answer_to m (Some command.now)) × Keeps manager.new (after_command m (Some command.now))) }
 {
     let Ok(reply) = manager.apply(alloc, command) else {
         return Err(NoMemory);
     };
-    write_reply(&reply, out)?;
+    write_reply(alloc, &reply, out)?;
     out.push(b'\n')?;
     Ok(())
 }

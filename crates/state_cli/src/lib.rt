@@ -9,6 +9,7 @@ mod session;
 
 pub use laws::limits_stop_no_script_within_them;
 pub use program::run;
+pub use script_text::Status;
 
 #[cfg(test)]
 mod tests;

@@ -83,19 +83,13 @@ pub struct Session {
     out: Vec<u8>,
 }
 
-// Does what a line asks for and writes the answer.
-fn answer_line<K: Sink>(
-    alloc: Global,
-    manager: &mut Manager,
-    line: &[u8],
-    out: &mut Vec<u8>,
-    sink: &mut K,
-) -> Result<(), LineError>
-    ensures answers { (m : Machine) → Keeps manager.old m → (gained : List ℕ) × Appends (K.written sink.old) (K.written sink.new) gained × AnswersLine result m (Keeps manager.new) (record { line = line.now }) gained }
+// Does what the line asks for and writes the answer.
+fn answer_line<K: Sink>(alloc: Global, session: &mut Session, sink: &mut K) -> Result<(), LineError>
+    ensures answers { (m : Machine) → Keeps session.old.manager m → (gained : List ℕ) × Appends (K.written sink.old) (K.written sink.new) gained × AnswersLine result m (Keeps session.new.manager) (record { line = session.old.line.items }) gained }
     ensures write { IsCounted (K.faults sink.old) (K.faults sink.new) (result ≡ Err LineError.WriteFault) }
 {
-    answer_into(alloc, manager, line, out)?;
-    match write_all(sink, out) {
+    answer_into(alloc, &mut session.manager, &session.line, &mut session.out)?;
+    match write_all(sink, &session.out) {
         Ok(()) => Ok(()),
         Err(_) => Err(LineError::WriteFault),
     }
@@ -114,16 +108,15 @@ fn serve_line<S: Source, K: Sink>(
     ensures read { IsCounted (S.faults source.old) (S.faults source.new) (result ≡ Err Stop.ReadFault) }
     ensures write { IsCounted (K.faults sink.old) (K.faults sink.new) (result ≡ Err Stop.WriteFault) }
 {
-    let Session { manager, line, out } = session;
-    match read_line(source, line)? {
+    match read_line(source, &mut session.line)? {
         LineEnd::NoLine => Ok(Continuation::Finished),
         LineEnd::TooLong => Err(Stop::LongLine(number)),
         LineEnd::Feed => {
-            answer_line(alloc, manager, line, out, sink)?;
+            answer_line(alloc, session, sink)?;
             Ok(Continuation::More)
         }
         LineEnd::Input => {
-            answer_line(alloc, manager, line, out, sink)?;
+            answer_line(alloc, session, sink)?;
             Ok(Continuation::Finished)
         }
     }

@@ -153,3 +153,7 @@ pub sized_change : (old new : System) (id : Bytes) (n : ℕ) (mem : Mem) (more :
     → ((c : CanisterRecord) → find bytes_cmp id old.canisters ≡ Some c → length x ≡ (pages_of mem c + more) * PAGE_SIZE) → now ≡ set ms (index_of n mem) x → HaveSizes new.canisters now
 sized_change old new id n mem more ms now x h c place size e =
     subst (HaveSizes new.canisters) (sym e) (resized old.canisters new.canisters c.split.before c.split.after id c.c ms n mem more x h c.split.old_is c.split.new_is (c.split.count ∙ place) (size c.c c.was))
+
+-- the bytes at an index of a vector
+pub bytes_at : {V : Type 0} (bytes : V → Bytes) (vs : List V) (i j : ℕ) (d : V) → i ≡ j → i < length vs → d ≡ get_or vs i d → bytes d ≡ get_or (map bytes vs) j []
+bytes_at bytes vs i j d e within r = ap bytes r ∙ sym (get_or-map bytes vs i d [] within) ∙ ap (λ (k : ℕ). get_or (map bytes vs) k []) e

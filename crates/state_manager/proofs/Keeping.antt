@@ -24,7 +24,7 @@ Canisters = List (Bytes × Canister)
 abbrev pub bytes_in : Canisters → List Bytes
 bytes_in cs = flat_map (λ c. c.1.heap.bytes ∷ c.1.stable.bytes ∷ []) cs
 
-bytes-append : (xs ys : Canisters) → bytes_in (xs ++ ys) ≡ bytes_in xs ++ bytes_in ys
+pub bytes-append : (xs ys : Canisters) → bytes_in (xs ++ ys) ≡ bytes_in xs ++ bytes_in ys
 bytes-append xs ys = flat_map-append (λ c. c.1.heap.bytes ∷ c.1.stable.bytes ∷ []) xs ys
 
 pub length-bytes : (cs : Canisters) → length (bytes_in cs) ≡ 2 * length cs

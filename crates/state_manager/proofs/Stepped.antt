@@ -8,6 +8,7 @@ use Rattle.byte_codec.specs.declared.error.NoMemory.{NoMemory}
 use Rattle.format_spec.specs.Bytes.{Bytes, bytes_cmp}
 use Rattle.sys_state.specs.Calls as calls
 use Rattle.sys_state.specs.declared.error.SysError.{SysError}
+use Rattle.sys_state.specs.declared.error.SysError.TheVariants as errors
 use Rattle.script_text.specs.declared.reply.Reply.{Reply}
 use Rattle.script_text.specs.declared.reply.Reply.TheVariants.{Fine, Refused}
 use Rattle.script_text.specs.declared.reply.Refusal.{Refusal}
@@ -28,6 +29,20 @@ from_answer (Some error) (Err other) (Ok reply) done same e a d s =
     let one : other ≡ error = cc e in
     (subst (λ (x : SysError). Refuses (refusal_of x) (Ok reply)) one a, s)
 from_answer (Some error) (Err other) (Err no_memory) done same e a d s = s
+
+-- the same of a call that may want memory
+pub from_answers : (why : Option SysError) (r : Result (Unit {0}) SysError) (result : Result Reply NoMemory) (done same : Type 0) → calls.Answers why r → Answers r result → OnOk r done → OnErr r same → Alters why result done same
+from_answers None (Ok x) (Ok reply) done same e a d s = (a, d)
+from_answers None (Ok x) (Err no_memory) done same e a d s = absurd a
+from_answers None (Err error) (Ok reply) done same e a d s =
+    let memory : error ≡ errors.Memory = e in
+    absurd (subst (λ (x : SysError). Refuses (refusal_of x) (Ok reply)) memory a)
+from_answers None (Err error) (Err no_memory) done same e a d s = s
+from_answers (Some error) (Ok x) result done same e a d s = absurd (cc e)
+from_answers (Some error) (Err other) (Ok reply) done same e a d s =
+    let one : other ≡ error = cc e in
+    (subst (λ (x : SysError). Refuses (refusal_of x) (Ok reply)) one a, s)
+from_answers (Some error) (Err other) (Err no_memory) done same e a d s = s
 
 -- ---- refusals in their order
 
@@ -65,3 +80,15 @@ pub alters_found : {C : Type 0} (found : Option C) (e : SysError) (r : Refusal) 
 alters_found found e r (Err x) now m act done same p h keep did = tt
 alters_found None e r (Ok reply) now m act done same p h keep did = (refuses e r reply p h.0, keep h.1)
 alters_found (Some c) e r (Ok reply) now m act done same p h keep did = (h.0 ∙ (did c refl h.1).0, (did c refl h.1).1)
+
+-- what holds where a change was done and where it was not
+pub alters_keeps : (why : Option SysError) (result : Result Reply NoMemory) (done same P : Type 0) → Alters why result done same → (done → P) → (same → P) → P
+alters_keeps why (Err x) done same P h d s = s h
+alters_keeps None (Ok reply) done same P h d s = d h.1
+alters_keeps (Some e) (Ok reply) done same P h d s = s h.1
+
+-- the same change, seen otherwise
+pub alters_map : (why : Option SysError) (result : Result Reply NoMemory) (done same did stays : Type 0) → Alters why result done same → (done → did) → (same → stays) → Alters why result did stays
+alters_map why (Err x) done same did stays h d s = s h
+alters_map None (Ok reply) done same did stays h d s = (h.0, d h.1)
+alters_map (Some e) (Ok reply) done same did stays h d s = (h.0, s h.1)
