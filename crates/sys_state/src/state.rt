@@ -8,6 +8,7 @@ ghost use Rattle.sys_state.specs.Calls.{canister_in};
 
 mod canisters;
 mod copying;
+mod decoding;
 mod encoding;
 mod entries;
 
