@@ -6,3 +6,6 @@ mod Canisters
 mod Text
 mod Paths
 mod Entries
+mod Last
+mod Stops
+mod Labels

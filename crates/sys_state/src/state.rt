@@ -9,6 +9,7 @@ ghost use Rattle.sys_state.specs.Calls.{canister_in, pages_of};
 
 mod canisters;
 mod copying;
+mod decoding;
 mod encoding;
 mod entries;
 
