@@ -7,5 +7,6 @@ mod memories;
 mod refusals;
 mod stop;
 
+pub use manager::Manager;
 pub use script_text::{Command, HeightOrLive, Refusal, Reply};
 pub use stop::{OpenError, Stop};
