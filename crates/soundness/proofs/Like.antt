@@ -17,7 +17,7 @@ pub data Like : Tree → Tree → Type 0 where
   like_labeled : (l : Bytes) (a b : Tree) → Like a b → Like (labeled l a) (labeled l b)
   like_leaf : (b : Bytes) → Like (leaf b) (leaf b)
 
-whole_hashes : (u : Tree) → IsWhole u → HasHashes u
+pub whole_hashes : (u : Tree) → IsWhole u → HasHashes u
 whole_hashes empty h = tt
 whole_hashes (fork a b) h = (whole_hashes a h.0, whole_hashes b h.1)
 whole_hashes (labeled l a) h = whole_hashes a h
