@@ -11,7 +11,7 @@ use Rattle.state_spec.specs.State.{SystemPart, CanisterPart, IsSystem, FitsCanis
 use Rattle.tree_spec.specs.Tree.{Tree, depth, half, forks_within, forks}
 use Rattle.tree_spec.specs.Labelled.{Children, none, leaf_at, node_at, put_leaf, put_node, put_path, with_wasm, canister_children, entry_children, with_canisters, labelled, child_trees, tree_of, state_tree}
 use Rattle.tree_spec.specs.Cbor.{HasSizes}
-use Rattle.soundness.proofs.SystemSizes.{id_size, label_size}
+use Rattle.state_spec.proofs.SystemSizes.{id_size, label_size}
 
 -- ---- children: at most m nodes below each other, at most n children a node, and short strings
 
