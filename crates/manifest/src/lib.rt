@@ -8,6 +8,8 @@ mod meta;
 mod names;
 mod parts;
 mod rows;
+#[cfg(test)]
+mod tests;
 
 pub use making::from_scratch;
 pub use meta::MetaManifest;

@@ -4,19 +4,22 @@ ghost use Rattle.std.specs.Prelude.{◌≡◌, IfOk};
 ghost use Rattle.state_spec.specs.Files.{file_name};
 
 use byte_codec::{Blob, NoMemory, Writer, hex_text};
+use format_spec::MAX_ID;
 use std::alloc::Global;
 use sys_state::CanisterId;
 
 /// The file of all of a state that isn't memory bytes.
 pub(crate) const SYSTEM: &[u8] = b"system";
 
+/// Bytes in the longest name, `canister/`, the digits of an id and `/stable`.
+const MAX_NAME: usize = 16 + 2 * MAX_ID;
+
 /// The file of a canister's memory: `heap` or `stable`.
 pub(crate) fn memory_name(alloc: Global, id: &CanisterId, memory: &[u8]) -> Result<Blob, NoMemory>
     ensures { IfOk result (λ name. name ≡ file_name id.now memory.now) }
 {
     let digits = hex_text(alloc, id.bytes())?;
-    let length = 10 + digits.bytes().len().min(64) + memory.len().min(64);
-    let mut name = Writer::with_capacity(alloc, length)?;
+    let mut name = Writer::with_capacity(alloc, MAX_NAME)?;
     name.bytes(b"canister/")?;
     name.bytes(digits.bytes())?;
     name.bytes(b"/")?;
