@@ -1,5 +1,5 @@
 -- The command that a line spells.
-use Rattle.std.specs.Prelude.{ℕ, ◌≤◌, List, [], ◌∷◌, length, Option, Some, None}
+use Rattle.std.specs.Prelude.{◌≤◌, List, [], ◌∷◌, length, Option, Some, None}
 use Rattle.std.specs.Option.{option_map, option_and_then}
 use Rattle.format_spec.specs.Bytes.{Bytes}
 use Rattle.format_spec.specs.declared.limits.TheConstants.{MAX_MODULE, MAX_CERTIFIED, MAX_VALUE, MAX_READ}
@@ -10,7 +10,7 @@ use Rattle.script_text.specs.declared.keywords.Keyword.TheVariants.{Canister, Dr
 use Rattle.script_text.specs.declared.keywords.Keyword.TheVariants.{Put, Del, Read, Heights, Root, Manifest}
 use Rattle.script_text.specs.Keywords.{keyword_of}
 use Rattle.script_text.specs.Script.{words}
-use Rattle.script_text.specs.Words.{such_that, number_of, number_up_to, hex_of, hex_up_to, id_of, mem_of, height_or_live}
+use Rattle.script_text.specs.Words.{number_of, number_up_to, hex_of, hex_up_to, id_of, mem_of, height_or_live}
 use Rattle.script_text.specs.Words.{module_of, path_of}
 
 -- ---- what so many words give, and none for another number of them

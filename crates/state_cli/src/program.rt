@@ -39,7 +39,16 @@ fn close<K: Sink>(sink: &mut K, stop: Stop) -> Status
     status
 }
 
-/// Runs the program over the words of its command line, a source and a sink.
+/// Runs the program: takes a script from a source, line by line, and gives the sink the reply to each line before it
+/// takes the next. `words` are those behind the program's name; there is none that the program takes.
+///
+/// - `Done`: the source is at its end, and every line is answered.
+/// - `Usage`: there is a word. Nothing is taken, and the usage line is given.
+/// - `LongLine`: a line has more than 262,144 bytes. `ManyLines`: there is a byte behind 1,000,000 lines.
+/// - `ReadFault`, `WriteFault`: the source or the sink failed, and its count of faults rose.
+/// - `Memory`: there was no memory.
+///
+/// At a stop the lines before are answered, and a last line names it, but after `WriteFault`.
 pub fn run<S: Source, K: Sink>(
     alloc: Global,
     words: &[String],

@@ -1,7 +1,5 @@
 -- The manifest and the root of the live state.
-use Rattle.std.proofs.Common.{◌≡◌, ◌*◌, ℕ, List, [], ◌∷◌, ◌++◌, length, map, refl, ◌∙◌, ap, sym}
-use Rattle.std.proofs.lemmas.List.{map-append}
-use Rattle.std.specs.List.{flat_map}
+use Rattle.std.proofs.Common.{◌≡◌, ◌*◌, ℕ, List, [], ◌∷◌, length, map, refl, ◌∙◌, ap, sym}
 use Rattle.format_spec.specs.Bytes.{Bytes}
 use Rattle.format_spec.specs.declared.limits.TheConstants.{PAGE_SIZE}
 use Rattle.manifest.specs.Fits.{FitMemories}
@@ -12,7 +10,7 @@ use Rattle.state_spec.specs.Root.{MetaManifest, meta_of, root_of, root_of_meta}
 use Rattle.state_spec.specs.State.{State}
 use Rattle.script_text.specs.declared.reply.Reply.TheVariants as replies
 use Rattle.machine_spec.specs.HeightSteps.{counts_of}
-use Rattle.sys_state.specs.System.{System, part_of, part_of_record}
+use Rattle.sys_state.specs.System.{System, part_of}
 use Rattle.sys_state.specs.declared.record.CanisterRecord.{CanisterRecord}
 use Rattle.state_manager.specs.Sizes.{HaveSizes, sizes_of}
 

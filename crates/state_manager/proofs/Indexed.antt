@@ -1,12 +1,10 @@
 -- Heap and stable memory of a canister among all memories: their sizes and their bytes.
-use Rattle.std.proofs.Common.{◌≡◌, ◌<◌, ◌≤◌, ◌+◌, ◌-◌, ◌*◌, ℕ, List, [], ◌∷◌, ◌++◌, length, map, get_or, set, take, drop, refl, ◌∙◌, ap, sym, subst, arith, length-append}
+use Rattle.std.proofs.Common.{◌≡◌, ◌<◌, ◌+◌, ◌-◌, ◌*◌, ℕ, List, [], ◌∷◌, ◌++◌, length, map, get_or, set, take, drop, refl, ◌∙◌, ap, sym, subst, arith, length-append}
 use Rattle.std.proofs.Math.Seq.{get_or-append_seam, set-append_seam, map-set_same}
 use Rattle.std.proofs.lemmas.List.{get_or-append-add, set-append_right, get_or-map, map-set, length-map, map-append, take-map, drop-map}
 use Rattle.std.proofs.lemmas.List.Concat.{flat_map-append}
-use Rattle.std.specs.List.{flat_map}
 use Rattle.format_spec.specs.Bytes.{Bytes}
 use Rattle.format_spec.specs.declared.limits.TheConstants.{PAGE_SIZE}
-use Rattle.state_spec.specs.State.{Canister}
 use Rattle.std.proofs.Common.{Some}
 use Rattle.std.specs.FinMap.{find}
 use Rattle.format_spec.specs.Bytes.{bytes_cmp}

@@ -1,12 +1,12 @@
 -- A manager whose live state has changed keeps the machine with the changed state.
-use Rattle.std.proofs.Common.{◌≡◌, ◌+◌, ◌*◌, ℕ, true, false, List, [], ◌∷◌, ◌++◌, length, map, set, take, drop, Option, Some, None, refl, ◌∙◌, ap, sym, subst, arith}
+use Rattle.std.proofs.Common.{◌≡◌, ◌*◌, ℕ, List, [], ◌∷◌, ◌++◌, length, take, drop, Option, Some, None, refl, ◌∙◌, ap, sym, subst, arith}
 use Rattle.std.proofs.lemmas.List.{length-map}
 use Rattle.std.proofs.lemmas.List.Concat.{flat_map-append}
-use Rattle.std.specs.FinMap.{find, put, is_sorted}
+use Rattle.std.specs.FinMap.{put}
 use Rattle.std.specs.List.{flat_map}
 use Rattle.std.specs.Option.{is_some, option_map}
 use Rattle.format_spec.specs.Bytes.{Bytes, bytes_cmp}
-use Rattle.state_spec.specs.State.{State, Canister, memory_bytes}
+use Rattle.state_spec.specs.State.{State, Canister}
 use Rattle.sys_state.specs.Calls as calls
 use Rattle.sys_state.specs.Places.{place_of}
 use Rattle.sys_state.specs.System.{System, kept_of, record_of}
@@ -76,18 +76,18 @@ module _ (held now : Held) (m : Machine) (k : Keeps held m) (beside : SameBeside
       let nb : Canister = newborn held.height in
       let cs : Canisters = m.live.canisters in
       let new_is : put bytes_cmp id (record_of nb) (images record_of cs) ≡ c.split.before ++ (id, record_of nb) ∷ c.split.after =
-          ap (put bytes_cmp id (record_of nb)) there ∙ sym (ap (λ (s : System). s.canisters) c.now) ∙ c.split.new_is in
+      ap (put bytes_cmp id (record_of nb)) there ∙ sym (ap (λ (s : System). s.canisters) c.now) ∙ c.split.new_is in
       let split = comes record_of id nb cs c.split.before c.split.after k.sorted (there ∙ c.split.old_is) new_is in
       let at : ℕ = 2 * place_of bytes_cmp id held.system.canisters in
       let count : length (bytes_in split.front) ≡ at = length-bytes split.front ∙ ap (λ n. 2 * n) (in_front split.front c.split.before split.front_is ∙ c.split.count) in
       let bytes : held.memories ≡ bytes_in split.front ++ bytes_in split.back = k.memories ∙ ap bytes_in split.whole ∙ bytes-append split.front split.back in
       let all : now.memories ≡ bytes_in (put bytes_cmp id nb cs) =
-          memories
-          ∙ ap (λ (ms : List Bytes). take at ms ++ ([] ∷ [] ∷ drop at ms)) bytes
-          ∙ ap (λ (ms : List Bytes). ms ++ ([] ∷ [] ∷ drop at (bytes_in split.front ++ bytes_in split.back))) (take_front (bytes_in split.front) (bytes_in split.back) at count)
-          ∙ ap (λ (ms : List Bytes). bytes_in split.front ++ ([] ∷ [] ∷ ms)) (drop_front (bytes_in split.front) (bytes_in split.back) at count)
-          ∙ sym (bytes-append split.front ((id, nb) ∷ split.back))
-          ∙ sym (ap bytes_in (split.put_is nb)) in
+      memories
+      ∙ ap (λ (ms : List Bytes). take at ms ++ ([] ∷ [] ∷ drop at ms)) bytes
+      ∙ ap (λ (ms : List Bytes). ms ++ ([] ∷ [] ∷ drop at (bytes_in split.front ++ bytes_in split.back))) (take_front (bytes_in split.front) (bytes_in split.back) at count)
+      ∙ ap (λ (ms : List Bytes). bytes_in split.front ++ ([] ∷ [] ∷ ms)) (drop_front (bytes_in split.front) (bytes_in split.back) at count)
+      ∙ sym (bytes-append split.front ((id, nb) ∷ split.back))
+      ∙ sym (ap bytes_in (split.put_is nb)) in
       let keeps : Keeps now (record m { live = with_canister m.live id nb }) = record {
         usable = beside.closed ∙ k.usable;
         version = k.version;
@@ -110,12 +110,12 @@ module _ (held now : Held) (m : Machine) (k : Keeps held m) (beside : SameBeside
       let rest : List Bytes = split.value.heap.bytes ∷ split.value.stable.bytes ∷ bytes_in split.back in
       let bytes : held.memories ≡ bytes_in split.front ++ rest = k.memories ∙ ap bytes_in split.whole ∙ bytes-append split.front ((id, split.value) ∷ split.back) in
       let all : now.memories ≡ bytes_in (calls.without bytes_cmp id cs) =
-          memories
-          ∙ ap (λ (ms : List Bytes). take at ms ++ drop 2 (drop at ms)) bytes
-          ∙ ap (λ (ms : List Bytes). ms ++ drop 2 (drop at (bytes_in split.front ++ rest))) (take_front (bytes_in split.front) rest at count)
-          ∙ ap (λ (ms : List Bytes). bytes_in split.front ++ drop 2 ms) (drop_front (bytes_in split.front) rest at count)
-          ∙ sym (bytes-append split.front split.back)
-          ∙ sym (ap bytes_in split.without_is) in
+      memories
+      ∙ ap (λ (ms : List Bytes). take at ms ++ drop 2 (drop at ms)) bytes
+      ∙ ap (λ (ms : List Bytes). ms ++ drop 2 (drop at (bytes_in split.front ++ rest))) (take_front (bytes_in split.front) rest at count)
+      ∙ ap (λ (ms : List Bytes). bytes_in split.front ++ drop 2 ms) (drop_front (bytes_in split.front) rest at count)
+      ∙ sym (bytes-append split.front split.back)
+      ∙ sym (ap bytes_in split.without_is) in
       record {
         usable = beside.closed ∙ k.usable;
         version = k.version;
@@ -136,7 +136,7 @@ module _ (held now : Held) (m : Machine) (k : Keeps held m) (beside : SameBeside
       let value : split.value ≡ c = cc (split.found, found) in
       let count : length split.front ≡ place_of bytes_cmp id held.system.canisters = in_front split.front done.split.before split.front_is ∙ done.split.count in
       let bytes : held.memories ≡ bytes_in split.front ++ c.heap.bytes ∷ c.stable.bytes ∷ bytes_in split.back =
-          k.memories ∙ ap bytes_in split.whole ∙ bytes-append split.front ((id, split.value) ∷ split.back) ∙ ap (λ (x : Canister). bytes_in split.front ++ x.heap.bytes ∷ x.stable.bytes ∷ bytes_in split.back) value in
+      k.memories ∙ ap bytes_in split.whole ∙ bytes-append split.front ((id, split.value) ∷ split.back) ∙ ap (λ (x : Canister). bytes_in split.front ++ x.heap.bytes ∷ x.stable.bytes ∷ bytes_in split.back) value in
       let changed : change done.c ≡ record_of new = ap change (sym split.value_is ∙ ap record_of value) ∙ sym same in
       record {
         usable = beside.closed ∙ k.usable;

@@ -1,27 +1,25 @@
 -- Each line's step beside what the manager does for it.
-use Rattle.std.proofs.Common.{◌≡◌, ◌≤◌, ◌<◌, ◌+◌, ◌-◌, ◌*◌, ℕ, Bool, List, [], ◌∷◌, ◌++◌, length, map, set, take, drop, Option, Some, None, Result, Ok, Err, refl, ◌∙◌, ap, sym, subst, nat_le, nat_lt, not, ◌&&◌}
+use Rattle.std.proofs.Common.{◌≡◌, ◌*◌, Bool, List, [], ◌∷◌, ◌++◌, length, take, drop, Option, Some, None, Result, refl, ◌∙◌, ap, subst, nat_le, not, ◌&&◌}
 use Rattle.std.specs.FinMap.{find, put}
-use Rattle.std.specs.Option.{is_some, option_map}
+use Rattle.std.specs.Option.{is_some}
 use Rattle.std.specs.Prelude.{if◌then◌else◌}
 use Rattle.byte_codec.specs.declared.error.NoMemory.{NoMemory}
 use Rattle.format_spec.specs.Bytes.{Bytes, bytes_cmp, path_cmp}
 use Rattle.format_spec.specs.declared.limits.TheConstants.{MAX_CANISTERS, MAX_ENTRIES}
-use Rattle.state_spec.specs.State.{State, Canister, SystemPart, system_of, is_reserved}
+use Rattle.state_spec.specs.State.{is_reserved}
 use Rattle.sys_state.specs.Calls as calls
 use Rattle.sys_state.specs.Places.{place_of}
-use Rattle.sys_state.specs.System.{System, kept_of, part_of, record_of}
-use Rattle.sys_state.specs.declared.error.SysError.{SysError}
+use Rattle.sys_state.specs.System.{System}
 use Rattle.sys_state.specs.declared.error.SysError.TheVariants as errors
-use Rattle.sys_state.specs.declared.record.CanisterRecord.{CanisterRecord}
 use Rattle.script_text.specs.declared.reply.Reply.{Reply}
 use Rattle.script_text.specs.declared.reply.Refusal.TheVariants as refusals
 use Rattle.machine_spec.specs.LiveSteps.{canister_step, drop_step, module_step, certify_step, put_step}
-use Rattle.machine_spec.specs.Machine.{Machine, Outcome, now_live}
+use Rattle.machine_spec.specs.Machine.{Machine, now_live}
 use Rattle.machine_spec.specs.States.{canister_in, with_canister, without_canister, newborn}
 use Rattle.state_manager.specs.Changes.{Alters}
 use Rattle.state_manager.specs.Kept.{Held, Keeps, After}
-use Rattle.state_manager.proofs.Keeping.{SameBeside, is_found, found_there, length-kept, kept_same, kept_create, kept_remove, kept_change, bytes_in, Canisters}
-use Rattle.state_manager.proofs.Stepped.{alters_one, alters_two, alters_three, alters_found}
+use Rattle.state_manager.proofs.Keeping.{SameBeside, is_found, length-kept, kept_same, kept_create, kept_remove, kept_change}
+use Rattle.state_manager.proofs.Stepped.{alters_two, alters_three, alters_found}
 
 abbrev pub Same : Held → Held → Type 0
 Same old now = (now.system ≡ old.system) × (now.memories ≡ old.memories)
@@ -86,11 +84,14 @@ module _ (old now : Held) (m : Machine) (k : Keeps old m) (beside : SameBeside o
       alters_three (is_reserved path) (calls.has_conflict m.live.entries path) (not (is_some (find path_cmp path m.live.entries)) && nat_le MAX_ENTRIES (length m.live.entries))
       errors.Reserved errors.PathConflict errors.TreeFull refusals.Reserved refusals.PathConflict refusals.TreeFull result now m
       (λ m. now_live m (record m.live { entries = put path_cmp path value m.live.entries })) done (Same old now) refl refl refl g same
-      (λ d. (refl, record {
-        usable = beside.closed ∙ k.usable;
-        version = k.version;
-        sorted = k.sorted;
-        system = d.0 ∙ ap (λ (s : System). calls.with_entry s path value) k.system;
-        memories = d.1 ∙ k.memories;
-        height = beside.height ∙ k.height;
-      }))
+      (λ d. (
+        refl,
+        record {
+          usable = beside.closed ∙ k.usable;
+          version = k.version;
+          sorted = k.sorted;
+          system = d.0 ∙ ap (λ (s : System). calls.with_entry s path value) k.system;
+          memories = d.1 ∙ k.memories;
+          height = beside.height ∙ k.height;
+        },
+      ))

@@ -1,8 +1,7 @@
 -- The steps of `grow`, `write` and `read` beside what the manager does.
-use Rattle.std.proofs.Common.{◌≡◌, ◌≤◌, ◌<◌, ◌+◌, ◌-◌, ◌*◌, ◌==◌, max, ℕ, Bool, true, false, List, [], ◌∷◌, ◌++◌, length, map, get_or, set, take, drop, Option, Some, None, Result, Ok, Err, refl, ◌∙◌, ap, sym, subst, arith, nat_lt}
+use Rattle.std.proofs.Common.{◌≡◌, ◌≤◌, ◌<◌, ◌+◌, ◌-◌, ◌*◌, ◌==◌, max, ℕ, Bool, true, false, List, [], ◌∷◌, ◌++◌, length, map, get_or, set, take, drop, Option, Some, None, Result, Ok, refl, ◌∙◌, ap, sym, subst, arith, nat_lt}
 use Rattle.std.proofs.lemmas.Bool.{le-ltb, ltb-false, lt-ltb}
-use Rattle.std.specs.FinMap.{find}
-use Rattle.std.specs.Option.{is_some, option_map}
+use Rattle.std.specs.Option.{option_map}
 use Rattle.std.specs.Prelude.{if◌then◌else◌}
 use Rattle.byte_codec.specs.declared.error.NoMemory.{NoMemory}
 use Rattle.format_spec.specs.Bytes.{Bytes, bytes_cmp}
@@ -11,7 +10,7 @@ use Rattle.state_spec.specs.State.{State, Canister, CanisterPart, Memory, System
 use Rattle.std.proofs.lemmas.List.{length-map}
 use Rattle.script_text.specs.declared.command.HeightOrLive.TheVariants.{Live}
 use Rattle.script_text.specs.declared.reply.Reply.TheVariants as replies
-use Rattle.state_spec.specs.Memory.{read, grow, write, zeros, pages_for, extended, overwritten}
+use Rattle.state_spec.specs.Memory.{read, grow, write, zeros, pages_for}
 use Rattle.state_spec.proofs.Memories.{grow_pages, write_pages, write_bytes, write_none}
 use Rattle.sys_state.specs.Calls as calls
 use Rattle.sys_state.specs.Places.{place_of, Stands}
@@ -33,7 +32,7 @@ use Rattle.state_manager.specs.Kept.{Held, Keeps, After}
 use Rattle.state_manager.specs.Memories.{pages_more, written, write_refusal}
 use Rattle.state_manager.specs.Places.{index_of}
 use Rattle.state_manager.proofs.Indexed.{pick, heap_with, stable_with, pair_get, pair_set}
-use Rattle.state_manager.proofs.Keeping.{SameBeside, found_there, kept_same, kept_change, bytes_in, Canisters, length-bytes, bytes-append}
+use Rattle.state_manager.proofs.Keeping.{SameBeside, found_there, kept_same, kept_change, bytes_in, length-bytes, bytes-append}
 use Rattle.state_manager.proofs.Splits.{stays}
 use Rattle.state_manager.proofs.Lines.{Same}
 use Rattle.state_manager.proofs.Stepped.{alters_two}
@@ -109,9 +108,9 @@ module _ (old now : Held) (m : Machine) (k : Keeps old m) (beside : SameBeside o
       let n : ℕ = place_of bytes_cmp id old.system.canisters in
       kept_change old now m k beside id (calls.extended mem more) c (with_memory c mem new) found (record_with mem c new more pages) done
       (λ front back count all.
-          let at : length (bytes_in front) ≡ 2 * n = length-bytes front ∙ ap (λ (j : ℕ). 2 * j) count in
-          let was : get_or old.memories (index_of n mem) [] ≡ (memory_of c mem).bytes = ap (λ (ms : List Bytes). get_or ms (index_of n mem) []) all ∙ pair_get (bytes_in front) (bytes_in back) c.heap.bytes c.stable.bytes [] n mem at ∙ picked mem c in
-          memories ∙ ap (λ (ms : List Bytes). set ms (index_of n mem) x) all ∙ pair_set (bytes_in front) (bytes_in back) c.heap.bytes c.stable.bytes x n mem at ∙ replaced mem c new (bytes_in front) (bytes_in back) x (bytes was))
+      let at : length (bytes_in front) ≡ 2 * n = length-bytes front ∙ ap (λ (j : ℕ). 2 * j) count in
+      let was : get_or old.memories (index_of n mem) [] ≡ (memory_of c mem).bytes = ap (λ (ms : List Bytes). get_or ms (index_of n mem) []) all ∙ pair_get (bytes_in front) (bytes_in back) c.heap.bytes c.stable.bytes [] n mem at ∙ picked mem c in
+      memories ∙ ap (λ (ms : List Bytes). set ms (index_of n mem) x) all ∙ pair_set (bytes_in front) (bytes_in back) c.heap.bytes c.stable.bytes x n mem at ∙ replaced mem c new (bytes_in front) (bytes_in back) x (bytes was))
 
   -- the canister of the machine
   its_canister : (r : CanisterRecord) → calls.canister_in old.system id ≡ Some r → (c : Canister) × (canister_in m.live id ≡ Some c) × (record_of c ≡ r)

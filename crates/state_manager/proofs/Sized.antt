@@ -1,5 +1,5 @@
 -- The sizes of memories after each change.
-use Rattle.std.proofs.Common.{◌≡◌, ◌<◌, ◌≤◌, ◌+◌, ◌-◌, ◌*◌, ◌==◌, max, ℕ, Bool, true, false, List, [], ◌∷◌, ◌++◌, length, map, get_or, set, take, drop, Option, Some, None, Result, Ok, Err, refl, ◌∙◌, ap, sym, subst, arith, length-append}
+use Rattle.std.proofs.Common.{◌≡◌, ◌<◌, ◌+◌, ◌-◌, ◌*◌, max, ℕ, List, [], ◌∷◌, ◌++◌, length, map, get_or, set, take, drop, Option, Some, None, Result, refl, ◌∙◌, ap, sym, subst, arith, length-append}
 use Rattle.std.proofs.lemmas.List.{length-replicate, length-map, get_or-map}
 use Rattle.std.specs.FinMap.{find}
 use Rattle.std.specs.Option.{IfSome}
@@ -7,7 +7,7 @@ use Rattle.byte_codec.specs.declared.error.NoMemory.{NoMemory}
 use Rattle.format_spec.specs.Bytes.{Bytes, bytes_cmp}
 use Rattle.format_spec.specs.declared.limits.TheConstants.{PAGE_SIZE}
 use Rattle.state_spec.specs.State.{Memory}
-use Rattle.state_spec.specs.Memory.{zeros, pages_for, write}
+use Rattle.state_spec.specs.Memory.{zeros, pages_for}
 use Rattle.state_spec.proofs.Memories.{write_length}
 use Rattle.sys_state.specs.Calls as calls
 use Rattle.sys_state.specs.Places.{place_of, Stands}
@@ -61,7 +61,7 @@ module _ {V : Type 0} (bytes : V → Bytes) (vs : List V) (old new : System) (id
   after_grow why result more a =
       alters_keeps why result (calls.Changes old new id (calls.extended mem more) × (bytes v ≡ bytes (get_or vs (index_of n mem) d) ++ zeros (more * PAGE_SIZE))) ((new ≡ old) × (bytes v ≡ bytes (get_or vs (index_of n mem) d))) (HaveSizes new.canisters (map bytes (set vs (index_of n mem) v))) a
       (λ g. sized_change old new id n mem more (map bytes vs) (map bytes (set vs (index_of n mem) v)) (bytes v) h g.0 s.place
-          (λ c f. ap length g.1 ∙ length-append (bytes (get_or vs (index_of n mem) d)) (zeros (more * PAGE_SIZE)) ∙ omega (arith, (vector_size bytes vs old id n mem d c h s f).1, length-replicate {A = ℕ})) (set_bytes bytes vs (index_of n mem) v))
+      (λ c f. ap length g.1 ∙ length-append (bytes (get_or vs (index_of n mem) d)) (zeros (more * PAGE_SIZE)) ∙ omega (arith, (vector_size bytes vs old id n mem d c h s f).1, length-replicate {A = ℕ})) (set_bytes bytes vs (index_of n mem) v))
       (λ g. sized_same old new (map bytes vs) (map bytes (set vs (index_of n mem) v)) h g.0 (set_same bytes vs (index_of n mem) v d g.1))
 
   pub after_write : (why : Option SysError) (result : Result Reply NoMemory) (p at : ℕ) (w : Bytes) → p * PAGE_SIZE ≡ length (bytes (get_or vs (index_of n mem) d))
@@ -70,8 +70,8 @@ module _ {V : Type 0} (bytes : V → Bytes) (vs : List V) (old new : System) (id
   after_write why result p at w pages a =
       alters_keeps why result (calls.Changes old new id (calls.extended mem (pages_more p at (length w))) × (bytes v ≡ written (bytes (get_or vs (index_of n mem) d)) at w)) ((new ≡ old) × (bytes v ≡ bytes (get_or vs (index_of n mem) d))) (HaveSizes new.canisters (map bytes (set vs (index_of n mem) v))) a
       (λ g. sized_change old new id n mem (pages_more p at (length w)) (map bytes vs) (map bytes (set vs (index_of n mem) v)) (bytes v) h g.0 s.place
-          (λ c f. let same : calls.pages_of mem c ≡ p = omega (arith, (vector_size bytes vs old id n mem d c h s f).1, pages) in
-              ap length g.1 ∙ length_written (bytes (get_or vs (index_of n mem) d)) p at w (sym pages) ∙ ap (λ (q : ℕ). (q + pages_more p at (length w)) * PAGE_SIZE) (sym same)) (set_bytes bytes vs (index_of n mem) v))
+      (λ c f. let same : calls.pages_of mem c ≡ p = omega (arith, (vector_size bytes vs old id n mem d c h s f).1, pages) in
+      ap length g.1 ∙ length_written (bytes (get_or vs (index_of n mem) d)) p at w (sym pages) ∙ ap (λ (q : ℕ). (q + pages_more p at (length w)) * PAGE_SIZE) (sym same)) (set_bytes bytes vs (index_of n mem) v))
       (λ g. sized_same old new (map bytes vs) (map bytes (set vs (index_of n mem) v)) h g.0 (set_same bytes vs (index_of n mem) v d g.1))
 
   -- ---- the memory at an index of the vector

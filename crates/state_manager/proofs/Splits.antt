@@ -1,11 +1,10 @@
 -- Canisters with memories beside canisters without, entry by entry.
-use Rattle.std.proofs.Common.{◌≡◌, Bool, true, false, not, cond, T, List, [], ◌∷◌, ◌++◌, ◌&&◌, length, map, Option, Some, None, refl, ◌∙◌, ap, sym, subst}
+use Rattle.std.proofs.Common.{◌≡◌, Bool, true, false, not, cond, T, List, [], ◌∷◌, ◌++◌, ◌&&◌, map, Some, refl, ◌∙◌, ap, sym, subst}
 use Rattle.std.specs.FinMap.{find, put, is_sorted}
-use Rattle.std.specs.FinMap.Entries.{below_all, by_order, is_sorted-put, is_sorted-where_key, where_key}
+use Rattle.std.specs.FinMap.Entries.{below_all, by_order, is_sorted-put, is_sorted-where_key}
 use Rattle.std.specs.Cmp.Lexicographic.{nat_list_cmp_total}
-use Rattle.std.specs.List.{AllByRecursion}
 use Rattle.std.specs.Option.{option_map}
-use Rattle.std.specs.Ordering.{is_lt, is_eq, eq_by_cmp}
+use Rattle.std.specs.Ordering.{is_lt, eq_by_cmp}
 use Rattle.std.specs.declared.cmp.Ordering.{Ordering}
 use Rattle.std.specs.declared.cmp.Ordering.TheVariants.{Less, Equal, Greater}
 use Rattle.format_spec.specs.Bytes.{Bytes, bytes_cmp}
@@ -103,7 +102,7 @@ module _ {X Y : Type 0} (f : X → Y) where
   comes key v es before after sorted split now =
       let c = cut es before after split in
       let new_sorted : is_sorted bytes_cmp (before ++ (key, f v) ∷ after) ≡ true =
-          ap (is_sorted bytes_cmp) (sym now ∙ sym (put_images key v es)) ∙ sorted_images (put bytes_cmp key v es) ∙ sorted-put key v es sorted in
+      ap (is_sorted bytes_cmp) (sym now ∙ sym (put_images key v es)) ∙ sorted_images (put bytes_cmp key v es) ∙ sorted-put key v es sorted in
       let parts = parted bytes_cmp nat_list_cmp_total before (key, f v) after new_sorted in
       let below = below_from_images key c.front (subst (Below bytes_cmp nat_list_cmp_total key) (sym c.front_is) parts.0) in
       let above = above_from_images key c.back (subst (Above bytes_cmp nat_list_cmp_total key) (sym c.back_is) parts.1) in

@@ -1,19 +1,16 @@
 -- The steps of the machine beside what the manager does.
-use Rattle.std.proofs.Common.{◌≡◌, ◌≤◌, ◌<◌, ◌+◌, ◌-◌, ◌*◌, ℕ, Bool, true, false, List, [], ◌∷◌, ◌++◌, length, map, get_or, set, take, drop, Option, Some, None, Result, Ok, Err, refl, ◌∙◌, ap, sym, subst, arith}
-use Rattle.std.specs.FinMap.{find, put, is_sorted}
-use Rattle.std.specs.Option.{is_some, option_map}
+use Rattle.std.proofs.Common.{◌≡◌, Bool, true, false, [], ◌∷◌, Option, Some, None, Result, Ok, Err, refl, ◌∙◌, subst}
+use Rattle.std.specs.Option.{is_some}
 use Rattle.std.specs.Prelude.{if◌then◌else◌}
 use Rattle.std.specs.Result.{OnOk, OnErr}
 use Rattle.byte_codec.specs.declared.error.NoMemory.{NoMemory}
-use Rattle.format_spec.specs.Bytes.{Bytes, bytes_cmp}
 use Rattle.sys_state.specs.Calls as calls
 use Rattle.sys_state.specs.declared.error.SysError.{SysError}
 use Rattle.sys_state.specs.declared.error.SysError.TheVariants as errors
 use Rattle.script_text.specs.declared.reply.Reply.{Reply}
 use Rattle.script_text.specs.declared.reply.Reply.TheVariants.{Fine, Refused}
 use Rattle.script_text.specs.declared.reply.Refusal.{Refusal}
-use Rattle.script_text.specs.declared.reply.Refusal.TheVariants.{NoCanister}
-use Rattle.machine_spec.specs.Machine.{Machine, Outcome, answered, unless, unless_none}
+use Rattle.machine_spec.specs.Machine.{Machine, Outcome, unless, unless_none}
 use Rattle.state_manager.specs.Changes.{refusal_of, Refuses, Answers, Alters}
 use Rattle.state_manager.specs.Kept.{Held, Keeps, After}
 

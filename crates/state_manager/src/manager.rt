@@ -105,6 +105,7 @@ impl Manager {
         let Ok(place) = self.sys.place(id) else {
             return Ok(Reply::Refused(Refusal::NoCanister));
         };
+        // Its contract bounds the pages that the memory has.
         let _pages = self.sys.pages(id, mem);
         let memory = &mut self.memories[memory_index(place, mem)];
         write_memory(&mut self.sys, memory, id, mem, offset, bytes)
@@ -258,6 +259,7 @@ impl Manager {
         }
     }
 
+    // What each line does.
     fn perform(&mut self, alloc: Global, command: &Command) -> Result<Reply, NoMemory>
         requires { FitsForm command.now }
         ensures step { (m : Machine) → Keeps self.old m → Performs result self.new m command.now }

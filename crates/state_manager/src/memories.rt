@@ -101,7 +101,9 @@ fn missing_pages(length: usize, at: usize, n: usize) -> u64
     if n == 0 {
         return 0;
     }
-    (at + n).div_ceil(PAGE_SIZE).saturating_sub(length / PAGE_SIZE) as u64
+    (at + n)
+        .div_ceil(PAGE_SIZE)
+        .saturating_sub(length / PAGE_SIZE) as u64
 }
 
 // Writes bytes into a memory that has room for them, and grows it to hold them.

@@ -1,4 +1,4 @@
-use Rattle.std.proofs.Common.{◌≡◌, ℕ, length, ap, arith}
+use Rattle.std.proofs.Common.{◌≡◌, length, ap, arith}
 use Rattle.state_spec.specs.Manifest.{Manifest}
 use Rattle.state_spec.specs.Root.{MetaManifest}
 use Rattle.state_manager.proofs.Hashed.{counts_are}

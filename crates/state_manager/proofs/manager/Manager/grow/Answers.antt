@@ -1,20 +1,9 @@
-use Rattle.std.proofs.Common.{◌≡◌, ◌<◌, ◌*◌, ◌+◌, ◌/◌, ◌++◌, List, ℕ, Vec, Global, [], map, length, get_or, set, Some, None, sym, subst, refl, ap, ◌∙◌, arith}
+use Rattle.std.proofs.Common.{◌≡◌, ℕ, length, get_or, sym, subst, refl, ap, ◌∙◌, arith}
 use Rattle.std.specs.Vec.{vec_len}
-use Rattle.std.proofs.lemmas.List.{get_or-map}
-use Rattle.format_spec.specs.Bytes.{Bytes, bytes_cmp}
-use Rattle.format_spec.specs.declared.limits.TheConstants.{PAGE_SIZE}
-use Rattle.state_spec.specs.Memory.{zeros}
 use Rattle.sys_state.specs.Calls as calls
-use Rattle.sys_state.specs.Places.{place_of}
-use Rattle.sys_state.specs.System.{System}
-use Rattle.state_manager.specs.Changes.{Alters}
 use Rattle.state_manager.specs.Kept.{Held, Keeps}
-use Rattle.state_manager.specs.Memories.{pages_more, written, write_refusal}
-use Rattle.state_manager.specs.Places.{index_of}
-use Rattle.state_manager.proofs.Indexed.{set_bytes, set_same}
 use Rattle.state_manager.proofs.MemoryLines.{step_grow, absent_there}
 use Rattle.state_manager.proofs.Sized.{is_within, has_pages, keeps_grow, steps_grow}
-use Rattle.state_manager.proofs.Stepped.{alters_map}
 use Rattle.state_manager.proofs.manager.Manager.grow.Goals as goal
 
 pub returns-in_default-clause-step : goal.returns-in_default-clause-step

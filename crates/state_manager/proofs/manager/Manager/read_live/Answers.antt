@@ -1,5 +1,4 @@
-use Rattle.std.specs.Vec.{vec_len}
-use Rattle.std.proofs.Common.{◌≡◌, ◌<◌, ◌≤◌, ◌+◌, ◌-◌, List, ℕ, [], Ok, map, length, take, drop, get_or, sym, subst, ap, ◌∙◌, arith}
+use Rattle.std.proofs.Common.{◌≡◌, ◌<◌, ◌≤◌, ◌+◌, ◌-◌, ℕ, Ok, length, take, drop, subst, ap, ◌∙◌, arith}
 use Rattle.format_spec.specs.Bytes.{Bytes}
 use Rattle.script_text.specs.declared.command.Command.TheVariants as commands
 use Rattle.script_text.specs.declared.command.HeightOrLive.TheVariants.{Live}

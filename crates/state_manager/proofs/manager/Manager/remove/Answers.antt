@@ -1,4 +1,4 @@
-use Rattle.std.proofs.Common.{◌≡◌, ◌*◌, List, map, length, sym, subst, refl, arith}
+use Rattle.std.proofs.Common.{map, sym, subst, refl, arith}
 use Rattle.std.proofs.lemmas.List.{length-map}
 use Rattle.state_manager.specs.Kept.{Held, Keeps}
 use Rattle.state_manager.proofs.Indexed.{pair_for_each}

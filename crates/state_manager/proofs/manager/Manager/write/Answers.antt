@@ -1,23 +1,13 @@
 use Rattle.std.specs.Option.{IfSome, option_map}
 use Rattle.sys_state.specs.declared.mem.Mem.{Mem}
 use Rattle.sys_state.specs.declared.record.CanisterRecord.{CanisterRecord}
-use Rattle.std.proofs.Common.{Option, ◌≤◌, ◌≡◌, ◌<◌, ◌*◌, ◌+◌, ◌/◌, ◌++◌, List, ℕ, Vec, Global, [], map, length, get_or, set, Some, None, sym, subst, refl, ap, ◌∙◌, arith}
+use Rattle.std.proofs.Common.{Option, ◌≤◌, ◌≡◌, ◌/◌, ℕ, length, get_or, Some, None, sym, subst, refl, ap, ◌∙◌, arith}
 use Rattle.std.specs.Vec.{vec_len}
-use Rattle.std.proofs.lemmas.List.{get_or-map}
-use Rattle.format_spec.specs.Bytes.{Bytes, bytes_cmp}
 use Rattle.format_spec.specs.declared.limits.TheConstants.{PAGE_SIZE}
-use Rattle.state_spec.specs.Memory.{zeros}
 use Rattle.sys_state.specs.Calls as calls
-use Rattle.sys_state.specs.Places.{place_of}
-use Rattle.sys_state.specs.System.{System}
-use Rattle.state_manager.specs.Changes.{Alters}
 use Rattle.state_manager.specs.Kept.{Held, Keeps}
-use Rattle.state_manager.specs.Memories.{pages_more, written, write_refusal}
-use Rattle.state_manager.specs.Places.{index_of}
-use Rattle.state_manager.proofs.Indexed.{set_bytes, set_same}
 use Rattle.state_manager.proofs.MemoryLines.{step_write, absent_there}
 use Rattle.state_manager.proofs.Sized.{is_within, has_pages, keeps_write, steps_write}
-use Rattle.state_manager.proofs.Stepped.{alters_map}
 use Rattle.state_manager.proofs.manager.Manager.write.Goals as goal
 
 -- the pages of the memory, and that they are within the limit
@@ -46,7 +36,7 @@ invariant_of-self c =
     let memory = c.index_mut-memory.result.now in
     let count : vec_len memory ≡ length memory.items = omega arith in
     let pages = has_pages (λ v. v.items) c.self.inside.memories.items c.self.inside.sys c.self.inside.sys c.args.id.now c.in-Ok.place c.args.mem memory memory c.self.invariant c.in-Ok.ensures memory (vec_len memory) count
-        (c.index_mut-memory.ensures.value ∙ ap (λ (i : ℕ). get_or c.self.inside.memories.items i memory) c.memory_index.ensures) (Some c.in-Ok.ensures.value) c.in-Ok.ensures.found in
+    (c.index_mut-memory.ensures.value ∙ ap (λ (i : ℕ). get_or c.self.inside.memories.items i memory) c.memory_index.ensures) (Some c.in-Ok.ensures.value) c.in-Ok.ensures.found in
     keeps_write (λ v. v.items) c.self.inside.memories.items c.self.inside.sys c.write_memory.new.sys c.args.id.now c.in-Ok.place c.args.mem memory c.write_memory.new.memory c.self.invariant c.in-Ok.ensures
     c.memory_index.result c.memory_index.ensures c.index_mut-memory.ensures.value _ c.write_memory.result (vec_len memory / PAGE_SIZE) c.args.offset c.args.bytes.now (omega (arith, pages, count)) c.write_memory.ensures
 
@@ -55,7 +45,7 @@ returns-clause-step c = λ m k.
     let memory = c.index_mut-memory.result.now in
     let count : vec_len memory ≡ length memory.items = omega arith in
     let pages = has_pages (λ v. v.items) c.self.inside.memories.items c.self.inside.sys c.self.inside.sys c.args.id.now c.in-Ok.place c.args.mem memory memory c.self.invariant c.in-Ok.ensures memory (vec_len memory) count
-        (c.index_mut-memory.ensures.value ∙ ap (λ (i : ℕ). get_or c.self.inside.memories.items i memory) c.memory_index.ensures) (Some c.in-Ok.ensures.value) c.in-Ok.ensures.found in
+    (c.index_mut-memory.ensures.value ∙ ap (λ (i : ℕ). get_or c.self.inside.memories.items i memory) c.memory_index.ensures) (Some c.in-Ok.ensures.value) c.in-Ok.ensures.found in
     let few = sized (calls.canister_in c.self.inside.sys c.args.id.now) c.in-Ok.ensures.value c.pages-pages.result c.args.mem 65536 c.in-Ok.ensures.found c.pages-pages.ensures.value c.pages-pages.ensures.limit in
     step_write _ _ m (subst (λ (h : Held). Keeps h m) (sym c.self.view_is) k) (record { closed = refl; height = refl }) c.args.id.now c.args.mem c.args.offset (vec_len memory / PAGE_SIZE) c.args.bytes.now c.in-Ok.ensures.value c.write_memory.new.memory.items c.write_memory.result c.in-Ok.ensures.found
     (omega (arith, pages)) (omega (arith, pages, few))
