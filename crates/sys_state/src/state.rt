@@ -11,6 +11,7 @@ mod copying;
 mod decoding;
 mod encoding;
 mod entries;
+mod sizes;
 
 use crate::canister_id::CanisterId;
 use crate::path::Path;
