@@ -12,6 +12,7 @@ mod copying;
 mod decoding;
 mod encoding;
 mod entries;
+mod sizes;
 
 use crate::canister_id::CanisterId;
 use crate::mem::Mem;

@@ -13,7 +13,7 @@ pub loop-preserved : goal.loop-preserved
 loop-preserved c =
     let left : c.in-Ok.count - c.loop.counter ≡ suc (c.in-Ok.count - (c.loop.counter + 1)) = omega arith in
     let label : Bytes = c.in-Ok-string8.label.now in
-    let items : c.push.new.self.items ≡ c.loop.labels.items ++ label ∷ [] = c.in_ok-push.ensures.items ∙ ap (λ (l : Bytes). c.loop.labels.items ++ l ∷ []) c.in_ok-copy_of.ensures.copy in
+    let items : c.push.new.self.items ≡ c.loop.labels.items ++ label ∷ [] = rw c.in_ok-copy_of.ensures.copy at c.in_ok-push.ensures.items in
     rw items (one_more _ c.loop.labels.items label c.args.reader.now c.loop.reader c.string8.new.self (rw left at c.loop.invariant) (took string8 c.loop.reader label c.string8.new.self c.in-Ok-string8.ensures))
 
 pub returns : goal.returns
