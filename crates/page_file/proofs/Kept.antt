@@ -1,11 +1,10 @@
 -- What an index that is kept in memory is known to be.
-use Rattle.std.proofs.Common.{◌≡◌, ℕ, ◌+◌, ◌*◌, ◌≤◌, ◌==◌, inl, inr, List, [], ◌∷◌, ◌++◌, length, refl, sym, ◌∙◌, ap, subst, arith, length-append}
+use Rattle.std.proofs.Common.{◌≡◌, ℕ, ◌+◌, ◌*◌, ◌≤◌, ◌==◌, inl, inr, List, [], ◌∷◌, ◌++◌, length, sym, ◌∙◌, ap, subst, arith}
 use Rattle.std.proofs.lemmas.Bool.{cases_Bool}
 use Rattle.format_spec.specs.Bytes.{Bytes}
 use Rattle.store_spec.specs.PageFile.{PageIndex, IsIndex, runs_of, before_runs, index_text, index_length, ranges_text}
 use Rattle.page_file.specs.declared.index.FileIndex.TheInside.{Inside}
-use Rattle.page_file.specs.Ranges.{numbers_in, runs_in, AreRanges, text_of}
-use Rattle.page_file.specs.declared.range.Range.{Range}
+use Rattle.page_file.specs.Ranges.{AreRanges, text_of}
 use Rattle.page_file.specs.Index.{index_of, IsFileIndex, header_text}
 use Rattle.page_file.proofs.Runs.{runs_of_numbers, numbers_within, numbers_ascend, ranges_le_numbers, numbers_le_memory}
 use Rattle.page_file.proofs.Placed.{placed, length_placed, placed_are, numbers_placed, from_zero}

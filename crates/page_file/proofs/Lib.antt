@@ -9,3 +9,4 @@ pub mod Kept
 pub mod Spelled
 pub mod Written
 pub mod Opened
+pub mod Unique

@@ -1,18 +1,19 @@
 -- What is read of a page file.
-use Rattle.std.proofs.Common.{◌≡◌, ℕ, ◌+◌, ◌-◌, ◌*◌, ◌<◌, ◌≤◌, List, ◌++◌, length, take, drop, true, Option, Some, None, Result, Ok, Err, IfOk, IfSome, IsSomeAnd, append_assoc, refl, sym, ◌∙◌, ap, subst, arith, length-append}
+use Rattle.std.proofs.Common.{◌≡◌, ℕ, ◌+◌, ◌*◌, ◌<◌, ◌≤◌, ◌++◌, length, take, drop, true, Option, Some, None, Result, Ok, Err, IfOk, IfSome, IsSomeAnd, append_assoc, refl, sym, ◌∙◌, ap, subst, arith, length-append}
 use Rattle.std.specs.Option.{option_map}
 use Rattle.std.proofs.lemmas.List.{drop-drop, drop_at, take_at, take-append-drop, length-take, length-drop}
 use Rattle.std.proofs.lemmas.Bool.Decides.{nat_tests}
 use Rattle.format_spec.specs.Bytes.{Bytes}
-use Rattle.store_spec.specs.PageFile.{PageIndex, IsIndex, IsPageFile, index_text, index_length, file_length, page_at, runs_of, ranges_text}
+use Rattle.state_spec.specs.Memory.{page_at}
+use Rattle.store_spec.specs.PageFile.{PageIndex, IsPageFile, index_text, index_length, runs_of, ranges_text}
 use Rattle.disk_model.specs.declared.name.Name.TheVariants.{Page}
 use Rattle.disk_model.specs.Files.{Files}
 use Rattle.disk_model.specs.View.{DiskView}
 use Rattle.disk_model.specs.Looking.{OnlyLooks}
 use Rattle.page_file.specs.declared.error.PageError.{PageError}
 use Rattle.page_file.specs.declared.format.Header.{Header}
-use Rattle.page_file.specs.Index.{IsHeader, HasRanges, ReadsHeader, ReadsIndex, header_text, are_counts, length_of}
-use Rattle.page_file.specs.Files.{NumberedFile, HasPages, IsKept, IsBadPage, HasHeader, FindsHeader, FindsIndex}
+use Rattle.page_file.specs.Index.{IsHeader, HasRanges, ReadsHeader, ReadsIndex, header_text, are_counts}
+use Rattle.page_file.specs.Files.{NumberedFile, HasPages, IsKept, HasHeader, FindsHeader, FindsIndex}
 use Rattle.page_file.proofs.Kept.{pages_fit, some_run}
 use Rattle.page_file.proofs.Texts.{header_reads, length-index_text, index_is, length-header_text, length-ranges_text}
 
@@ -28,11 +29,10 @@ page_is_there files file n place offset size kept is whole at below =
 page_of : (text pages : Bytes) (i : PageIndex) (place offset : ℕ) → text ≡ index_text i ++ pages → offset ≡ index_length i + 4096 * place → take 4096 (drop offset text) ≡ page_at pages place
 page_of text pages i place offset is at =
     let from : 4096 * place ≡ place * 4096 = omega arith in
-    let size : 4096 ≡ place * 4096 + 4096 - place * 4096 = omega arith in
     ap (take 4096) (ap (λ n. drop n text) at ∙ sym (drop-drop (4096 * place) (index_length i) text) ∙ ap (λ l. drop (4096 * place) (drop (index_length i) l)) is ∙ ap (drop (4096 * place)) (drop_at (index_text i) pages (index_length i) (length-index_text i)))
-    ∙ (λ j. take (size j) (drop (from j) pages))
+    ∙ ap (λ n. take 4096 (drop n pages)) from
 
-same_text : (files : Files) (n m : ℕ) (a b : Bytes) → n ≡ m → files (Page n) ≡ Some a → files (Page m) ≡ Some b → a ≡ b
+pub same_text : (files : Files) (n m : ℕ) (a b : Bytes) → n ≡ m → files (Page n) ≡ Some a → files (Page m) ≡ Some b → a ≡ b
 same_text files n m a b is one other = let e : Some a ≡ Some b = sym one ∙ ap (λ k. files (Page k)) is ∙ other in cc
 
 pub page_read : (files : Files) (n place offset size : ℕ) (i : PageIndex) (pages into : Bytes) (file : NumberedFile) → HasPages files file.number i pages → n ≡ file.number → size ≡ 4096 → offset ≡ index_length i + 4096 * place
@@ -79,7 +79,7 @@ header_of files n size bytes o sized read reads = by_file (files (Page n)) refl 
             reads i.memory (length (runs_of i.numbers)) (length i.numbers) (subst (λ b. IsHeader i.memory (length (runs_of i.numbers)) (length i.numbers) b size) (ap (take 32) same ∙ sym read)
             (subst (IsHeader i.memory (length (runs_of i.numbers)) (length i.numbers) (take 32 has.text)) (ap length same ∙ sym long) header))
 
-header_same : (m r p k q s : ℕ) (bytes : Bytes) (a b : ℕ) → IsHeader m r p bytes a → IsHeader k q s bytes b → (m ≡ k) × (r ≡ q) × (p ≡ s)
+pub header_same : (m r p k q s : ℕ) (bytes : Bytes) (a b : ℕ) → IsHeader m r p bytes a → IsHeader k q s bytes b → (m ≡ k) × (r ≡ q) × (p ≡ s)
 header_same m r p k q s bytes a b one other =
     let of_one = header_reads m r p bytes a one in
     let of_other = header_reads k q s bytes b other in
@@ -87,7 +87,7 @@ header_same m r p k q s bytes a b one other =
 
 -- ---- the ranges behind it
 
-ranges_at : (m r p : ℕ) (text bytes : Bytes) (i : PageIndex) (pages : Bytes) → IsHeader m r p (take 32 text) (length text) → IsPageFile text i pages → bytes ≡ take (12 * r) (drop 32 text) → HasRanges m p bytes i
+pub ranges_at : (m r p : ℕ) (text bytes : Bytes) (i : PageIndex) (pages : Bytes) → IsHeader m r p (take 32 text) (length text) → IsPageFile text i pages → bytes ≡ take (12 * r) (drop 32 text) → HasRanges m p bytes i
 ranges_at m r p text bytes i pages header is read =
     let same = header_same (i.memory) (length (runs_of i.numbers)) (length i.numbers) m r p (take 32 text) (length text) (length text) (page_has_header text pages i is) header in
     let front = header_text i.memory (length (runs_of i.numbers)) (length i.numbers) in
@@ -105,7 +105,7 @@ runs_counted : (m r p : ℕ) (text bytes : Bytes) (i : PageIndex) → IsHeader m
 runs_counted m r p text bytes i header read has =
     omega (arith, ap length (sym has.text ∙ read), length-ranges_text 0 (runs_of i.numbers), length-take (12 * r) (drop 32 text), length-drop 32 text, header.whole)
 
-page_file_of : (m r p : ℕ) (text bytes : Bytes) (i : PageIndex) → IsHeader m r p (take 32 text) (length text) → bytes ≡ take (12 * r) (drop 32 text) → HasRanges m p bytes i → IsPageFile text i (drop (12 * r) (drop 32 text))
+pub page_file_of : (m r p : ℕ) (text bytes : Bytes) (i : PageIndex) → IsHeader m r p (take 32 text) (length text) → bytes ≡ take (12 * r) (drop 32 text) → HasRanges m p bytes i → IsPageFile text i (drop (12 * r) (drop 32 text))
 page_file_of m r p text bytes i header read has =
     let runs = runs_counted m r p text bytes i header read has in
     let front = header_text i.memory (length (runs_of i.numbers)) (length i.numbers) in

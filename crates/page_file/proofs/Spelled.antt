@@ -1,17 +1,17 @@
 -- An index from the text of its ranges.
-use Rattle.std.proofs.Common.{◌≡◌, ℕ, zero, suc, ◌+◌, ◌*◌, ◌<◌, ◌≤◌, ◌^◌, Bool, true, false, not, List, [], ◌∷◌, ◌++◌, length, take, drop, Option, Some, None, if◌then◌else◌, eqb, inl, inr, refl, sym, ◌∙◌, ap, subst, arith}
-use Rattle.std.specs.Int.{w32, to_be_bytes, from_be_bytes}
+use Rattle.std.proofs.Common.{◌≡◌, ℕ, ◌+◌, ◌*◌, ◌≤◌, Bool, true, false, not, List, [], ◌∷◌, length, Option, Some, None, if◌then◌else◌, eqb, inl, inr, refl, sym, ◌∙◌, ap, arith}
+use Rattle.std.specs.Int.{w32, from_be_bytes}
 use Rattle.std.specs.Option.{option_eq}
 use Rattle.std.proofs.lemmas.Nat.{from_be_bytes-to_be_bytes_4}
 use Rattle.std.proofs.lemmas.Bool.{cases_Bool, eqb-true, eq-eqb, false≢true, not-false}
 use Rattle.format_spec.specs.Bytes.{Bytes, be32}
-use Rattle.store_spec.specs.PageFile.{PageIndex, IsIndex, ranges_text, runs_of}
+use Rattle.store_spec.specs.PageFile.{PageIndex, ranges_text, runs_of}
 use Rattle.page_file.specs.declared.range.Range.{Range}
-use Rattle.page_file.specs.Ranges.{numbers_in, are_ranges, AreRanges, range_text, text_of, range_from, ranges_from}
+use Rattle.page_file.specs.Ranges.{numbers_in, are_ranges, AreRanges, text_of, ranges_from}
 use Rattle.page_file.specs.declared.index.FileIndex.TheInside.{Inside}
 use Rattle.page_file.specs.Index.{HasRanges, IsFileIndex, index_of, are_counts}
 use Rattle.page_file.proofs.Runs.{test, facts, runs_of_numbers}
-use Rattle.page_file.proofs.Placed.{placed, length_placed, numbers_placed}
+use Rattle.page_file.proofs.Placed.{placed, numbers_placed}
 use Rattle.page_file.proofs.Texts.{placed_text, length-text_of, counts_are, text_is}
 use Rattle.page_file.proofs.Kept.{ranges_are, is_index}
 

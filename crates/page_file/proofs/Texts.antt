@@ -1,14 +1,14 @@
 -- The texts of ranges and of an index.
-use Rattle.std.proofs.Common.{◌≡◌, ℕ, zero, suc, ◌+◌, ◌*◌, ◌<◌, ◌≤◌, ◌^◌, List, [], ◌∷◌, ◌++◌, length, take, drop, refl, sym, ◌∙◌, ap, subst, arith, length-append, append_assoc, Bool, true, false, ◌&&◌, bytes_eq, codes, ◌==◌, if◌then◌else◌}
-use Rattle.std.specs.Int.{w32, w64, to_be_bytes, from_be_bytes}
+use Rattle.std.proofs.Common.{◌≡◌, ℕ, suc, ◌+◌, ◌*◌, ◌≤◌, List, [], ◌∷◌, ◌++◌, length, take, drop, refl, sym, ◌∙◌, ap, subst, arith, length-append, Bool, true, false, ◌&&◌, bytes_eq, codes, ◌==◌, if◌then◌else◌}
+use Rattle.std.specs.Int.{w32, from_be_bytes}
 use Rattle.std.proofs.lemmas.Nat.{from_be_bytes-to_be_bytes_4}
 use Rattle.std.proofs.lemmas.Bool.{and_from, eq-eqb, false≢true}
 use Rattle.std.proofs.lemmas.Bool.Decides.{nat_tests}
 use Rattle.std.proofs.lemmas.Slice.Eq.{bytes_eq-Decides}
 use Rattle.format_spec.specs.Bytes.{Bytes, be32, be64}
-use Rattle.store_spec.specs.PageFile.{PageIndex, IsIndex, ranges_text, runs_of, index_text, index_length}
+use Rattle.store_spec.specs.PageFile.{PageIndex, ranges_text, runs_of, index_text, index_length}
 use Rattle.page_file.specs.declared.range.Range.{Range}
-use Rattle.page_file.specs.Ranges.{numbers_in, runs_in, AreRanges, range_text, text_of}
+use Rattle.page_file.specs.Ranges.{runs_in, AreRanges, text_of}
 use Rattle.page_file.specs.Index.{header_text, length_of, are_counts, IsHeader}
 use Rattle.page_file.proofs.Placed.{placed}
 use Rattle.page_file.proofs.Steps.{behind}

@@ -1,16 +1,16 @@
 -- What the calls of a writer leave.
-use Rattle.std.proofs.Common.{◌≡◌, ℕ, ◌+◌, ◌*◌, ◌≤◌, List, ◌++◌, length, Option, Some, false, Result, refl, sym, ◌∙◌, ap, subst, arith, append_assoc, length-append, unwrap_or}
+use Rattle.std.proofs.Common.{◌≡◌, ℕ, ◌+◌, ◌*◌, ◌++◌, length, false, Result, refl, sym, ◌∙◌, ap, subst, arith}
 use Rattle.format_spec.specs.Bytes.{Bytes}
-use Rattle.store_spec.specs.PageFile.{PageIndex, IsIndex, index_text, index_length, IsPageFile}
+use Rattle.store_spec.specs.PageFile.{PageIndex, IsIndex, index_text, index_length}
 use Rattle.disk_model.specs.declared.disk.DiskError.{DiskError}
 use Rattle.disk_model.specs.declared.name.Name.TheVariants.{Page}
 use Rattle.disk_model.specs.Files.{same_name}
-use Rattle.disk_model.specs.State.{DiskState, IsSettled, IsLoose, IsFirm}
+use Rattle.disk_model.specs.State.{DiskState, IsFirm}
 use Rattle.disk_model.specs.Call.{Call, append, create, seal, is_given}
 use Rattle.disk_model.specs.View.{DiskView, Done, Does}
 use Rattle.disk_model.specs.Laws.{IsSound, sealed_firm}
-use Rattle.disk_model.specs.Frame.{TouchesOnly, touches_call, done_settles}
-use Rattle.page_file.specs.Files.{NumberedFile, UnfinishedFile, HasPages, IsWriting, IsFinished}
+use Rattle.disk_model.specs.Frame.{TouchesOnly, touches_call}
+use Rattle.page_file.specs.Files.{NumberedFile, UnfinishedFile, IsWriting, IsFinished}
 use Rattle.page_file.proofs.Texts.{length-index_text}
 
 -- a call on one page file touches that file alone

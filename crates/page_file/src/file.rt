@@ -2,7 +2,8 @@
 ghost use Rattle.std.specs.Prelude.{◌≡◌, ◌+◌, ◌*◌, ◌<◌, ℕ, length, IsTrue, OnOk, IfOk, IfSome, IsErrOf};
 ghost use Rattle.format_spec.specs.declared.limits.TheConstants.{PAGE_SIZE, MAX_MEMORY_PAGES};
 ghost use Rattle.format_spec.specs.Bytes.{Bytes};
-ghost use Rattle.store_spec.specs.PageFile.{index_length, page_at};
+ghost use Rattle.state_spec.specs.Memory.{page_at};
+ghost use Rattle.store_spec.specs.PageFile.{PageIndex, index_length};
 ghost use Rattle.disk_model.specs.Looking.{OnlyLooks};
 ghost use Rattle.page_file.specs.Errors.{HasCause, NoBadPage};
 ghost use Rattle.page_file.specs.Index.{are_counts};
@@ -43,6 +44,7 @@ impl PageFile {
     /// BadPage exactly where the file is absent or its bytes are no page file, Fault where the disk failed, Memory where memory ran out.
     pub fn open<D: Disk>(alloc: Global, disk: &mut D, number: u64) -> Result<PageFile, PageError>
         ensures opened { IsTrue D.tells → IfOk result (λ file. IsKept (D.view disk.old).state.files file) }
+        ensures only { IsTrue D.tells → IfOk result (λ file. (i : PageIndex) (pages : Bytes) → HasPages (D.view disk.old).state.files number i pages → i ≡ file.index) }
         ensures bad { IsTrue D.tells → (n : ℕ) → IsErrOf result (PageError.BadPage n) → IsBadPage (D.view disk.old).state.files number }
         ensures numbers { (n : ℕ) → IsErrOf result (PageError.BadPage n) → n ≡ number }
         ensures number { IfOk result (λ file. file.number ≡ number) }

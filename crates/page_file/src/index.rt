@@ -121,7 +121,7 @@ impl FileIndex {
     }
 
     /// Where the page at this place begins in the file.
-    pub fn offset(&self, place: u32) -> u64
+    pub(crate) fn offset(&self, place: u32) -> u64
         ensures { result ≡ index_length self.now + PAGE_SIZE * place }
     {
         HEADER_SIZE as u64
@@ -130,7 +130,7 @@ impl FileIndex {
     }
 
     /// What stands before the pages.
-    pub fn text(&self, alloc: Global) -> Result<Blob, NoMemory>
+    pub(crate) fn text(&self, alloc: Global) -> Result<Blob, NoMemory>
         ensures text { IfOk result (λ text. text ≡ index_text self.now) }
         ensures index { OnOk result (IsIndex self.now) }
     {
@@ -146,7 +146,11 @@ impl FileIndex {
     }
 
     /// The index that a header and the text of its ranges spell. `None` where they spell none.
-    pub fn read(alloc: Global, header: Header, bytes: &[u8]) -> Result<Option<FileIndex>, NoMemory>
+    pub(crate) fn read(
+        alloc: Global,
+        header: Header,
+        bytes: &[u8],
+    ) -> Result<Option<FileIndex>, NoMemory>
         requires size { length bytes.now ≡ 12 * header.ranges }
         requires possible { IsTrue (are_counts header.memory header.ranges header.pages) }
         ensures { ReadsIndex header.memory header.pages bytes.now result }

@@ -1,5 +1,5 @@
-use Rattle.std.proofs.Common.{◌+◌, ◌*◌, ◌≤◌, IsTrue, IfSome, Option, Some, None, Ok, subst, arith}
-use Rattle.disk_model.specs.Looking.{OnlyLooks, looks_then, looks_more}
+use Rattle.std.proofs.Common.{◌+◌, ◌*◌, IsTrue, IfSome, Option, Ok, subst, arith}
+use Rattle.disk_model.specs.Looking.{looks_then, looks_more}
 use Rattle.page_file.specs.declared.format.Header.{Header}
 use Rattle.page_file.specs.Files.{FindsHeader}
 use Rattle.page_file.specs.Index.{are_counts}

@@ -1,7 +1,6 @@
-use Rattle.std.proofs.Common.{◌+◌, ◌*◌, ◌≡◌, ◌∙◌, ap, subst, sym, arith, length, drop, Option, Some, None, IfSome}
+use Rattle.std.proofs.Common.{◌*◌, ◌∙◌, subst, length, drop}
 use Rattle.disk_model.specs.declared.name.Name.TheVariants.{Page}
 use Rattle.disk_model.specs.Looking.{OnlyLooks, looks_call}
-use Rattle.store_spec.specs.PageFile.{PageIndex, index_length}
 use Rattle.page_file.proofs.Opened.{filled, index_of_file, index_counted}
 use Rattle.page_file.proofs.file.read_ranges.Goals as goal
 

@@ -1,6 +1,4 @@
-use Rattle.std.proofs.Common.{◌+◌, ◌*◌, ◌≡◌, ◌∙◌, ap, sym, arith, take, drop, ◌++◌, List, ◌∷◌, []}
-use Rattle.format_spec.specs.Bytes.{Bytes}
-use Rattle.page_file.specs.declared.range.Range.{Range}
+use Rattle.std.proofs.Common.{◌+◌, ◌*◌, ◌≡◌, ◌∙◌, ap, sym, arith, take, ◌++◌, ◌∷◌, []}
 use Rattle.page_file.specs.Ranges.{text_of}
 use Rattle.page_file.proofs.Parts.{take_both, ranges_push}
 use Rattle.page_file.proofs.Steps.{text_push}

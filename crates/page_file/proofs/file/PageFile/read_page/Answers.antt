@@ -1,4 +1,4 @@
-use Rattle.std.proofs.Common.{◌≡◌, ◌+◌, ◌*◌, ◌∙◌, ap, sym, subst, refl, length}
+use Rattle.std.proofs.Common.{◌+◌, ◌*◌, ◌∙◌, ap, length}
 use Rattle.store_spec.specs.PageFile.{index_length}
 use Rattle.page_file.specs.Files.{NumberedFile}
 use Rattle.page_file.proofs.Opened.{page_is_there, page_read}

@@ -1,4 +1,4 @@
-use Rattle.std.proofs.Common.{ℕ, ◌+◌, ◌-◌, ◌≤◌, ◌==◌, ◌∙◌, length, get_or, ap, sym, subst, arith}
+use Rattle.std.proofs.Common.{◌+◌, ◌-◌, ◌≤◌, ◌==◌, ◌∙◌, length, get_or, ap, sym, subst, arith}
 use Rattle.std.specs.List.{position}
 use Rattle.store_spec.specs.PageFile.{PageIndex}
 use Rattle.page_file.specs.declared.range.Range.{Range}

@@ -1,7 +1,5 @@
-use Rattle.std.proofs.Common.{ℕ, ◌+◌, ◌<◌, ◌^◌, length, ap, sym, subst, arith, ◌∙◌}
-use Rattle.page_file.specs.declared.range.Range.{Range}
-use Rattle.page_file.specs.Ranges.{numbers_in, AreRanges}
-use Rattle.store_spec.specs.PageFile.{PageIndex}
+use Rattle.std.proofs.Common.{sym, subst, arith}
+use Rattle.page_file.specs.Ranges.{AreRanges}
 use Rattle.page_file.proofs.Find.{range_fits}
 use Rattle.page_file.proofs.Steps.{numbers_more}
 use Rattle.page_file.proofs.index.FileIndex.pages.Goals as goal

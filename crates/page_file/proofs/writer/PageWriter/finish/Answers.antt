@@ -1,9 +1,7 @@
-use Rattle.std.proofs.Common.{ap, subst, sym}
+use Rattle.std.proofs.Common.{ap}
 use Rattle.disk_model.specs.declared.name.Name.TheVariants.{Page}
 use Rattle.disk_model.specs.Call.{seal}
-use Rattle.disk_model.specs.View.{Done}
 use Rattle.disk_model.specs.Frame.{done_settles}
-use Rattle.store_spec.specs.PageFile.{IsIndex}
 use Rattle.page_file.specs.Files.{UnfinishedFile}
 use Rattle.page_file.proofs.Written.{touches_page, sealed_pages}
 use Rattle.page_file.proofs.writer.PageWriter.finish.Goals as goal
