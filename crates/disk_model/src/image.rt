@@ -1,11 +1,11 @@
 //! What a crash may leave of a disk in memory, from its record.
-ghost use Rattle.std.specs.Prelude.{◌≡◌, ◌/◌, ◌%◌, false, OnOk, IfOk, option_map};
+ghost use Rattle.std.specs.Prelude.{◌≡◌, false, OnOk, IfOk, option_map};
 ghost use Rattle.disk_model.specs.Record.{files_in, call_of};
-ghost use Rattle.disk_model.specs.Images.{chosen_after, reading_after, reading_of, chosen_of, is_written, is_written_after, spoiled};
+ghost use Rattle.disk_model.specs.Images.{chosen_after, reading_after, chosen_of, is_marked, is_marked_after, spoiled, spoiled_where};
 
 use crate::Name;
 use crate::event::{Act, Event};
-use crate::files::{Files, copy_file, copy_files, set_file};
+use crate::files::{Files, append_file, copy_file, copy_files, set_file};
 use std::alloc::{AllocError, Global};
 
 // How the files read after an event.
@@ -18,14 +18,7 @@ fn redo_reading(alloc: Global, reading: &mut Files, event: &Event) -> Result<(),
     match &event.act {
         Act::Look | Act::Settle | Act::Seal(_) => Ok(()),
         Act::Create(name) => set_file(reading, *name, Some(Vec::new(alloc))),
-        Act::Append(name, bytes) => {
-            let mut file = match copy_file(alloc, reading, *name)? {
-                Some(file) => file,
-                None => Vec::new(alloc),
-            };
-            file.extend_from_slice(bytes)?;
-            set_file(reading, *name, Some(file))
-        }
+        Act::Append(name, bytes) => append_file(alloc, reading, *name, bytes),
         Act::Rename(from, to) => {
             let bytes = copy_file(alloc, reading, *from)?;
             set_file(reading, *from, None)?;
@@ -75,24 +68,25 @@ fn redo_chosen(
     }
 }
 
-fn is_written_by(name: Name, was: bool, event: &Event) -> bool
-    ensures { result ≡ is_written name was (call_of event.now.act) event.now.done }
+fn is_marked_by(name: Name, was: bool, event: &Event) -> bool
+    ensures { result ≡ is_marked name was (call_of event.now.act) event.now.done }
 {
     match &event.act {
         Act::Look | Act::Settle => was,
-        Act::Create(n) | Act::Append(n, _) => was || (event.done && *n == name),
-        Act::Seal(n) | Act::Remove(n) => was && !(event.done && *n == name),
+        Act::Create(n) | Act::Append(n, _) => was || *n == name,
+        Act::Seal(n) => if *n == name { !event.done } else { was },
+        Act::Remove(n) => was && !(event.done && *n == name),
         Act::Rename(from, to) => was && !(event.done && (*from == name || *to == name)),
     }
 }
 
-/// Whether a name is being written after these events.
-pub fn is_being_written(events: &[Event], name: Name) -> bool
-    ensures { result ≡ is_written_after name false events.now }
+// Whether a name is loose after these events, as long as a file is there.
+fn is_loose(events: &[Event], name: Name) -> bool
+    ensures { result ≡ is_marked_after name false events.now }
 {
     let mut is = false;
     for event in events {
-        is = is_written_by(name, is, event);
+        is = is_marked_by(name, is, event);
     }
     is
 }
@@ -127,18 +121,19 @@ fn spoil(alloc: Global, bytes: &[u8], how: u8) -> Result<Option<Vec<u8>>, AllocE
     }
 }
 
-/// Spoils the files that are being written.
-pub fn spoil_written(
+/// Spoils the files that are loose.
+pub fn spoil_loose(
     alloc: Global,
     reading: &Files,
     events: &[Event],
     how: u8,
     files: &mut Files,
 ) -> Result<(), AllocError>
-    ensures { OnOk result ((q : Name) → is_written_after q false events.now ≡ false → files_in files.new.entries q ≡ files_in files.old.entries q) }
+    ensures { OnOk result ((q : Name) → files_in files.new.entries q ≡ spoiled_where how (λ n. is_marked_after n false events.now) (files_in reading.now.entries) (files_in files.old.entries) q) }
 {
+    let _count = reading.len();
     for (name, bytes) in reading {
-        if is_being_written(events, *name) {
+        if is_loose(events, *name) {
             set_file(files, *name, spoil(alloc, bytes, how)?)?;
         }
     }

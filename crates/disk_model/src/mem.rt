@@ -12,7 +12,7 @@ use crate::event::{Act, Event};
 use crate::files::{
     Files, copy_files, extend_file, find_file, move_file, numbers_of, put_file, take_file,
 };
-use crate::image::{chosen_files, spoil_written};
+use crate::image::{chosen_files, spoil_loose};
 use crate::{Disk, DiskError, Kind, Name};
 use std::alloc::{AllocError, Global};
 use std::collections::BTreeMap;
@@ -47,6 +47,7 @@ pub struct MemDisk {
 
 impl MemDisk {
     ghost use Rattle.disk_model.specs.Mem.{mem_view, faults_of, fails_of, stop_of, fresh_view, is_to_fail, HasOrders, FollowsOrders};
+    ghost use Rattle.disk_model.specs.Images.{image_of};
 
     /// An empty disk, whose calls of these numbers fail, counted from 0, and all from number `stop` on.
     pub fn new(alloc: Global, fails: Vec<u64>, stop: Option<u64>) -> MemDisk
@@ -92,12 +93,13 @@ impl MemDisk {
     /// By bit 0 of the choice pending renames and removals have happened. By bits 1 and 2 loose files are absent (0), whole (1),
     /// cut to half their length, rounded down (2), or all 0xff at their length (3).
     pub fn image(&self, alloc: Global, choice: u8) -> Result<MemDisk, NoMemory>
-        ensures image { IfOk result (λ m. IsImageNow (mem_view self.now).state (mem_view m).state.files) }
-        ensures fresh { IfOk result (λ m. mem_view m ≡ fresh_view (mem_view m).state.files) }
+        ensures image { IfOk result (λ m. mem_view m ≡ fresh_view (image_of choice (mem_view self.now).state)) }
+        ensures crash { IfOk result (λ m. IsImageNow (mem_view self.now).state (mem_view m).state.files) }
         ensures faults { IfOk result (λ m. faults_of m ≡ 0) }
+        ensures orders { IfOk result (λ m. (fails_of m ≡ []) × (stop_of m ≡ None)) }
     {
         let mut files = chosen_files(alloc, &self.first, &self.events, choice % 2 == 1)?;
-        spoil_written(alloc, &self.files, &self.events, choice / 2 % 4, &mut files)?;
+        spoil_loose(alloc, &self.files, &self.events, choice / 2 % 4, &mut files)?;
         let first = copy_files(&files)?;
         Ok(MemDisk {
             files,

@@ -1,0 +1,12 @@
+pub mod Runs
+pub mod Placed
+pub mod Parts
+pub mod Steps
+pub mod Texts
+pub mod Build
+pub mod Find
+pub mod Kept
+pub mod Spelled
+pub mod Written
+pub mod Opened
+pub mod Unique

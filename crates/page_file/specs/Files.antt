@@ -1,0 +1,65 @@
+-- Page files on a disk.
+use Rattle.std.specs.Prelude.{◌≡◌, ℕ, ◌*◌, ◌++◌, Option, Some, None, Result, Ok, Err, length, take}
+use Rattle.format_spec.specs.Bytes.{Bytes}
+use Rattle.format_spec.specs.declared.limits.TheConstants.{PAGE_SIZE}
+use Rattle.store_spec.specs.PageFile.{PageIndex, IsPageFile, index_text}
+use Rattle.disk_model.specs.declared.name.Name.TheVariants.{Page}
+use Rattle.disk_model.specs.Files.{Files}
+use Rattle.disk_model.specs.State.{DiskState, IsLoose, IsFirm}
+use Rattle.page_file.specs.declared.format.Header.{Header}
+use Rattle.page_file.specs.Index.{IsHeader}
+use Rattle.page_file.specs.declared.error.PageError.{PageError}
+
+-- a page file by its number and its index
+pub record NumberedFile : Type 0 where
+  pub number : ℕ
+  pub index : PageIndex
+
+-- a page file that is being written: so many pages were added
+pub record UnfinishedFile : Type 0 where
+  pub number : ℕ
+  pub index : PageIndex
+  pub added : ℕ
+
+-- the page file of this number is there, with this index and these bytes of pages
+pub record HasPages (files : Files) (number : ℕ) (i : PageIndex) (pages : Bytes) : Type 0 where
+  pub text : Bytes
+  pub there : files (Page number) ≡ Some text
+  pub good : IsPageFile text i pages
+
+-- the page file is there as this value has it
+abbrev pub IsKept : Files → NumberedFile → Type 0
+IsKept files file = (pages : Bytes) × HasPages files file.number file.index pages
+
+-- there is no file of this number, or its bytes are no page file
+abbrev pub IsBadPage : Files → ℕ → Type 0
+IsBadPage files number = (i : PageIndex) (pages : Bytes) → HasPages files number i pages → ⊥
+
+-- these bytes of pages are written so far, and the file is loose
+pub record IsWriting (writer : UnfinishedFile) (pages : Bytes) (s : DiskState) : Type 0 where
+  pub loose : IsLoose s (Page writer.number)
+  pub file : s.files (Page writer.number) ≡ Some (index_text writer.index ++ pages)
+  pub count : length pages ≡ PAGE_SIZE * writer.added
+
+-- the file is on the disk with these bytes of pages
+pub record IsFinished (file : NumberedFile) (pages : Bytes) (s : DiskState) : Type 0 where
+  pub firm : IsFirm s (Page file.number)
+  pub there : HasPages s.files file.number file.index pages
+
+-- the page file of this number is there, and begins with this header
+pub record HasHeader (files : Files) (number : ℕ) (h : Header) : Type 0 where
+  pub text : Bytes
+  pub there : files (Page number) ≡ Some text
+  pub header : IsHeader h.memory h.ranges h.pages (take 32 text) (length text)
+
+-- the header that the page file has, and none where it is no page file
+abbrev pub FindsHeader : Files → ℕ → Result (Option Header) PageError → Type 0
+FindsHeader files number (Ok (Some h)) = HasHeader files number h
+FindsHeader files number (Ok None) = IsBadPage files number
+FindsHeader files number (Err e) = Unit {0}
+
+-- the same of its index
+abbrev pub FindsIndex : Files → ℕ → Result (Option PageIndex) PageError → Type 0
+FindsIndex files number (Ok (Some i)) = (pages : Bytes) × HasPages files number i pages
+FindsIndex files number (Ok None) = IsBadPage files number
+FindsIndex files number (Err e) = Unit {0}

@@ -1,0 +1,4 @@
+pub mod Errors
+pub mod Ranges
+pub mod Index
+pub mod Files

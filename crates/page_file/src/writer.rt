@@ -1,0 +1,115 @@
+//! Writing a page file.
+ghost use Rattle.std.specs.Prelude.{◌≡◌, ◌+◌, ◌<◌, ◌++◌, [], true, length, IsTrue, OnOk, IfOk, IsErr, IsErrOf};
+ghost use Rattle.format_spec.specs.declared.limits.TheConstants.{PAGE_SIZE};
+ghost use Rattle.format_spec.specs.Bytes.{Bytes};
+ghost use Rattle.store_spec.specs.PageFile.{index_length};
+ghost use Rattle.disk_model.specs.declared.name.Name.TheVariants.{Page};
+ghost use Rattle.disk_model.specs.Files.{same_name};
+ghost use Rattle.disk_model.specs.State.{IsAbsent, IsLoose, IsSettled};
+ghost use Rattle.disk_model.specs.Frame.{TouchesOnly};
+ghost use Rattle.page_file.specs.Errors.{HasCause, NoBadPage};
+ghost use Rattle.page_file.specs.Files.{IsWriting, IsFinished};
+
+use crate::{FileIndex, PageBytes, PageError, PageFile};
+use disk_model::{Disk, Name};
+use std::alloc::Global;
+use std::marker::Model;
+
+/// A page file that is being written. After Fault or Memory it is given up, and its file stays loose.
+#[derive(Drop)]
+pub struct PageWriter {
+    number: u64,
+    index: FileIndex,
+    added: u32,
+}
+
+// Contracts see its number, its index and how many pages were added.
+impl Model for PageWriter {
+    ghost use Rattle.store_spec.specs.PageFile.{IsIndex};
+    ghost use Rattle.page_file.specs.Files.{UnfinishedFile};
+
+    ghost Value = { UnfinishedFile };
+
+    ghost view = { λ writer. record { number = writer.number; index = writer.index; added = writer.added } };
+
+    ghost invariant = { λ writer. IsIndex writer.index };
+}
+
+impl PageWriter {
+    /// Begins a page file: creates it and appends what stands before the pages. There is no file of this number yet.
+    /// Fault where the disk failed, Memory where memory ran out.
+    pub fn begin<D: Disk>(
+        alloc: Global,
+        disk: &mut D,
+        number: u64,
+        index: FileIndex,
+    ) -> Result<PageWriter, PageError>
+        requires { IsTrue D.tells → IsAbsent (D.view disk.old).state (Page number) }
+
+        ensures writer { IfOk result (λ writer. writer ≡ record { number = number; index = index; added = 0 }) }
+        ensures begun { IsTrue D.tells → IfOk result (λ writer. IsWriting writer [] (D.view disk.new).state) }
+        ensures loose { IsTrue D.tells → IsErrOf result PageError.Fault → (D.view disk.new).state.loose (Page number) ≡ true }
+        ensures appended { IsTrue D.tells → OnOk result ((D.view disk.new).appended ≡ (D.view disk.old).appended + index_length index) }
+        ensures read { IsTrue D.tells → (D.view disk.new).bytes_read ≡ (D.view disk.old).bytes_read }
+        ensures touches { IsTrue D.tells → TouchesOnly (same_name (Page number)) (D.view disk.old) (D.view disk.new) }
+        ensures settled { IsTrue D.tells → OnOk result (IsSettled (D.view disk.old).state → IsSettled (D.view disk.new).state) }
+        ensures cause { HasCause (D.faults disk.old) (D.faults disk.new) result }
+        ensures no_bad_page { NoBadPage result }
+    {
+        let name = Name::Page(number);
+        let text = index.text(alloc)?;
+        disk.create(alloc, name)?;
+        disk.append(alloc, name, text.bytes())?;
+        Ok(PageWriter {
+            number,
+            index,
+            added: 0,
+        })
+    }
+
+    /// Adds the bytes of the next page of the index. Fewer than all were added, and the file is as this writer left it.
+    /// Fault where the disk failed, Memory where memory ran out.
+    pub fn add<D: Disk>(
+        &mut self,
+        alloc: Global,
+        disk: &mut D,
+        page: &PageBytes,
+    ) -> Result<(), PageError>
+        requires room { self.old.added < length self.old.index.numbers }
+        requires loose { IsTrue D.tells → IsLoose (D.view disk.old).state (Page self.old.number) }
+
+        ensures writer { OnOk result (self.new ≡ record self.old { added = self.old.added + 1 }) }
+        ensures added { IsTrue D.tells → OnOk result ((pages : Bytes) → IsWriting self.old pages (D.view disk.old).state → IsWriting self.new (pages ++ page.now) (D.view disk.new).state) }
+        ensures there { IsTrue D.tells → OnOk result (IsLoose (D.view disk.new).state (Page self.old.number)) }
+        ensures loose { IsTrue D.tells → (D.view disk.new).state.loose (Page self.old.number) ≡ true }
+        ensures appended { IsTrue D.tells → OnOk result ((D.view disk.new).appended ≡ (D.view disk.old).appended + PAGE_SIZE) }
+        ensures read { IsTrue D.tells → (D.view disk.new).bytes_read ≡ (D.view disk.old).bytes_read }
+        ensures touches { IsTrue D.tells → TouchesOnly (same_name (Page self.old.number)) (D.view disk.old) (D.view disk.new) }
+        ensures settled { IsTrue D.tells → OnOk result (IsSettled (D.view disk.old).state → IsSettled (D.view disk.new).state) }
+        ensures cause { HasCause (D.faults disk.old) (D.faults disk.new) result }
+        ensures no_bad_page { NoBadPage result }
+    {
+        disk.append(alloc, Name::Page(self.number), page)?;
+        self.added += 1;
+        Ok(())
+    }
+
+    /// Seals the file, to which all pages were added. Fault where the disk failed, Memory where memory ran out.
+    pub fn finish<D: Disk>(self, alloc: Global, disk: &mut D) -> Result<PageFile, PageError>
+        requires all { self.added ≡ length self.index.numbers }
+        requires loose { IsTrue D.tells → IsLoose (D.view disk.old).state (Page self.number) }
+
+        ensures file { IfOk result (λ file. file ≡ record { number = self.number; index = self.index }) }
+        ensures finished { IsTrue D.tells → IfOk result (λ file. (pages : Bytes) → IsWriting self pages (D.view disk.old).state → IsFinished file pages (D.view disk.new).state) }
+        ensures loose { IsTrue D.tells → IsErr result → (D.view disk.new).state.loose (Page self.number) ≡ true }
+        ensures appended { IsTrue D.tells → OnOk result ((D.view disk.new).appended ≡ (D.view disk.old).appended) }
+        ensures read { IsTrue D.tells → (D.view disk.new).bytes_read ≡ (D.view disk.old).bytes_read }
+        ensures touches { IsTrue D.tells → TouchesOnly (same_name (Page self.number)) (D.view disk.old) (D.view disk.new) }
+        ensures settled { IsTrue D.tells → OnOk result (IsSettled (D.view disk.old).state → IsSettled (D.view disk.new).state) }
+        ensures cause { HasCause (D.faults disk.old) (D.faults disk.new) result }
+        ensures no_bad_page { NoBadPage result }
+    {
+        disk.seal(alloc, Name::Page(self.number))?;
+        Ok(PageFile::new(self.number, self.index))
+    }
+}
