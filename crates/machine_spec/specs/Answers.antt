@@ -1,11 +1,11 @@
 -- What a script is answered, turn by turn.
-use Rattle.std.specs.Prelude.{ℕ, if◌then◌else◌, List, [], ◌∷◌, ◌++◌, Option, Some, None, codes}
+use Rattle.std.specs.Prelude.{if◌then◌else◌, List, [], ◌∷◌, ◌++◌, Option, Some, None, codes}
 use Rattle.format_spec.specs.Bytes.{Bytes}
 use Rattle.script_text.specs.declared.command.Command.{Command}
 use Rattle.script_text.specs.Commands.{command_of}
 use Rattle.script_text.specs.Script.{is_silent}
 use Rattle.script_text.specs.Texts.{reply_text, bad_line_text}
-use Rattle.machine_spec.specs.Machine.{Machine, start}
+use Rattle.machine_spec.specs.Machine.{Machine}
 use Rattle.machine_spec.specs.Step.{step}
 
 -- one turn of a run: a line that was read

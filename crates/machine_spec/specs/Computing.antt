@@ -1,8 +1,9 @@
 -- Opens the definitions of this crate and of those below on an `unfolding` line, so that scripts compute.
+use Rattle.std.specs.Fmt.{digits}
 use Rattle.hex.specs.Hex.{encode_with, decode_pairs}
 use Rattle.state_spec.specs.Computing.{texts_compute}
 use Rattle.machine_spec.specs.Answers.{answer, after_turn}
 
 unfoldable pub scripts_compute : Unit {0}
-unfolding texts_compute encode_with decode_pairs answer after_turn
+unfolding texts_compute encode_with decode_pairs digits answer after_turn
 scripts_compute = tt

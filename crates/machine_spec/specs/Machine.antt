@@ -2,10 +2,12 @@
 use Rattle.std.specs.Prelude.{ℕ, Bool, true, false, List, [], ◌∷◌, Option, Some, None}
 use Rattle.format_spec.specs.Bytes.{Bytes}
 use Rattle.state_spec.specs.State.{State, Canister}
+use Rattle.script_text.specs.declared.command.HeightOrLive.{HeightOrLive}
+use Rattle.script_text.specs.declared.command.HeightOrLive.TheVariants.{Live, Height}
 use Rattle.script_text.specs.declared.reply.Reply.{Reply}
 use Rattle.script_text.specs.declared.reply.Reply.TheVariants.{Fine, Refused}
 use Rattle.script_text.specs.declared.reply.Refusal.{Refusal}
-use Rattle.script_text.specs.declared.reply.Refusal.TheVariants.{NoCanister}
+use Rattle.script_text.specs.declared.reply.Refusal.TheVariants.{NoCanister, NoHeight}
 use Rattle.machine_spec.specs.States.{empty_state, canister_in}
 
 -- the live state and its height
@@ -47,3 +49,12 @@ unless_none (Some x) refusal m act = act x
 -- what a step does with a canister of the live state
 abbrev pub on_canister : Machine → Bytes → (Canister → Outcome) → Outcome
 on_canister m id act = unless_none (canister_in m.live id) NoCanister m act
+
+-- the state that a line asks about: so far there is none but the live one
+abbrev pub state_at : Machine → HeightOrLive → Option State
+state_at m Live = Some m.live
+state_at m (Height h) = None
+
+-- what a step does with the state that a line asks about
+abbrev pub on_state : Machine → HeightOrLive → (State → Outcome) → Outcome
+on_state m at act = unless_none (state_at m at) NoHeight m act

@@ -1,9 +1,10 @@
 -- Plain states, as the steps of the machine change them.
-use Rattle.std.specs.Prelude.{ℕ, List, [], Option, None}
+use Rattle.std.specs.Prelude.{ℕ, ◌+◌, ◌==◌, max, if◌then◌else◌, [], Option, None}
 use Rattle.std.specs.FinMap.{find, put}
 use Rattle.format_spec.specs.Bytes.{Bytes, bytes_cmp}
-use Rattle.state_spec.specs.State.{State, Canister, Memory}
-use Rattle.state_spec.specs.Memory.{no_memory}
+use Rattle.state_spec.specs.State.{State, Canister, Memory, pages_of, system_of, all_pages}
+use Rattle.state_spec.specs.Memory.{no_memory, pages_for}
+use Rattle.sys_state.specs.Calls.{without}
 use Rattle.sys_state.specs.declared.mem.Mem.{Mem}
 use Rattle.sys_state.specs.declared.mem.Mem.TheVariants.{Heap, Stable}
 
@@ -16,6 +17,9 @@ canister_in s id = find bytes_cmp id s.canisters
 abbrev pub with_canister : State → Bytes → Canister → State
 with_canister s id c = record s { canisters = put bytes_cmp id c s.canisters }
 
+abbrev pub without_canister : State → Bytes → State
+without_canister s id = record s { canisters = without bytes_cmp id s.canisters }
+
 -- an empty canister that is born at a height
 abbrev pub newborn : ℕ → Canister
 newborn height = record { wasm = None; certified = []; heap = no_memory; stable = no_memory; birth = height }
@@ -27,3 +31,11 @@ memory_of c Stable = c.stable
 abbrev pub with_memory : Canister → Mem → Memory → Canister
 with_memory c Heap m = record c { heap = m }
 with_memory c Stable m = record c { stable = m }
+
+-- the pages of a memory once n bytes are written from a place on
+abbrev pub pages_with : Memory → ℕ → ℕ → ℕ
+pages_with m at n = if n == 0 then pages_of m else max (pages_of m) (pages_for (at + n))
+
+-- the pages of all memories
+abbrev pub state_pages : State → ℕ
+state_pages s = all_pages (system_of s).canisters

@@ -12,7 +12,7 @@ use Rattle.state_spec.specs.State.{SystemPart, CanisterPart, IsSystem, FitsCanis
 use Rattle.state_spec.specs.SystemText.{system_text}
 use Rattle.state_spec.specs.Files.{file_name, heap_name, stable_name, memories_in, system_name}
 use Rattle.state_spec.specs.Manifest.{FileSums, ChunkRow, chunk_sums, chunk_rows, file_row, memory_sums, file_sums, manifest_from, chunk_hashes}
-use Rattle.soundness.proofs.SystemSizes.{id_size, system_size}
+use Rattle.state_spec.proofs.SystemSizes.{id_size, system_size}
 use Rattle.sys_state.specs.declared.record.CanisterRecord.{CanisterRecord}
 use Rattle.sys_state.specs.System.{System, IsKept, part_of_record}
 use Rattle.manifest.specs.Fits.{FitsText, FitSums}

@@ -1,8 +1,7 @@
 -- The id that is read from a word.
-use Rattle.std.proofs.Common.{◌≡◌, ◌≤◌, ◌<◌, ◌/◌, ◌&&◌, nat_lt, nat_le, ℕ, Bool, true, false, List, length, Option, Some, None, Result, Ok, Err, refl, ◌∙◌, ap, sym, arith, cond, inl, inr}
+use Rattle.std.proofs.Common.{◌≡◌, ◌<◌, ◌/◌, ◌&&◌, nat_lt, nat_le, ℕ, Bool, true, false, List, length, Option, Some, None, Result, Ok, Err, refl, ◌∙◌, ap, sym, arith}
 use Rattle.std.proofs.lemmas.Bool.{le-leb, lt-ltb, lt-leb}
 use Rattle.std.specs.Prelude.{if◌then◌else◌}
-use Rattle.std.proofs.lemmas.Bool.Decides.{leb_tells}
 use Rattle.std.specs.List.{list_all}
 use Rattle.std.specs.Option.{SomeIff}
 use Rattle.std.specs.Result.{MatchResult, result_ok}

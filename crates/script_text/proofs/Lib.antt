@@ -1,3 +1,4 @@
+pub mod Fits
 pub mod Ids
 pub mod Joined
 pub mod Labels

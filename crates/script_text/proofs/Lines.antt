@@ -1,15 +1,7 @@
 -- The lines of a script that is taken in parts.
 use Rattle.std.proofs.Common.{◌≡◌, ◌≤◌, ℕ, suc, ◌+◌, ◌==◌, Bool, true, false, cond, List, [], ◌∷◌, ◌++◌, length, refl, ◌∙◌, ap, sym, arith, append_assoc, zero-add}
-use Rattle.std.specs.List.{flat_map, AllByRecursion, onto_first}
-use Rattle.script_text.specs.Script.{lines, feeds, IsShort}
-
--- a line without its line feed
-abbrev pub IsLine : List ℕ → Type 0
-IsLine line = feeds line ≡ 0
-
--- the lines, each with a line feed behind it
-abbrev pub joined : List (List ℕ) → List ℕ
-joined done = flat_map (λ line. line ++ 10 ∷ []) done
+use Rattle.std.specs.List.{AllByRecursion, onto_first}
+use Rattle.script_text.specs.Script.{lines, feeds, joined, IsLine, IsShort}
 
 no_feed_first : (b : Bool) (n : ℕ) → cond b (suc n) n ≡ 0 → (b ≡ false) × (n ≡ 0)
 no_feed_first true n h = absurd (omega arith)

@@ -1,8 +1,8 @@
 -- The command that a line spells.
-use Rattle.std.specs.Prelude.{ℕ, List, [], ◌∷◌, Option, Some, None}
+use Rattle.std.specs.Prelude.{◌≤◌, List, [], ◌∷◌, length, Option, Some, None}
 use Rattle.std.specs.Option.{option_map, option_and_then}
 use Rattle.format_spec.specs.Bytes.{Bytes}
-use Rattle.format_spec.specs.declared.limits.TheConstants.{MAX_CERTIFIED, MAX_VALUE, MAX_READ}
+use Rattle.format_spec.specs.declared.limits.TheConstants.{MAX_MODULE, MAX_CERTIFIED, MAX_VALUE, MAX_READ}
 use Rattle.script_text.specs.declared.command.Command.{Command}
 use Rattle.script_text.specs.declared.command.Command.TheVariants as commands
 use Rattle.script_text.specs.declared.keywords.Keyword.{Keyword}
@@ -10,7 +10,7 @@ use Rattle.script_text.specs.declared.keywords.Keyword.TheVariants.{Canister, Dr
 use Rattle.script_text.specs.declared.keywords.Keyword.TheVariants.{Put, Del, Read, Heights, Root, Manifest}
 use Rattle.script_text.specs.Keywords.{keyword_of}
 use Rattle.script_text.specs.Script.{words}
-use Rattle.script_text.specs.Words.{such_that, number_of, number_up_to, hex_of, hex_up_to, id_of, mem_of, height_or_live}
+use Rattle.script_text.specs.Words.{number_of, number_up_to, hex_of, hex_up_to, id_of, mem_of, height_or_live}
 use Rattle.script_text.specs.Words.{module_of, path_of}
 
 -- ---- what so many words give, and none for another number of them
@@ -121,3 +121,11 @@ command_of_words (word ∷ rest) = option_and_then (λ keyword. command_by keywo
 -- none where the line fits no form
 abbrev pub command_of : Bytes → Option Command
 command_of line = command_of_words (words line)
+
+-- the sizes of a command's fields are those of its form
+abbrev pub FitsForm : Command → Type 0
+FitsForm (commands.Module id (Some wasm)) = length wasm ≤ MAX_MODULE
+FitsForm (commands.Certify id bytes) = length bytes ≤ MAX_CERTIFIED
+FitsForm (commands.Put path value) = length value ≤ MAX_VALUE
+FitsForm (commands.Read at id mem offset len) = len ≤ MAX_READ
+FitsForm _ = Unit {0}

@@ -1,6 +1,6 @@
 -- A script as lines, and a line as words.
-use Rattle.std.specs.Prelude.{◌≡◌, ℕ, ◌==◌, ◌≤◌, suc, Bool, true, if◌then◌else◌, List, [], ◌∷◌, length}
-use Rattle.std.specs.List.{onto_first, slice_split, AllByRecursion}
+use Rattle.std.specs.Prelude.{◌≡◌, ℕ, ◌==◌, ◌≤◌, suc, Bool, true, if◌then◌else◌, List, [], ◌∷◌, ◌++◌, length}
+use Rattle.std.specs.List.{flat_map, onto_first, slice_split, AllByRecursion}
 use Rattle.format_spec.specs.Bytes.{Bytes}
 use Rattle.format_spec.specs.declared.limits.TheConstants.{MAX_LINE, MAX_LINES}
 
@@ -18,6 +18,10 @@ feeds (byte ∷ bytes) = if byte == 10 then suc (feeds bytes) else feeds bytes
 -- bytes of one line: there is no line feed among them
 abbrev pub IsLine : Bytes → Type 0
 IsLine bytes = feeds bytes ≡ 0
+
+-- lines, each with a line feed behind it
+abbrev pub joined : List Bytes → Bytes
+joined some_lines = flat_map (λ line. line ++ 10 ∷ []) some_lines
 
 -- the words of a line: what stands between its spaces, 32
 abbrev pub words : Bytes → List Bytes

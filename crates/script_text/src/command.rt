@@ -14,9 +14,13 @@ pub enum HeightOrLive {
 #[derive(Debug, Drop)]
 pub enum Command {
     /// `canister ID` adds an empty canister.
-    Canister { id: CanisterId },
+    Canister {
+        id: CanisterId,
+    },
     /// `drop ID` removes a canister.
-    Remove { id: CanisterId },
+    Remove {
+        id: CanisterId,
+    },
     /// `grow ID MEM N` adds so many pages of zeros to a memory.
     Grow {
         id: CanisterId,
@@ -36,13 +40,23 @@ pub enum Command {
         module: Option<Blob>,
     },
     /// `certify ID HEX` sets the certified data, at most 32 bytes.
-    Certify { id: CanisterId, bytes: Blob },
+    Certify {
+        id: CanisterId,
+        bytes: Blob,
+    },
     /// `time N` sets the time.
-    Time { time: u64 },
+    Time {
+        time: u64,
+    },
     /// `put PATH HEX` sets an entry to a value of at most 1,024 bytes.
-    Put { path: Path, value: Blob },
+    Put {
+        path: Path,
+        value: Blob,
+    },
     /// `del PATH` removes an entry.
-    Del { path: Path },
+    Del {
+        path: Path,
+    },
     /// `read HL ID MEM OFFSET LEN` asks for at most 65,536 bytes of a memory.
     Read {
         at: HeightOrLive,
@@ -54,7 +68,11 @@ pub enum Command {
     /// `heights` asks which heights there are.
     Heights,
     /// `root HL` asks for the root hash of a state's manifest.
-    Root { at: HeightOrLive },
+    Root {
+        at: HeightOrLive,
+    },
     /// `manifest HL` asks for the sizes of a state's manifest.
-    Manifest { at: HeightOrLive },
+    Manifest {
+        at: HeightOrLive,
+    },
 }

@@ -41,7 +41,13 @@ pub fn grow(id: &[u8], mem: &[u8], pages: &[u8]) -> Option<Command>
 }
 
 /// `write ID MEM OFFSET HEX`
-pub fn write(alloc: Global, id: &[u8], mem: &[u8], offset: &[u8], bytes: &[u8]) -> Result<Option<Command>, NoMemory>
+pub fn write(
+    alloc: Global,
+    id: &[u8],
+    mem: &[u8],
+    offset: &[u8],
+    bytes: &[u8],
+) -> Result<Option<Command>, NoMemory>
     ensures { IfOk result (λ found. found ≡ write_of id.now mem.now offset.now bytes.now) }
 {
     let Some(id) = read_id(id) else {

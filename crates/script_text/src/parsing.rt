@@ -1,17 +1,17 @@
 //! The command that a line spells.
 
-ghost use Rattle.std.specs.Prelude.{◌≡◌, IfOk, map, Some};
+ghost use Rattle.std.specs.Prelude.{◌≡◌, IfOk, IfSome, map, Some};
 ghost use Rattle.script_text.specs.Commands.{canister_of, drop_of, grow_of, write_of, module_command_of, certify_of};
 ghost use Rattle.script_text.specs.Commands.{time_of, put_of, del_of, read_of, root_of, manifest_of};
 ghost use Rattle.script_text.specs.Commands.{no_words, one_word, two_words, three_words, four_words, five_words};
-ghost use Rattle.script_text.specs.Commands.{command_by, command_of};
+ghost use Rattle.script_text.specs.Commands.{command_by, command_of, FitsForm};
 ghost use Rattle.script_text.specs.Script.{is_silent as is_silent_line};
 
 use crate::command::Command;
-use crate::keywords::{Keyword, read_keyword};
 use crate::forms::{
     canister, certify, del, drop, grow, manifest, module, put, read, root, time, write,
 };
+use crate::keywords::{Keyword, read_keyword};
 use crate::words::words_of;
 use byte_codec::NoMemory;
 use std::alloc::Global;
@@ -142,11 +142,7 @@ fn parse_heights(rest: &[&[u8]]) -> Option<Command>
 }
 
 // The command of a keyword and the words behind it.
-fn parse_by(
-    alloc: Global,
-    keyword: Keyword,
-    rest: &[&[u8]],
-) -> Result<Option<Command>, NoMemory>
+fn parse_by(alloc: Global, keyword: Keyword, rest: &[&[u8]]) -> Result<Option<Command>, NoMemory>
     ensures { IfOk result (λ found. found ≡ command_by keyword (map (λ word. word.now) rest.now)) }
 {
     match keyword {
@@ -166,8 +162,8 @@ fn parse_by(
     }
 }
 
-/// The command that a line spells. None where the line fits no form.
-pub fn parse(alloc: Global, line: &[u8]) -> Result<Option<Command>, NoMemory>
+// The command that a line spells.
+fn parse_words(alloc: Global, line: &[u8]) -> Result<Option<Command>, NoMemory>
     ensures { IfOk result (λ found. found ≡ command_of line.now) }
 {
     let words = words_of(alloc, line)?;
@@ -178,4 +174,12 @@ pub fn parse(alloc: Global, line: &[u8]) -> Result<Option<Command>, NoMemory>
         return Ok(None);
     };
     parse_by(alloc, keyword, rest)
+}
+
+/// The command that a line spells. None where the line fits no form.
+pub fn parse(alloc: Global, line: &[u8]) -> Result<Option<Command>, NoMemory>
+    ensures command { IfOk result (λ found. found ≡ command_of line.now) }
+    ensures fits { IfOk result (λ found. IfSome found FitsForm) }
+{
+    parse_words(alloc, line)
 }

@@ -14,8 +14,9 @@ use sys_state::Path;
 fn are_label_bytes(word: &[u8]) -> bool
     ensures { result ≡ list_all is_label_byte word.now }
 {
-    word.iter()
-        .all(|byte| matches!(*byte, b'a'..=b'z' | b'A'..=b'Z' | b'0'..=b'9' | b'_' | b'-' | b'.'))
+    word.iter().all(
+        |byte| matches!(*byte, b'a'..=b'z' | b'A'..=b'Z' | b'0'..=b'9' | b'_' | b'-' | b'.'),
+    )
 }
 
 // Whether a label may have these bytes: 1 to 64.

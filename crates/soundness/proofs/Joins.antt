@@ -1,18 +1,11 @@
 -- Strings joined and cut: parts, hashes of 32 bytes, rows.
-use Rattle.std.proofs.Common.{◌≡◌, ◌⊎◌, ℕ, ◌^◌, ◌<◌, List, [], ◌∷◌, ◌++◌, length, map, refl, sym, ap, ◌∙◌, inl, inr, arith, length-append, append_assoc}
+use Rattle.std.proofs.Common.{◌≡◌, ◌⊎◌, ◌^◌, ◌<◌, List, [], ◌∷◌, ◌++◌, length, map, refl, sym, ◌∙◌, inl, inr, append_assoc}
 use Rattle.std.specs.List.{AllByRecursion}
-use Rattle.std.specs.Int.{from_be_bytes, w32, w64}
 use Rattle.sha2.specs.Sha256.{sha256}
-use Rattle.format_spec.specs.Bytes.{Bytes, be32, be64, short_string}
+use Rattle.format_spec.proofs.Cuts.{cut_front, cons_same, heads, be64_same}
+use Rattle.format_spec.specs.Bytes.{Bytes, be64, short_string}
 use Rattle.format_spec.proofs.Parts.{joined}
-use Rattle.format_spec.proofs.Forms.{wide32, wide64}
-use Rattle.soundness.proofs.Strings.{Meet, one_or_meet, first_of_list, behind_first, meet_within, cut_front}
-
-pub cons_same : {X : Type 0} (x y : X) (xs ys : List X) → x ≡ y → xs ≡ ys → x ∷ xs ≡ y ∷ ys
-cons_same x y xs ys p q = cc
-
-pub heads : {X : Type 0} (x y : X) (xs ys : List X) → x ∷ xs ≡ y ∷ ys → (x ≡ y) × (xs ≡ ys)
-heads x y xs ys e = (cc, cc)
+use Rattle.soundness.proofs.Strings.{Meet, one_or_meet, first_of_list, behind_first, meet_within}
 
 -- ---- hashes
 
@@ -30,17 +23,6 @@ module _ (w : Bytes → Bytes) (inj : (x y : Bytes) → w x ≡ w y → x ≡ y)
       let h = heads (sha256 (w x)) (sha256 (w y)) (map (λ z. sha256 (w z)) xs) (map (λ z. sha256 (w z)) ys) e in
       each_both x y xs ys (one_or_meet (w x) (w y) (w x ∷ map w xs) (w y ∷ map w ys) (first_of_list (w x) (map w xs)) (first_of_list (w y) (map w ys)) h.0) (each_or_meet xs ys h.1)
 
-abbrev pub Are32 : List Bytes → Type 0
-Are32 hs = AllByRecursion (λ h. length h ≡ 32) hs
-
-pub hashes_cut : (hs gs : List Bytes) → Are32 hs → Are32 gs → joined hs ≡ joined gs → hs ≡ gs
-hashes_cut [] [] p q e = refl
-hashes_cut [] (g ∷ gs) p q e = absurd (omega (arith, ap length e, length-append g (joined gs), q.0))
-hashes_cut (h ∷ hs) [] p q e = absurd (omega (arith, ap length e, length-append h (joined hs), p.0))
-hashes_cut (h ∷ hs) (g ∷ gs) p q e =
-    let c = cut_front h (joined hs) g (joined gs) (p.0 ∙ sym q.0) e in
-    cons_same h g hs gs c.0 (hashes_cut hs gs p.1 q.1 c.1)
-
 -- ---- strings of known lengths
 
 pub joined_same : (xs ys : List Bytes) (a b : Bytes) → map (λ x. length x) xs ≡ map (λ x. length x) ys → joined xs ++ a ≡ joined ys ++ b → (xs ≡ ys) × (a ≡ b)
@@ -52,12 +34,6 @@ joined_same (x ∷ xs) (y ∷ ys) a b p e =
     let c = cut_front x (joined xs ++ a) y (joined ys ++ b) n.0 (sym (append_assoc x (joined xs) a) ∙ e ∙ append_assoc y (joined ys) b) in
     let r = joined_same xs ys a b n.1 c.1 in
     (cons_same x y xs ys c.0 r.0, r.1)
-
-pub be32_same : (n m : ℕ) → n < 2 ^ 32 → m < 2 ^ 32 → be32 n ≡ be32 m → n ≡ m
-be32_same n m p q e = sym (wide32.again n p) ∙ ap (from_be_bytes w32) e ∙ wide32.again m q
-
-pub be64_same : (n m : ℕ) → n < 2 ^ 64 → m < 2 ^ 64 → be64 n ≡ be64 m → n ≡ m
-be64_same n m p q e = sym (wide64.again n p) ∙ ap (from_be_bytes w64) e ∙ wide64.again m q
 
 abbrev pub AreShort : List Bytes → Type 0
 AreShort xs = AllByRecursion (λ x. length x < 2 ^ 64) xs

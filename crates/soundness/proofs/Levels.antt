@@ -116,7 +116,7 @@ found_behind l (labeled k b) us x a f =
 found_behind l (leaf b) us x a f = f
 found_behind l (pruned h) us x a f = f
 
-tail_ascends : (u : Tree) (us : List Tree) → Ascends (u ∷ us) → Ascends us
+pub tail_ascends : (u : Tree) (us : List Tree) → Ascends (u ∷ us) → Ascends us
 tail_ascends empty us a = a
 tail_ascends (fork c d) us a = a
 tail_ascends (labeled k b) us a = (and_parts (list_all (λ j. is_lt (bytes_cmp k j)) (labels_in us)) (ascending bytes_cmp (labels_in us)) a).1
@@ -236,7 +236,7 @@ ends_none l (u ∷ v ∷ us) a h = none_behind l u (v ∷ us) a (ends_has l (ent
 
 -- ---- from a level with parts cut off to the whole one
 
-gap_cons : (l : Bytes) (e : Option Bytes) (es : List (Option Bytes)) → has_gap_at l es ≡ true → has_gap_at l (e ∷ es) ≡ true
+pub gap_cons : (l : Bytes) (e : Option Bytes) (es : List (Option Bytes)) → has_gap_at l es ≡ true → has_gap_at l (e ∷ es) ≡ true
 gap_cons l e [] h = absurd cc
 gap_cons l e (a ∷ es) h = or_right (is_below e l && is_above a l) (has_gap_at l (a ∷ es)) h
 
@@ -274,7 +274,7 @@ gap_too l (cut_more x u ts us r) h = gap_cons l (label_of u) (entries us) (gap_t
 gap_too l (same_label k a b ts us p r) h = gap_at_label l k r (λ q. gap_too l r q) h
 gap_too l (same_leaf b ts us r) h = gap_cons l None (entries us) (gap_too l r (gap_behind_none l (entries ts) h))
 
-ends_cons : (l : Bytes) (e : Option Bytes) (es : List (Option Bytes)) → ends_below l es ≡ true → ends_below l (e ∷ es) ≡ true
+pub ends_cons : (l : Bytes) (e : Option Bytes) (es : List (Option Bytes)) → ends_below l es ≡ true → ends_below l (e ∷ es) ≡ true
 ends_cons l e [] h = absurd cc
 ends_cons l e (a ∷ es) h = h
 

@@ -4,11 +4,12 @@ use Rattle.std.proofs.lemmas.List.{append_cancel_left}
 use Rattle.std.proofs.lemmas.List.Elements.{Contains-append_left, Contains-append_right}
 use Rattle.sha2.specs.Sha256.{sha256}
 use Rattle.sha2.proofs.Facts256.{length-sha256}
+use Rattle.format_spec.proofs.Cuts.{cut_front, cut_end}
 use Rattle.format_spec.specs.Bytes.{Bytes, short_string}
 use Rattle.format_spec.specs.Hashes.{empty_string, fork_string, labeled_string, leaf_string}
 use Rattle.tree_spec.specs.Tree.{Tree, empty, fork, labeled, leaf, pruned, reconstruct, hashed}
 use Rattle.tree_spec.specs.Whole.{IsWhole, HasHashes}
-use Rattle.soundness.proofs.Strings.{Meet, one_or_meet, other_meet, first_of_list, behind_first, meet_within, cut_front, cut_end}
+use Rattle.soundness.proofs.Strings.{Meet, one_or_meet, other_meet, first_of_list, behind_first, meet_within}
 
 pub data Like : Tree → Tree → Type 0 where
   like_cut : (h : Bytes) (u : Tree) → Like (pruned h) u
@@ -17,7 +18,7 @@ pub data Like : Tree → Tree → Type 0 where
   like_labeled : (l : Bytes) (a b : Tree) → Like a b → Like (labeled l a) (labeled l b)
   like_leaf : (b : Bytes) → Like (leaf b) (leaf b)
 
-whole_hashes : (u : Tree) → IsWhole u → HasHashes u
+pub whole_hashes : (u : Tree) → IsWhole u → HasHashes u
 whole_hashes empty h = tt
 whole_hashes (fork a b) h = (whole_hashes a h.0, whole_hashes b h.1)
 whole_hashes (labeled l a) h = whole_hashes a h

@@ -61,7 +61,7 @@ one_leaf (same_leaf b ts us r) h = by b r h
     by b (same_label k c d ts us p r) h = absurd cc
     by b (same_leaf c ts us r) h = absurd cc
 
-absent_from : (l : Bytes) (us : List Tree) → (has_gap_at l (map label_of us) || is_outside l (map label_of us)) ≡ true → missing l us ≡ absent
+pub absent_from : (l : Bytes) (us : List Tree) → (has_gap_at l (map label_of us) || is_outside l (map label_of us)) ≡ true → missing l us ≡ absent
 absent_from l us h = ap (λ (t : Bool). cond t absent (cond (is_one_leaf us) error unknown)) h
 
 -- a label that a level does not have
@@ -87,11 +87,11 @@ end_too (like_fork a b c d p q) = inr refl
 end_too (like_labeled l a b p) = inr refl
 end_too (like_leaf b) = inr refl
 
-lookup_some : (l : Bytes) (path : List Bytes) (t x : Tree) → below_label l (flatten t) ≡ Some x → lookup (l ∷ path) t ≡ lookup path x
+pub lookup_some : (l : Bytes) (path : List Bytes) (t x : Tree) → below_label l (flatten t) ≡ Some x → lookup (l ∷ path) t ≡ lookup path x
 unfolding lookup
 lookup_some l path t x p = ap (λ (o : Option Tree). elim o as (λ z. Looked) [ Some below ↦ lookup path below | None ↦ missing l (flatten t) ]) p
 
-lookup_none : (l : Bytes) (path : List Bytes) (t : Tree) → below_label l (flatten t) ≡ None → lookup (l ∷ path) t ≡ missing l (flatten t)
+pub lookup_none : (l : Bytes) (path : List Bytes) (t : Tree) → below_label l (flatten t) ≡ None → lookup (l ∷ path) t ≡ missing l (flatten t)
 unfolding lookup
 lookup_none l path t p = ap (λ (o : Option Tree). elim o as (λ z. Looked) [ Some below ↦ lookup path below | None ↦ missing l (flatten t) ]) p
 

@@ -6,6 +6,7 @@ use Rattle.std.proofs.lemmas.List.Concat.{flat_map-append}
 use Rattle.std.proofs.lemmas.List.Elements.{Contains-append_left, Contains-append_right}
 use Rattle.sha2.specs.Sha256.{sha256}
 use Rattle.sha2.proofs.Facts256.{length-sha256}
+use Rattle.format_spec.proofs.Cuts.{cut_front, cons_same, heads, Are32, hashes_cut}
 use Rattle.format_spec.specs.Bytes.{Bytes, parts, be32, be64, short_string}
 use Rattle.format_spec.specs.Hashes.{chunk_string, file_string, piece_string, root_string, chunk_hash, piece_hash, root_hash}
 use Rattle.format_spec.specs.declared.limits.TheConstants.{CHUNK_SIZE, PIECE_SIZE, MAX_MEMORY_PAGES}
@@ -16,9 +17,9 @@ use Rattle.state_spec.specs.Manifest.{Manifest, manifest_of, manifest_from, sums
 use Rattle.state_spec.specs.ManifestText.{manifest_text}
 use Rattle.state_spec.specs.Root.{meta_of, pieces_of, root_of, hashed}
 use Rattle.state_spec.proofs.BothWays.{system_again}
-use Rattle.soundness.proofs.Strings.{Meet, one_or_meet, first_of_list, meet_within, cut_front}
+use Rattle.soundness.proofs.Strings.{Meet, one_or_meet, first_of_list, meet_within}
 use Rattle.format_spec.proofs.Parts.{joined, joined_parts}
-use Rattle.soundness.proofs.Joins.{cons_same, heads, Are32, each_or_meet, hashes_cut, joined_same, lengths_same, AreShort}
+use Rattle.soundness.proofs.Joins.{each_or_meet, joined_same, lengths_same, AreShort}
 use Rattle.soundness.proofs.Texts.{File, chunks_in, contents, same_files, joined_chunks}
 
 -- ---- the lists of strings

@@ -14,7 +14,7 @@ use Rattle.state_spec.specs.Manifest.{FileRow, ChunkRow, chunk_sums, file_row, c
 use Rattle.state_spec.specs.ManifestText.{manifest_text, file_row_text, chunk_row_text}
 use Rattle.state_spec.specs.Root.{meta_of, pieces_of, hashed}
 use Rattle.soundness.proofs.Texts.{File}
-use Rattle.soundness.proofs.SystemSizes.{id_size, label_size}
+use Rattle.state_spec.proofs.SystemSizes.{id_size, label_size}
 use Rattle.soundness.proofs.StatePieces.{name_length}
 use Rattle.soundness.proofs.StateManifests.{all_append, named, numbered, sum_at}
 use Rattle.format_spec.proofs.ByteStrings.{by_test, one_byte, join_bytes, named_bytes, short_bytes, flat_bytes, parts_bytes, high_bytes, be32_bytes, sha_bytes, strings_join}

@@ -9,6 +9,7 @@ use Rattle.std.proofs.lemmas.List.Sums.{sum_by-cons, sum_by_push}
 use Rattle.hex.specs.Hex.{encode_lower, lower_digits}
 use Rattle.hex.proofs.HexLemmas.{length-encode_with}
 use Rattle.sha2.proofs.Facts256.{length-sha256}
+use Rattle.format_spec.proofs.Cuts.{Are32}
 use Rattle.format_spec.specs.Bytes.{Bytes, be32, be64, short_string, parts}
 use Rattle.format_spec.specs.Hashes.{chunk_hash, file_hash, piece_hash}
 use Rattle.format_spec.specs.declared.limits.TheConstants.{CHUNK_SIZE, PIECE_SIZE, MAX_ID}
@@ -21,9 +22,8 @@ use Rattle.state_spec.specs.Manifest.{FileRow, ChunkRow, file_row, chunk_rows, s
 use Rattle.state_spec.specs.ManifestText.{manifest_text, file_row_text, chunk_row_text, all_sizes}
 use Rattle.state_spec.specs.Root.{IsMeta, meta_of}
 use Rattle.format_spec.proofs.Parts.{parts_length}
-use Rattle.soundness.proofs.Joins.{Are32}
 use Rattle.soundness.proofs.Texts.{File, chunks_in, hashes_in, row_hashes, row_length, chunks_32}
-use Rattle.soundness.proofs.SystemSizes.{system_size}
+use Rattle.state_spec.proofs.SystemSizes.{system_size}
 use Rattle.soundness.proofs.StateManifests.{rows_of, memory_rows, system_row, rows_are, row_count, rows_sum, ids_of, named}
 
 -- ---- rows of files

@@ -29,12 +29,12 @@ abbrev pub AllChild : List Tree → Type 0
 AllChild [] = Unit {0}
 AllChild (t ∷ ts) = Child t × AllChild ts
 
-child_take : (n : ℕ) (ts : List Tree) → AllChild ts → AllChild (take n ts)
+pub child_take : (n : ℕ) (ts : List Tree) → AllChild ts → AllChild (take n ts)
 child_take zero ts h = tt
 child_take (suc n) [] h = tt
 child_take (suc n) (t ∷ ts) h = (h.0, child_take n ts h.1)
 
-child_drop : (n : ℕ) (ts : List Tree) → AllChild ts → AllChild (drop n ts)
+pub child_drop : (n : ℕ) (ts : List Tree) → AllChild ts → AllChild (drop n ts)
 child_drop zero ts h = h
 child_drop (suc n) [] h = tt
 child_drop (suc n) (t ∷ ts) h = child_drop n ts h.1
@@ -97,7 +97,7 @@ labels_ascend none h = refl
 labels_ascend (leaf_at l v rest) h = and_from (list_all (λ j. is_lt (bytes_cmp l j)) (child_labels rest)) (ascending bytes_cmp (child_labels rest)) h.0 (labels_ascend rest h.1)
 labels_ascend (node_at l below rest) h = and_from (list_all (λ j. is_lt (bytes_cmp l j)) (child_labels rest)) (ascending bytes_cmp (child_labels rest)) h.0 (labels_ascend rest h.2)
 
-labels_are : (c : Children) → labels_in (child_trees c) ≡ child_labels c
+pub labels_are : (c : Children) → labels_in (child_trees c) ≡ child_labels c
 labels_are none = refl
 labels_are (leaf_at l v rest) = ap (λ (x : List Bytes). l ∷ x) (labels_are rest)
 labels_are (node_at l below rest) = ap (λ (x : List Bytes). l ∷ x) (labels_are rest)
@@ -105,7 +105,7 @@ labels_are (node_at l below rest) = ap (λ (x : List Bytes). l ∷ x) (labels_ar
 level_ascends : (t : Tree) (c : Children) → Good t (child_trees c) → InOrder c → ascending bytes_cmp (labels t) ≡ true
 level_ascends t c g h = ap (λ (x : List Tree). ascending bytes_cmp (labels_in x)) g.level ∙ ap (ascending bytes_cmp) (labels_are c) ∙ labels_ascend c h
 
-all_children : (c : Children) → InOrder c → AllChild (child_trees c)
+pub all_children : (c : Children) → InOrder c → AllChild (child_trees c)
 all_children none h = tt
 all_children (leaf_at l v rest) h = ((tt, refl), all_children rest h.1)
 all_children (node_at l below rest) h =

@@ -1,6 +1,7 @@
 -- What a peer's right pieces and chunks give, against any valid state with the target's root.
 use Rattle.std.proofs.Common.{◌≡◌, ◌⊎◌, List, ◌∷◌, map, refl, sym, ap, ◌∙◌, inl, inr, arith}
 use Rattle.sha2.specs.Sha256.{sha256}
+use Rattle.format_spec.proofs.Cuts.{hashes_cut}
 use Rattle.format_spec.specs.Bytes.{Bytes}
 use Rattle.format_spec.specs.Hashes.{chunk_string, piece_string, root_string, chunk_hash, piece_hash, root_hash}
 use Rattle.format_spec.specs.declared.limits.TheConstants.{PIECE_SIZE}
@@ -11,7 +12,7 @@ use Rattle.state_spec.specs.ManifestText.{manifest_text}
 use Rattle.state_spec.specs.Root.{MetaManifest, meta_of, root_of, root_of_meta, hashed}
 use Rattle.soundness.proofs.Strings.{Meet, one_or_meet, first_of_list, behind_first, meet_within}
 use Rattle.format_spec.proofs.Parts.{joined, joined_parts}
-use Rattle.soundness.proofs.Joins.{each_or_meet, hashes_cut}
+use Rattle.soundness.proofs.Joins.{each_or_meet}
 use Rattle.soundness.proofs.Texts.{chunks_in, hashes_in, row_hashes}
 use Rattle.soundness.proofs.SameRoot.{pieces_in, in_chunks, in_pieces, in_root, root_is, pieces_are, chunks_are, pieces_32, root_joined, chunk_inj, piece_inj}
 

@@ -4,14 +4,14 @@ use Rattle.std.specs.List.{flat_map, AllByRecursion, enumerate_from}
 use Rattle.std.proofs.lemmas.List.{append_cancel_left, map-append, length-map}
 use Rattle.std.proofs.lemmas.List.Concat.{flat_map-append}
 use Rattle.sha2.proofs.Facts256.{length-sha256}
+use Rattle.format_spec.proofs.Cuts.{cut_front, cons_same, Are32, be32_same}
 use Rattle.format_spec.specs.Bytes.{Bytes, parts, be32, be64, short_string}
 use Rattle.format_spec.specs.Hashes.{ChunkSum, chunk_sum_text, chunk_hash, file_hash}
 use Rattle.format_spec.specs.declared.limits.TheConstants.{CHUNK_SIZE}
 use Rattle.state_spec.specs.Manifest.{Manifest, FileRow, ChunkRow, chunk_sums, file_row, chunk_rows, sums_of, manifest_from, chunk_size_at, chunk_offset}
 use Rattle.state_spec.specs.ManifestText.{manifest_text, file_row_text, chunk_row_text}
-use Rattle.soundness.proofs.Strings.{cut_front}
 use Rattle.format_spec.proofs.Parts.{joined, joined_parts}
-use Rattle.soundness.proofs.Joins.{cons_same, Are32, be32_same, name_cut}
+use Rattle.soundness.proofs.Joins.{name_cut}
 
 four : (n : ℕ) → length (be32 n) ≡ 4
 four n = refl

@@ -1,11 +1,11 @@
 //! Laws of the definitions.
 
-ghost use Rattle.std.specs.Prelude.{◌≡◌, ◌⊎◌, List, ◌∷◌, IsTrue, Ok, Some, map};
+ghost use Rattle.std.specs.Prelude.{◌≡◌, ◌≢◌, ◌⊎◌, ℕ, true, false, List, [], ◌∷◌, Contains, IsTrue, Ok, map};
 ghost use Rattle.std.specs.List.{flat_map};
 ghost use Rattle.format_spec.specs.Bytes.{Bytes, IsBytes, AreByteStrings, parts};
 ghost use Rattle.format_spec.specs.Hashes.{Clash, root_string, piece_string, chunk_string, piece_hash, chunk_hash};
 ghost use Rattle.format_spec.specs.declared.limits.TheConstants.{CHUNK_SIZE};
-ghost use Rattle.state_spec.specs.State.{State, IsState, SameState, system_of, SystemPart};
+ghost use Rattle.state_spec.specs.State.{State, IsState, SameState, system_of, SystemPart, IsSystem};
 ghost use Rattle.state_spec.specs.Files.{files};
 ghost use Rattle.state_spec.specs.Manifest.{manifest_of};
 ghost use Rattle.state_spec.specs.ManifestText.{IsManifest, manifest_text, read_manifest};
@@ -14,9 +14,9 @@ ghost use Rattle.state_spec.specs.Root.{root_of, MetaManifest, root_of_meta, IsM
 ghost use Rattle.tree_spec.specs.Tree.{Tree, reconstruct, hashed, is_well_formed};
 ghost use Rattle.tree_spec.specs.Whole.{IsWhole, HasHashes, IsByteTree};
 ghost use Rattle.tree_spec.specs.Lookup.{lookup, unknown};
-ghost use Rattle.tree_spec.specs.Labelled.{state_tree};
-ghost use Rattle.tree_spec.specs.Cbor.{read_tree};
-ghost use Rattle.tree_spec.specs.Witness.{witness};
+ghost use Rattle.tree_spec.specs.Labelled.{labelled, state_tree};
+ghost use Rattle.tree_spec.specs.Cbor.{read_tree, IsSpellable};
+ghost use Rattle.tree_spec.specs.Witness.{witness, is_hidden};
 
 /// The tree of a valid state has no part as a hash, is well-formed and has strings of bytes only.
 pub fn state_trees_are_whole()
@@ -46,6 +46,23 @@ pub fn checked_witness()
 /// A witness has the hash of the whole tree.
 pub fn witnesses_have_the_hash()
     ensures { (s : SystemPart) (paths : List (List Bytes)) → reconstruct (witness s paths) ≡ reconstruct (state_tree s) }
+{}
+
+/// The tree of a state and each witness of it can be spelled: they are well-formed and not too deep.
+pub fn witnesses_can_be_spelled()
+    ensures tree { (version : ℕ) (s : SystemPart) → IsSystem version s → IsSpellable (state_tree s) }
+    ensures witness { (version : ℕ) (s : SystemPart) (paths : List (List Bytes)) → IsSystem version s
+        → IsSpellable (witness s paths) }
+{}
+
+/// A path that a witness was asked for gives in it what it gives in the tree; but where it ends at a node and no other
+/// path that was asked for goes on below it, it is unknown.
+pub fn witnesses_show_their_paths()
+    ensures shown { (version : ℕ) (s : SystemPart) (paths : List (List Bytes)) (p : List Bytes) → IsSystem version s
+        → Contains paths p → p ≢ [] → is_hidden paths p (labelled s) ≡ false
+        → lookup p (witness s paths) ≡ lookup p (state_tree s) }
+    ensures hidden { (version : ℕ) (s : SystemPart) (paths : List (List Bytes)) (p : List Bytes) → IsSystem version s
+        → Contains paths p → p ≢ [] → is_hidden paths p (labelled s) ≡ true → lookup p (witness s paths) ≡ unknown }
 {}
 
 /// Valid states with one root are equal in all but births and rounds, or two strings clash.

@@ -1,11 +1,14 @@
 -- Changes of one entry.
+use Rattle.std.proofs.lemmas.List.{append-nil}
+use Rattle.format_spec.proofs.Ascending.{sorted_more}
+use Rattle.state_spec.specs.SystemText.{path_fits}
 use Rattle.std.proofs.Common.{◌≡◌, ℕ, ◌+◌, ◌<◌, ◌≤◌, Bool, true, false, not, ◌&&◌, ◌||◌, List, [], ◌∷◌, ◌++◌, length, get_or, set, refl, sym, ap, subst, ◌∙◌, arith, length-set, length-append, None}
 use Rattle.std.specs.List.{AllByRecursion, insert, remove, list_any, list_all}
 use Rattle.std.specs.FinMap.{is_sorted}
 use Rattle.std.proofs.lemmas.Bool.{and_parts, and_from}
 use Rattle.std.proofs.lemmas.List.Edits.{length-insert}
 use Rattle.std.proofs.lemmas.List.Folds.{list_any-append, list_all-append}
-use Rattle.format_spec.specs.Bytes.{Bytes, IsBytes, path_cmp}
+use Rattle.format_spec.specs.Bytes.{Bytes, IsBytes, path_cmp, is_after, last_key}
 use Rattle.format_spec.specs.declared.limits.TheConstants.{MAX_ENTRIES, MAX_VALUE}
 use Rattle.state_spec.specs.State.{FitsEntry, is_path, is_reserved, is_prefix, are_apart}
 use Rattle.sys_state.specs.Calls.{has_conflict, put_refusal, with_entry, without_entry}
@@ -132,6 +135,23 @@ module _ (path : List Bytes) where
   itself : (b : Bool) → (b && not b) || (b && not b) ≡ false
   itself true = refl
   itself false = refl
+
+-- ---- an entry that fits behind the others
+
+pub record Pushed (es : List Entry) : Type 0 where
+  pub sorted : is_sorted path_cmp es ≡ true
+  pub apart : are_apart es ≡ true
+
+pub pushed : (es : List Entry) (e : Entry) → is_sorted path_cmp es ≡ true → are_apart es ≡ true → path_fits es e.0 ≡ true → Pushed (es ++ e ∷ [])
+pushed es e sorted apart fits =
+    let a = and_parts (is_path e.0 && not (is_reserved e.0) && is_after path_cmp (last_key es) e.0) (list_all (λ f. not (is_prefix f.0 e.0)) es) fits in
+    let b = and_parts (is_path e.0 && not (is_reserved e.0)) (is_after path_cmp (last_key es) e.0) a.0 in
+    record {
+      sorted = sorted_more path_cmp paths_total es e.0 e.1 sorted b.1;
+      apart = apart_insert e.0 e.1 es [] (ap are_apart (append-nil es) ∙ apart) (all_none (begins_path e.0) es a.1) refl;
+    }
+
+-- ---- changes of a state
 
 module _ (s : System) (kept : IsKept s) (path : List Bytes) (i : ℕ) where
   module _ (at : Stands path_cmp path s.entries i) where

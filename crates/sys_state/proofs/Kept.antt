@@ -11,6 +11,13 @@ use Rattle.std.specs.declared.cmp.Ordering.{Ordering}
 use Rattle.format_spec.specs.Bytes.{Bytes, bytes_cmp}
 use Rattle.state_spec.specs.State.{FitsCanister, all_pages, pages_in}
 use Rattle.sys_state.specs.declared.record.CanisterRecord.{CanisterRecord}
+use Rattle.std.proofs.Common.{Bool, false, cond, Some, subst}
+use Rattle.std.specs.FinMap.{find}
+use Rattle.std.specs.Ordering.{eq_by_cmp}
+use Rattle.state_spec.specs.State.{memory_limit}
+use Rattle.sys_state.specs.Calls.{pages_of}
+use Rattle.sys_state.specs.declared.mem.Mem.{Mem}
+use Rattle.sys_state.specs.declared.mem.Mem.TheVariants.{Heap, Stable}
 use Rattle.sys_state.specs.System.{System, part_of_record, IsKept, IsCanister}
 
 -- ---- keys beside other values are in order as before
@@ -88,3 +95,17 @@ fits_in (c ∷ cs) h = (h.0, fits_in cs h.1)
 
 pub canisters_fit : (s : System) → IsKept s → AllByRecursion (λ c. FitsCanister 1 (c.0, part_of_record c.1)) s.canisters
 canisters_fit s kept = fits_in s.canisters kept.system.canisters_fit
+
+-- a canister that is found has no more pages in a memory than there may be
+pub found_fits : (cs : List (Bytes × CanisterRecord)) → AllByRecursion (λ c. FitsCanister 1 (c.0, part_of_record c.1)) cs → (id : Bytes) (mem : Mem) (c : CanisterRecord) → find bytes_cmp id cs ≡ Some c → pages_of mem c ≤ memory_limit 1
+found_fits [] all id mem c h = absurd (cc h)
+found_fits (e ∷ es) all id mem c h =
+    let by : (b : Bool) → cond b (Some e.1) (find bytes_cmp id es) ≡ Some c → pages_of mem c ≤ memory_limit 1 = λ b. elim b as (λ (v : Bool). cond v (Some e.1) (find bytes_cmp id es) ≡ Some c → pages_of mem c ≤ memory_limit 1) [
+      | true ↦ λ is. let one : e.1 ≡ c = cc is in subst (λ (x : CanisterRecord). pages_of mem x ≤ memory_limit 1) one (within mem)
+      | false ↦ λ is. found_fits es all.1 id mem c is
+    ] in
+    by (eq_by_cmp bytes_cmp id e.0) h
+  where
+    within : (mem : Mem) → pages_of mem e.1 ≤ memory_limit 1
+    within Heap = all.0.heap
+    within Stable = all.0.stable

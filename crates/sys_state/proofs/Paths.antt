@@ -151,7 +151,7 @@ module _ (path : List Bytes) where
   conflicts_after (e ∷ es) h = λ i. no_or (is_prefix path e.0) (is_prefix e.0 path) (after_prefix e.0 path h.0) i || conflicts_after es h.1 i
 
   -- of the entries before the place, only the last can begin the path
-  only_last : (before : List Entry) (e : Entry) → Lower (before ++ e ∷ []) → is_sorted path_cmp (before ++ e ∷ []) ≡ true → are_apart (before ++ e ∷ []) ≡ true → list_any (begins_path path) (before ++ e ∷ []) ≡ is_prefix e.0 path
+  pub only_last : (before : List Entry) (e : Entry) → Lower (before ++ e ∷ []) → is_sorted path_cmp (before ++ e ∷ []) ≡ true → are_apart (before ++ e ∷ []) ≡ true → list_any (begins_path path) (before ++ e ∷ []) ≡ is_prefix e.0 path
   only_last [] e low sorted apart = or_false (is_prefix e.0 path)
   only_last (b ∷ before) e low sorted apart =
       let s = and_parts (below_all path_cmp b.0 (before ++ e ∷ [])) (is_sorted path_cmp (before ++ e ∷ [])) sorted in

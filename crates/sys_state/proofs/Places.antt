@@ -69,7 +69,7 @@ module _ {K X : Type 0} (R : K → K → Ordering) (o : IsTotalOrder R) where
     unlike_after : (e : K × X) → R key e.0 ≡ Less → eq_by_cmp R key e.0 ≡ false
     unlike_after e lt = ap is_eq lt
 
-    find_before : (before rest : List (K × X)) → Below key before → find R key (before ++ rest) ≡ find R key rest
+    pub find_before : (before rest : List (K × X)) → Below key before → find R key (before ++ rest) ≡ find R key rest
     find_before [] rest h = refl
     find_before (b ∷ before) rest h = ap (λ t. cond t (Some b.1) (find R key (before ++ rest))) (unlike_before b h.0) ∙ find_before before rest h.1
 
@@ -77,7 +77,7 @@ module _ {K X : Type 0} (R : K → K → Ordering) (o : IsTotalOrder R) where
     find_above [] h = refl
     find_above (e ∷ after) h = ap (λ t. cond t (Some e.1) (find R key after)) (unlike_after e h.0) ∙ find_above after h.1
 
-    find_here : (v : X) (after : List (K × X)) → find R key ((key, v) ∷ after) ≡ Some v
+    pub find_here : (v : X) (after : List (K × X)) → find R key ((key, v) ∷ after) ≡ Some v
     find_here v after = ap (λ r. cond (is_eq r) (Some v) (find R key after)) (tied_itself o key)
 
     put_before : (v : X) (before rest : List (K × X)) → Below key before → put R key v (before ++ rest) ≡ before ++ put R key v rest
@@ -144,7 +144,7 @@ module _ {K X : Type 0} (R : K → K → Ordering) (o : IsTotalOrder R) where
   kept_first : (key : K) (e : K × X) (es : List (K × X)) → eq_by_cmp R key e.0 ≡ false → without R key (e ∷ es) ≡ e ∷ without R key es
   kept_first key e es unlike = ap (λ b. cond (not b) (e ∷ without R key es) (without R key es)) unlike
 
-  without_before : (key : K) (before rest : List (K × X)) → Below key before → without R key (before ++ rest) ≡ before ++ without R key rest
+  pub without_before : (key : K) (before rest : List (K × X)) → Below key before → without R key (before ++ rest) ≡ before ++ without R key rest
   without_before key [] rest h = refl
   without_before key (b ∷ before) rest h = kept_first key b (before ++ rest) (unlike_before key b h.0) ∙ ap (λ es. b ∷ es) (without_before key before rest h.1)
 
@@ -152,7 +152,7 @@ module _ {K X : Type 0} (R : K → K → Ordering) (o : IsTotalOrder R) where
   without_above key [] h = refl
   without_above key (e ∷ after) h = kept_first key e after (unlike_after key e h.0) ∙ ap (λ es. e ∷ es) (without_above key after h.1)
 
-  without_here : (key : K) (v : X) (after : List (K × X)) → Above key after → without R key ((key, v) ∷ after) ≡ after
+  pub without_here : (key : K) (v : X) (after : List (K × X)) → Above key after → without R key ((key, v) ∷ after) ≡ after
   without_here key v after h = ap (λ r. cond (not (is_eq r)) ((key, v) ∷ without R key after) (without R key after)) (tied_itself o key) ∙ without_above key after h
 
   -- ---- what a search finds

@@ -18,11 +18,14 @@ system time canisters entries = record { time = time; canisters = canisters; ent
 abbrev pub part_of_record : CanisterRecord → CanisterPart
 part_of_record c = record { wasm = c.module; certified = c.certified; heap = c.heap; stable = c.stable }
 
+abbrev pub parts : List (Bytes × CanisterRecord) → List (Bytes × CanisterPart)
+parts cs = map (λ c. (c.0, part_of_record c.1)) cs
+
 -- without births: what the system text spells
 abbrev pub part_of : System → SystemPart
 part_of s = record {
   time = s.time;
-  canisters = map (λ c. (c.0, part_of_record c.1)) s.canisters;
+  canisters = parts s.canisters;
   entries = s.entries;
 }
 

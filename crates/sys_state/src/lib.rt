@@ -1,14 +1,17 @@
 //! The canisters and entries of a state: all of it but the bytes of its memories.
 #![tactic(auto)]
 
+mod blobs;
 mod canister_id;
 mod error;
 mod mem;
 mod path;
 mod place;
+mod reading;
 mod record;
-mod size;
 mod state;
+#[cfg(test)]
+mod tests;
 
 pub use canister_id::CanisterId;
 pub use error::SysError;

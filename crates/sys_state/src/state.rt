@@ -1,17 +1,21 @@
-ghost use Rattle.std.specs.Prelude.{◌≡◌, ◌≤◌, [], length, IfOk, MatchOption, slice_get, Some};
+ghost use Rattle.std.specs.Prelude.{◌≡◌, ◌≤◌, [], length, IfOk, IfSome, MatchOption, slice_get, Some, option_map};
 ghost use Rattle.std.specs.Option.{option_copied};
 ghost use Rattle.std.specs.FinMap.{find};
 ghost use Rattle.format_spec.specs.Bytes.{bytes_cmp};
 ghost use Rattle.sys_state.specs.System.{IsKept};
+ghost use Rattle.state_spec.specs.State.{memory_limit};
 ghost use Rattle.sys_state.specs.Places.{Places};
-ghost use Rattle.sys_state.specs.Calls.{canister_in};
+ghost use Rattle.sys_state.specs.Calls.{canister_in, pages_of};
 
 mod canisters;
 mod copying;
+mod decoding;
 mod encoding;
 mod entries;
+mod sizes;
 
 use crate::canister_id::CanisterId;
+use crate::mem::Mem;
 use crate::path::Path;
 use crate::place::search;
 use crate::record::CanisterRecord;
@@ -120,5 +124,14 @@ impl SysState {
     {
         let i = self.place(id).ok()?;
         Some(&self.canisters[i as usize].1)
+    }
+
+    /// The pages of a memory, at most 65,536. None where the canister is not there.
+    pub fn pages(&self, id: &CanisterId, mem: Mem) -> Option<u32>
+        ensures value { result ≡ option_map (pages_of mem) (canister_in self.now id.now) }
+        ensures limit { IfSome result (λ n. n ≤ memory_limit 1) }
+    {
+        let i = self.place(id).ok()?;
+        Some(self.canisters[i as usize].1.pages(mem))
     }
 }

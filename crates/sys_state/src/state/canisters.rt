@@ -7,11 +7,11 @@ ghost use Rattle.format_spec.specs.Bytes.{IsBytes};
 ghost use Rattle.state_spec.specs.SystemText.{wasm_fits};
 
 use super::SysState;
+use crate::blobs::is_within;
 use crate::canister_id::CanisterId;
 use crate::error::SysError;
 use crate::mem::Mem;
 use crate::record::CanisterRecord;
-use crate::size::is_within;
 use byte_codec::Blob;
 use format_spec::{MAX_CANISTERS, MAX_CERTIFIED, MAX_MEMORY_PAGES, MAX_MODULE, MAX_STATE_PAGES};
 use std::alloc::Global;

@@ -8,10 +8,12 @@ ghost use Rattle.state_spec.specs.SystemText.{canister_text, entry_text, path_te
 ghost use Rattle.sys_state.specs.System.{part_of, part_of_record};
 
 use super::SysState;
+use super::sizes::{canisters_size, entries_size};
 use crate::canister_id::CanisterId;
 use crate::path::Path;
 use crate::record::CanisterRecord;
 use byte_codec::{Blob, NoMemory, Writer};
+use format_spec::MIN_SYSTEM;
 use std::alloc::Global;
 
 fn write_short(text: &mut Writer, bytes: &[u8]) -> Result<(), NoMemory>
@@ -108,7 +110,8 @@ impl SysState {
         ensures system { IsSystem 1 (part_of self.now) }
     {
         let (canisters, entries) = (self.canisters(), self.entries());
-        let mut text = Writer::new(alloc);
+        let size = canisters_size(&self.canisters).saturating_add(entries_size(&self.entries));
+        let mut text = Writer::with_capacity(alloc, size.saturating_add(MIN_SYSTEM))?;
         write_head(&mut text, self.time)?;
         text.be32(canisters)?;
         write_canisters(&mut text, &self.canisters)?;

@@ -9,10 +9,10 @@ ghost use Rattle.sys_state.specs.Places.{Places, IsAbsent};
 ghost use Rattle.sys_state.specs.Calls.{Answers, answer, has_conflict, put_refusal, del_refusal, with_entry, without_entry};
 
 use super::SysState;
+use crate::blobs::is_within;
 use crate::error::SysError;
 use crate::path::Path;
 use crate::place::search;
-use crate::size::is_within;
 use byte_codec::Blob;
 use format_spec::{MAX_ENTRIES, MAX_VALUE};
 use std::alloc::Global;

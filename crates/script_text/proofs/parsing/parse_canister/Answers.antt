@@ -1,8 +1,6 @@
-use Rattle.std.proofs.Common.{◌≡◌, ◌∙◌, Option, subst}
-use Rattle.std.specs.Result.{IfOk}
+use Rattle.std.proofs.Common.{◌∙◌}
 use Rattle.script_text.proofs.WordCounts.{one_word_here, one_word_other}
 use Rattle.script_text.specs.Commands.{canister_of}
-use Rattle.script_text.specs.declared.command.Command.{Command}
 use Rattle.script_text.proofs.parsing.parse_canister.Goals as goal
 
 pub returns-then-rest-ne1 : goal.returns-then-rest-ne1

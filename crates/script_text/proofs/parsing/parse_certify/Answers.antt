@@ -1,4 +1,4 @@
-use Rattle.std.proofs.Common.{◌≡◌, ◌∙◌, Option, subst}
+use Rattle.std.proofs.Common.{◌≡◌, Option, subst}
 use Rattle.std.specs.Result.{IfOk}
 use Rattle.script_text.proofs.WordCounts.{two_words_here, two_words_other}
 use Rattle.script_text.specs.Commands.{certify_of}

@@ -1,4 +1,4 @@
-use Rattle.std.proofs.Common.{◌≡◌, ◌∙◌, Option, subst}
+use Rattle.std.proofs.Common.{◌≡◌, Option, subst}
 use Rattle.std.specs.Result.{IfOk}
 use Rattle.script_text.proofs.WordCounts.{one_word_here, one_word_other}
 use Rattle.script_text.specs.Commands.{del_of}

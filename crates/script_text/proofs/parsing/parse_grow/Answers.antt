@@ -1,8 +1,6 @@
-use Rattle.std.proofs.Common.{◌≡◌, ◌∙◌, Option, subst}
-use Rattle.std.specs.Result.{IfOk}
+use Rattle.std.proofs.Common.{◌∙◌}
 use Rattle.script_text.proofs.WordCounts.{three_words_here, three_words_other}
 use Rattle.script_text.specs.Commands.{grow_of}
-use Rattle.script_text.specs.declared.command.Command.{Command}
 use Rattle.script_text.proofs.parsing.parse_grow.Goals as goal
 
 pub returns-then-rest-ne3 : goal.returns-then-rest-ne3

@@ -1,8 +1,6 @@
-use Rattle.std.proofs.Common.{◌≡◌, ◌∙◌, Option, subst}
-use Rattle.std.specs.Result.{IfOk}
+use Rattle.std.proofs.Common.{◌∙◌}
 use Rattle.script_text.proofs.WordCounts.{five_words_here, five_words_other}
 use Rattle.script_text.specs.Commands.{read_of}
-use Rattle.script_text.specs.declared.command.Command.{Command}
 use Rattle.script_text.proofs.parsing.parse_read.Goals as goal
 
 pub returns-then-rest-ne5 : goal.returns-then-rest-ne5

@@ -1,4 +1,4 @@
-use Rattle.std.proofs.Common.{◌≡◌, ◌∙◌, Option, subst}
+use Rattle.std.proofs.Common.{◌≡◌, Option, subst}
 use Rattle.std.specs.Result.{IfOk}
 use Rattle.script_text.proofs.WordCounts.{four_words_here, four_words_other}
 use Rattle.script_text.specs.Commands.{write_of}

@@ -1,5 +1,4 @@
 use Rattle.std.proofs.Common.{List, ℕ, sym, ◌∙◌, subst}
-use Rattle.std.specs.Str.{IsValidUpTo, valid_up_to}
 use Rattle.std.specs.Str.Parse.{ParsesUnsigned}
 use Rattle.script_text.proofs.Numerals.{number_is, number_utf8, text_read, text_found}
 use Rattle.script_text.proofs.words.read_number.Goals as goal

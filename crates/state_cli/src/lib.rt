@@ -1,0 +1,15 @@
+//! The program: reads a script, line by line, and writes the reply to each line.
+#![tactic(auto)]
+
+mod answering;
+mod laws;
+mod program;
+mod reading;
+mod session;
+
+pub use laws::limits_stop_no_script_within_them;
+pub use program::run;
+pub use script_text::Status;
+
+#[cfg(test)]
+mod tests;

@@ -1,0 +1,34 @@
+-- The manifest and the root of the live state.
+use Rattle.std.proofs.Common.{◌≡◌, ◌*◌, ℕ, List, [], ◌∷◌, length, map, refl, ◌∙◌, ap, sym}
+use Rattle.format_spec.specs.Bytes.{Bytes}
+use Rattle.format_spec.specs.declared.limits.TheConstants.{PAGE_SIZE}
+use Rattle.manifest.specs.Fits.{FitMemories}
+use Rattle.state_spec.specs.Files.{memories_in}
+use Rattle.state_spec.specs.Manifest.{Manifest, manifest_of}
+use Rattle.state_spec.specs.ManifestText.{manifest_text}
+use Rattle.state_spec.specs.Root.{MetaManifest, meta_of, root_of, root_of_meta}
+use Rattle.state_spec.specs.State.{State}
+use Rattle.script_text.specs.declared.reply.Reply.TheVariants as replies
+use Rattle.machine_spec.specs.HeightSteps.{counts_of}
+use Rattle.sys_state.specs.System.{System, part_of}
+use Rattle.sys_state.specs.declared.record.CanisterRecord.{CanisterRecord}
+use Rattle.state_manager.specs.Sizes.{HaveSizes, sizes_of}
+
+sizes_in : (s : System) → map (λ (memory : Bytes × ℕ). memory.1 * PAGE_SIZE) (memories_in (part_of s)) ≡ sizes_of s.canisters
+sizes_in s = go s.canisters
+  where
+    go : (cs : List (Bytes × CanisterRecord)) → map (λ (memory : Bytes × ℕ). memory.1 * PAGE_SIZE) (memories_in (part_of (record s { canisters = cs }))) ≡ sizes_of cs
+    go [] = refl
+    go (c ∷ cs) = ap (λ (t : List ℕ). c.1.heap * PAGE_SIZE ∷ c.1.stable * PAGE_SIZE ∷ t) (go cs)
+
+pub fit_memories : (s : System) (ms : List Bytes) → HaveSizes s.canisters ms → FitMemories (part_of s) ms
+fit_memories s ms h = h ∙ sym (sizes_in s)
+
+pub root_is : (s : State) (man : Manifest) (meta : MetaManifest) (r : Bytes) → man ≡ manifest_of s → meta ≡ meta_of man → r ≡ root_of_meta meta → r ≡ root_of s
+unfolding root_of
+root_is s man meta r a b c = c ∙ ap root_of_meta (b ∙ ap meta_of a)
+
+pub counts_are : (s : State) (man : Manifest) (meta : MetaManifest) (text : Bytes) → man ≡ manifest_of s → meta ≡ meta_of man → text ≡ manifest_text man
+    → replies.Manifest (length man.files) (length man.chunks) (length meta.pieces) (length text) ≡ counts_of s
+unfolding counts_of
+counts_are s man meta text a b c = rw (c, b, a) refl

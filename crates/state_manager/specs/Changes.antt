@@ -1,0 +1,42 @@
+-- How a change of the live state is answered: `ok`, a refusal, or want of memory.
+use Rattle.std.specs.Prelude.{◌≡◌, Option, Some, None, Result, Ok, Err}
+use Rattle.byte_codec.specs.declared.error.NoMemory.{NoMemory}
+use Rattle.sys_state.specs.declared.error.SysError.{SysError}
+use Rattle.sys_state.specs.declared.error.SysError.TheVariants as errors
+use Rattle.script_text.specs.declared.reply.Reply.{Reply}
+use Rattle.script_text.specs.declared.reply.Reply.TheVariants.{Fine, Refused}
+use Rattle.script_text.specs.declared.reply.Refusal.{Refusal}
+use Rattle.script_text.specs.declared.reply.Refusal.TheVariants as refusals
+
+-- the refusal of a line, where the error is one
+abbrev pub refusal_of : SysError → Option Refusal
+refusal_of errors.Exists = Some refusals.Exists
+refusal_of errors.ManyCanisters = Some refusals.ManyCanisters
+refusal_of errors.NoCanister = Some refusals.NoCanister
+refusal_of errors.MemoryFull = Some refusals.MemoryFull
+refusal_of errors.StateFull = Some refusals.StateFull
+refusal_of errors.Reserved = Some refusals.Reserved
+refusal_of errors.PathConflict = Some refusals.PathConflict
+refusal_of errors.TreeFull = Some refusals.TreeFull
+refusal_of errors.NoPath = Some refusals.NoPath
+refusal_of (errors.BadSystem place) = None
+refusal_of errors.Memory = None
+
+-- a reply that refuses, and none where memory ran out
+abbrev pub Refuses : Option Refusal → Result Reply NoMemory → Type 0
+Refuses (Some refusal) (Ok reply) = reply ≡ Refused refusal
+Refuses (Some refusal) (Err e) = ⊥
+Refuses None (Ok reply) = ⊥
+Refuses None (Err e) = Unit {0}
+
+-- what a change of the system that was done or refused is answered
+abbrev pub Answers : Result (Unit {0}) SysError → Result Reply NoMemory → Type 0
+Answers (Ok done) (Ok reply) = reply ≡ Fine
+Answers (Ok done) (Err e) = ⊥
+Answers (Err error) result = Refuses (refusal_of error) result
+
+-- a change that is refused for a reason, or done; where it is not done everything is the same
+abbrev pub Alters : Option SysError → Result Reply NoMemory → Type 0 → Type 0 → Type 0
+Alters why (Err e) done same = same
+Alters None (Ok reply) done same = (reply ≡ Fine) × done
+Alters (Some error) (Ok reply) done same = Refuses (refusal_of error) (Ok reply) × same

@@ -1,0 +1,8 @@
+use Rattle.store_spec.proofs.Images.{opens_once, stands_open}
+use Rattle.store_spec.proofs.laws.files_open_one_way.Goals as goal
+
+pub returns-clause-once : goal.returns-clause-once
+returns-clause-once c = λ files ps qs p q. opens_once files ps qs p q
+
+pub returns-clause-stands : goal.returns-clause-stands
+returns-clause-stands c = λ files ps p. stands_open files ps p

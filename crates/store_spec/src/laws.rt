@@ -1,0 +1,32 @@
+//! Laws of the definitions.
+
+ghost use Rattle.std.specs.Prelude.{◌≡◌, ℕ, List, length, take, drop};
+ghost use Rattle.std.specs.List.{AllZip};
+ghost use Rattle.format_spec.specs.Bytes.{Bytes};
+ghost use Rattle.state_spec.specs.State.{SystemPart};
+ghost use Rattle.disk_model.specs.Files.{Files};
+ghost use Rattle.store_spec.specs.PageFile.{PageIndex, IsIndex, index_length, file_length, index_text, IsPageFile};
+ghost use Rattle.store_spec.specs.Mark.{Mark, IsMarkText};
+ghost use Rattle.store_spec.specs.Image.{Published, SamePublished, OpensAt, StandsFor};
+
+/// A text is at most one page file; and it is one where its front is an index and its length the one that the index
+/// says.
+pub fn page_files_one_way()
+    ensures once { (text : Bytes) (i j : PageIndex) (a b : Bytes) → IsPageFile text i a → IsPageFile text j b
+        → (i ≡ j) × (a ≡ b) }
+    ensures by_front { (text : Bytes) (i : PageIndex) → IsIndex i → take (index_length i) text ≡ index_text i
+        → length text ≡ file_length i → IsPageFile text i (drop (index_length i) text) }
+{}
+
+/// A text is at most one mark, of one height and of one state's parts.
+pub fn marks_one_way()
+    ensures { (h k : ℕ) (text : Bytes) (m n : Mark) (s t : SystemPart) → IsMarkText h text m s → IsMarkText k text n t
+        → (m ≡ n) × (s ≡ t) }
+{}
+
+/// Files open at one list of heights only, up to births and rounds; and what they stand for, they open at.
+pub fn files_open_one_way()
+    ensures once { (files : Files) (ps qs : List Published) → OpensAt files ps → OpensAt files qs
+        → AllZip SamePublished ps qs }
+    ensures stands { (files : Files) (ps : List Published) → StandsFor files ps → OpensAt files ps }
+{}

@@ -1,0 +1,34 @@
+//! What isn't a mark, and which files don't open.
+
+ghost use Rattle.std.specs.Prelude.{◌≡◌, ◌≤◌, ℕ, List, [], ◌∷◌, ◌++◌, length, Some};
+ghost use Rattle.format_spec.specs.Bytes.{Bytes};
+ghost use Rattle.state_spec.specs.State.{SystemPart};
+ghost use Rattle.disk_model.specs.declared.name.Name.TheVariants as name;
+ghost use Rattle.disk_model.specs.Files.{Files};
+ghost use Rattle.store_spec.specs.PageFile.{index_text};
+ghost use Rattle.store_spec.specs.Mark.{Mark, MarkMemory, FitsMemory, mark_text, IsMarkText};
+ghost use Rattle.store_spec.specs.Image.{Published, Layer, IsLayerOf, OpensAt};
+ghost use Rattle.store_spec.specs.Example.{one_mark, larger_index, first_page};
+
+/// A memory has 32 layers at most, and none where it has no pages.
+pub fn layers_that_do_not_fit()
+    ensures many { (m : MarkMemory) (f : Bytes × ℕ) → 33 ≤ length m.layers → FitsMemory m f → ⊥ }
+    ensures empty { (m : MarkMemory) (name : Bytes) (n : ℕ) (ns : List ℕ) → m.layers ≡ n ∷ ns
+        → FitsMemory m (name, 0) → ⊥ }
+{}
+
+/// The mark of height 1 is none of height 2.
+pub fn a_mark_of_another_height()
+    ensures { (m : Mark) (s : SystemPart) → IsMarkText 2 (mark_text one_mark) m s → ⊥ }
+{}
+
+/// A page file of a memory of two pages is no layer of a memory of one page.
+pub fn a_page_file_of_a_larger_memory()
+    ensures { (files : Files) (l : Layer) → files (name.Page 0) ≡ Some (index_text larger_index ++ first_page)
+        → IsLayerOf files 1 0 l → ⊥ }
+{}
+
+/// Seventeen marks don't open.
+pub fn too_many_marks()
+    ensures { (files : Files) (ps : List Published) → 17 ≤ length ps → OpensAt files ps → ⊥ }
+{}

@@ -1,0 +1,145 @@
+//! The canisters of a system text.
+
+ghost use Rattle.std.specs.Prelude.{◌≡◌, ◌+◌, ◌≤◌, ◌&&◌, [], length, nat_le, IfOk, IfSome, IsTrue};
+ghost use Rattle.std.specs.Option.{SomeIff};
+ghost use Rattle.std.specs.List.{AllByRecursion};
+ghost use Rattle.std.specs.Int.{w32};
+ghost use Rattle.format_spec.specs.Bytes.{IsBytes, bytes_cmp, is_after, last_key};
+ghost use Rattle.format_spec.specs.Fields.{field, number, string8, each};
+ghost use Rattle.state_spec.specs.State.{is_id, all_pages, memory_limit, state_limit};
+ghost use Rattle.state_spec.specs.SystemText.{canister_after, wasm_form, wasm_fits};
+ghost use Rattle.sys_state.specs.Reading.{Gives};
+ghost use Rattle.sys_state.specs.System.{IsCanister, parts, part_of_record};
+
+use crate::blobs::copy_of;
+use crate::canister_id::CanisterId;
+use crate::error::SysError;
+use crate::record::CanisterRecord;
+use byte_codec::{Blob, Reader};
+use format_spec::{MAX_CERTIFIED, MAX_MEMORY_PAGES, MAX_MODULE, MAX_STATE_PAGES};
+use std::alloc::Global;
+
+fn id_of(bytes: &[u8]) -> Option<CanisterId>
+    ensures id { SomeIff result (IsTrue (is_id bytes.now)) bytes.now }
+    ensures bytes { IsBytes bytes.now }
+{
+    CanisterId::new(bytes)
+}
+
+fn comes_last(canisters: &[(CanisterId, CanisterRecord)], id: &CanisterId) -> bool
+    ensures { result ≡ is_after bytes_cmp (last_key (parts canisters.now)) id.now }
+{
+    match canisters.last() {
+        None => true,
+        Some(last) => last.0 < *id,
+    }
+}
+
+fn read_id(
+    reader: &mut Reader,
+    canisters: &[(CanisterId, CanisterRecord)],
+) -> Result<CanisterId, SysError>
+    ensures read { Gives (λ id. (id, reader.new)) result (field string8 (λ id. is_id id && is_after bytes_cmp (last_key (parts canisters.now)) id) reader.old) }
+    ensures bytes { IfOk result IsBytes }
+{
+    let at = reader.at() as u64;
+    let Ok(bytes) = reader.string8() else {
+        return Err(SysError::BadSystem(at));
+    };
+    match id_of(bytes) {
+        Some(id) if comes_last(canisters, &id) => Ok(id),
+        _ => Err(SysError::BadSystem(at)),
+    }
+}
+
+fn read_module(alloc: Global, reader: &mut Reader) -> Result<Option<Blob>, SysError>
+    ensures read { Gives (λ m. (m, reader.new)) result (field wasm_form wasm_fits reader.old) }
+    ensures bytes { IfOk result (λ m. IfSome m IsBytes) }
+{
+    let at = reader.at() as u64;
+    match reader.u8() {
+        Ok(0) => Ok(None),
+        Ok(1) => match reader.string32() {
+            Ok(bytes) if bytes.len() <= MAX_MODULE => Ok(Some(copy_of(alloc, bytes)?)),
+            _ => Err(SysError::BadSystem(at)),
+        },
+        _ => Err(SysError::BadSystem(at)),
+    }
+}
+
+fn read_certified(alloc: Global, reader: &mut Reader) -> Result<Blob, SysError>
+    ensures read { Gives (λ bytes. (bytes, reader.new)) result (field string8 (λ bytes. nat_le (length bytes) MAX_CERTIFIED) reader.old) }
+    ensures bytes { IfOk result IsBytes }
+{
+    let at = reader.at() as u64;
+    match reader.string8() {
+        Ok(bytes) if bytes.len() <= MAX_CERTIFIED => Ok(copy_of(alloc, bytes)?),
+        _ => Err(SysError::BadSystem(at)),
+    }
+}
+
+// A page count, behind so many pages of the canisters before and so many of the same one.
+fn read_pages(reader: &mut Reader, before: u32, more: u32) -> Result<u32, SysError>
+    requires { before + more ≤ state_limit 1 }
+    ensures small { IfOk result (λ n. before + more + n ≤ state_limit 1) }
+    ensures read { Gives (λ n. (n, reader.new)) result (field (number w32) (λ n. nat_le n (memory_limit 1) && nat_le (before + more + n) (state_limit 1)) reader.old) }
+{
+    let at = reader.at() as u64;
+    match reader.be32() {
+        Ok(pages)
+            if pages as usize <= MAX_MEMORY_PAGES
+                && (before + more + pages) as usize <= MAX_STATE_PAGES => { Ok(pages) }
+        _ => Err(SysError::BadSystem(at)),
+    }
+}
+
+#[tactic(auto, unfolding(state_spec::specs::SystemText::canister_after))]
+fn read_canister(
+    alloc: Global,
+    reader: &mut Reader,
+    canisters: &[(CanisterId, CanisterRecord)],
+    pages: u32,
+    birth: u64,
+) -> Result<(CanisterId, CanisterRecord), SysError>
+    requires pages { pages ≡ all_pages (parts canisters.now) }
+    requires small { pages ≤ state_limit 1 }
+    ensures read { Gives (λ c. ((c.0, part_of_record c.1), reader.new)) result (canister_after 1 (parts canisters.now) reader.old) }
+    ensures bytes { IfOk result IsCanister }
+    ensures birth { IfOk result (λ c. c.1.birth ≡ birth) }
+    ensures small { IfOk result (λ c. pages + c.1.heap + c.1.stable ≤ state_limit 1) }
+{
+    let id = read_id(reader, canisters)?;
+    let module = read_module(alloc, reader)?;
+    let certified = read_certified(alloc, reader)?;
+    let heap = read_pages(reader, pages, 0)?;
+    let stable = read_pages(reader, pages, heap)?;
+    let record = CanisterRecord {
+        module,
+        certified,
+        heap,
+        stable,
+        birth,
+    };
+    Ok((id, record))
+}
+
+pub(crate) fn read_canisters(
+    alloc: Global,
+    reader: &mut Reader,
+    count: u32,
+    birth: u64,
+) -> Result<(Vec<(CanisterId, CanisterRecord)>, u32), SysError>
+    ensures read { Gives (λ c. (parts c.0.items, reader.new)) result (each (canister_after 1) count [] reader.old) }
+    ensures pages { IfOk result (λ c. c.1 ≡ all_pages (parts c.0.items)) }
+    ensures bytes { IfOk result (λ c. AllByRecursion IsCanister c.0.items) }
+    ensures birth { IfOk result (λ c. AllByRecursion (λ d. d.1.birth ≡ birth) c.0.items) }
+{
+    let mut canisters = Vec::new(alloc);
+    let mut pages = 0;
+    for _ in 0..count {
+        let canister = read_canister(alloc, reader, &canisters, pages, birth)?;
+        pages += canister.1.heap + canister.1.stable;
+        canisters.push(canister)?;
+    }
+    Ok((canisters, pages))
+}

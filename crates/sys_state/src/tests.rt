@@ -1,0 +1,298 @@
+use crate::{CanisterId, Mem, Path, SysError, SysState};
+use byte_codec::{Blob, hex_bytes, hex_text};
+use std::alloc::Global;
+use std::process::Abort;
+use std::test::Fail;
+
+fn id(bytes: &[u8]) -> Result<CanisterId, Fail> {
+    Ok(CanisterId::new(bytes).ok_or("no id")?)
+}
+
+// The path of the labels between slashes.
+fn path(alloc: Global, text: &[u8]) -> Result<Option<Path>, Fail> {
+    let mut labels = Vec::new(alloc);
+    for label in text.split(|byte| *byte == b'/') {
+        labels.push(Blob::from_slice(alloc, label)?)?;
+    }
+    Ok(Path::new(labels))
+}
+
+fn put(alloc: Global, state: &mut SysState, text: &[u8]) -> Result<Option<SysError>, Fail> {
+    let path = path(alloc, text)?.ok_or("no path")?;
+    Ok(state.put(alloc, path, Blob::from_slice(alloc, &[5])?).err())
+}
+
+fn spells(rt: &impl Abort, alloc: Global, state: &SysState, hex: &[u8]) -> Result<(), Fail> {
+    let text = state.encode(alloc)?;
+    assert_eq!(rt; hex_text(alloc, text.bytes())?.bytes(), hex);
+    Ok(())
+}
+
+// The same state, copied or read from its text, has the same text.
+fn reads_back(rt: &impl Abort, alloc: Global, state: &SysState) -> Result<(), Fail> {
+    let text = state.encode(alloc)?;
+    let again = SysState::decode(alloc, text.bytes(), 9)?;
+    assert!(rt; again.encode(alloc)? == text);
+    assert!(rt; state.copy(alloc)?.encode(alloc)? == text);
+    Ok(())
+}
+
+// The place where these bytes are no system text.
+fn bad_place(alloc: Global, bytes: &[u8]) -> Option<u64> {
+    match SysState::decode(alloc, bytes, 9) {
+        Err(SysError::BadSystem(place)) => Some(place),
+        _ => None,
+    }
+}
+
+// A text with these bytes in place of those from one offset up to another.
+fn spoiled(
+    alloc: Global,
+    text: &[u8],
+    from: usize,
+    to: usize,
+    with: &[u8],
+) -> Result<Vec<u8>, Fail> {
+    let mut bytes = Vec::new(alloc);
+    bytes.extend_from_slice(text.get(..from).ok_or("from")?)?;
+    bytes.extend_from_slice(with)?;
+    bytes.extend_from_slice(text.get(to..).ok_or("to")?)?;
+    Ok(bytes)
+}
+
+// Where the field begins that has the byte at this offset of the text of all fields.
+fn field_of(offset: usize) -> u64 {
+    let mut field = 0;
+    for start in [4, 8, 16, 20, 22, 30, 33, 37, 41, 45, 55] {
+        if start <= offset {
+            field = start as u64;
+        }
+    }
+    field
+}
+
+const ALL_FIELDS: &[u8] =
+    b"4943535900000001000000000000012c000000010100010000000361626302070800000000000000000000000102067375626e65740178000105";
+
+#[test]
+fn canisters_within_their_limits(rt: HostRuntime) -> Result<(), Fail> {
+    let alloc = rt.alloc();
+    assert!(rt; CanisterId::new(&[]).is_none());
+    assert!(rt; CanisterId::new(&[7; 30]).is_none());
+    let long = id(&[7; 29])?;
+    let mut state = SysState::new(alloc);
+    for i in 0..1024 {
+        let number: u16 = i;
+        state.create(alloc, id(&number.to_be_bytes())?, 3)?;
+    }
+    assert_eq!(rt;
+        state.create(alloc, long.copy(), 3),
+        Err(SysError::ManyCanisters)
+    );
+    assert_eq!(rt; state.create(alloc, id(&[1, 0])?, 3), Err(SysError::Exists));
+    assert_eq!(rt; state.place(&id(&[1, 0, 0])?), Err(257));
+    let (found, _) = state.canister_at(256).ok_or("no canister")?;
+    assert!(rt; *found == id(&[1, 0])?);
+    assert_eq!(rt; state.remove(&long), Err(SysError::NoCanister));
+    state.remove(&id(&[1, 0])?)?;
+    state.create(alloc, long, 4)?;
+    reads_back(&rt, alloc, &state)
+}
+
+#[test]
+fn pages_within_their_limits(rt: HostRuntime) -> Result<(), Fail> {
+    let alloc = rt.alloc();
+    let mut state = SysState::new(alloc);
+    for i in 0..3 {
+        state.create(alloc, id(&[i])?, 1)?;
+    }
+    let cases = [
+        (3, Mem::Heap, 0, Some(SysError::NoCanister)),
+        (0, Mem::Heap, 65_537, Some(SysError::MemoryFull)),
+        (0, Mem::Heap, u64::MAX, Some(SysError::MemoryFull)),
+        (0, Mem::Heap, 1, None),
+        (0, Mem::Heap, 65_535, None),
+        (0, Mem::Heap, 1, Some(SysError::MemoryFull)),
+        (0, Mem::Stable, 65_536, None),
+        (1, Mem::Heap, 65_536, None),
+        (1, Mem::Stable, 65_536, None),
+        (2, Mem::Heap, 65_537, Some(SysError::MemoryFull)),
+        (2, Mem::Heap, 1, Some(SysError::StateFull)),
+        (2, Mem::Heap, 0, None),
+    ];
+    for (canister, mem, pages, want) in cases {
+        assert_eq!(rt; state.extend(&id(&[canister])?, mem, pages).err(), want);
+    }
+    reads_back(&rt, alloc, &state)?;
+    state.remove(&id(&[1])?)?;
+    state.extend(&id(&[2])?, Mem::Stable, 65_536)?;
+    let record = state.canister(&id(&[2])?).ok_or("no canister")?;
+    assert_eq!(rt;
+        (record.pages(Mem::Heap), record.pages(Mem::Stable)),
+        (0, 65_536)
+    );
+    Ok(())
+}
+
+#[test]
+fn entries_stand_apart(rt: HostRuntime) -> Result<(), Fail> {
+    let alloc = rt.alloc();
+    let longest = b"0123456789012345678901234567890123456789012345678901234567890123";
+    for text in [b"".as_slice(), b"a/b/c/d/e/f/g/h/i", b"a//b", &[7; 65]] {
+        assert!(rt; path(alloc, text)?.is_none());
+    }
+    let mut state = SysState::new(alloc);
+    let cases = [
+        (b"subnet/a".as_slice(), None),
+        (b"subnet", Some(SysError::PathConflict)),
+        (b"subnet/a/b", Some(SysError::PathConflict)),
+        (b"time", Some(SysError::Reserved)),
+        (b"canister/x", Some(SysError::Reserved)),
+        (b"subneta", None),
+        (b"s/ubnet", None),
+        (b"subnet/0", None),
+        (b"timer/time", None),
+        (b"a/b/c/d/e/f/g/h", None),
+        (longest, None),
+    ];
+    for (text, want) in cases {
+        assert_eq!(rt; put(alloc, &mut state, text)?, want);
+    }
+    let gone = path(alloc, b"subnet/a")?.ok_or("no path")?;
+    assert_eq!(rt; state.del(&gone).err(), None);
+    assert_eq!(rt; state.del(&gone).err(), Some(SysError::NoPath));
+    assert_eq!(rt;
+        put(alloc, &mut state, b"subnet")?,
+        Some(SysError::PathConflict)
+    );
+    let (third, value) = state.entry(2).ok_or("no entry")?;
+    assert!(rt; *third == path(alloc, b"s/ubnet")?.ok_or("no path")?);
+    assert_eq!(rt; value.bytes(), [5].as_slice());
+    reads_back(&rt, alloc, &state)
+}
+
+#[test]
+fn as_many_entries_as_may_be(rt: HostRuntime) -> Result<(), Fail> {
+    let alloc = rt.alloc();
+    let mut state = SysState::new(alloc);
+    for i in 0..16_384 {
+        let number: u16 = i;
+        let label = Blob::from_slice(alloc, &number.to_be_bytes())?;
+        let mut labels = Vec::new(alloc);
+        labels.push(label)?;
+        let path = Path::new(labels).ok_or("no path")?;
+        state.put(alloc, path, Blob::from_slice(alloc, &[5])?)?;
+    }
+    let cases = [
+        (b"x".as_slice(), Some(SysError::TreeFull)),
+        (b"\x00a/x", Some(SysError::PathConflict)),
+        (b"\x00a", None),
+    ];
+    for (text, want) in cases {
+        assert_eq!(rt; put(alloc, &mut state, text)?, want);
+    }
+    reads_back(&rt, alloc, &state)
+}
+
+#[test]
+fn texts_are_spelled_in_one_way(rt: HostRuntime) -> Result<(), Fail> {
+    let alloc = rt.alloc();
+    let mut state = SysState::new(alloc);
+    spells(
+        &rt,
+        alloc,
+        &state,
+        b"494353590000000100000000000000000000000000000000",
+    )?;
+    let canister = id(&[0])?;
+    state.create(alloc, canister.copy(), 1)?;
+    state.set_time(300);
+    state.set_module(&canister, Some(Blob::from_slice(alloc, b"abc")?))?;
+    state.set_certified(&canister, Blob::from_slice(alloc, &[7, 8])?)?;
+    assert_eq!(rt; put(alloc, &mut state, b"subnet/x")?, None);
+    spells(&rt, alloc, &state, ALL_FIELDS)?;
+    state.set_module(&canister, None)?;
+    reads_back(&rt, alloc, &state)?;
+    assert_eq!(rt;
+        state.set_module(&id(&[1])?, None),
+        Err(SysError::NoCanister)
+    );
+    assert_eq!(rt;
+        state.set_certified(&id(&[1])?, Blob::from_slice(alloc, &[])?),
+        Err(SysError::NoCanister)
+    );
+    Ok(())
+}
+
+#[test]
+fn a_page_is_spelled_and_read(rt: HostRuntime) -> Result<(), Fail> {
+    let alloc = rt.alloc();
+    let mut state = SysState::new(alloc);
+    let canister = id(&[0])?;
+    state.create(alloc, canister.copy(), 1)?;
+    state.extend(&canister, Mem::Heap, 1)?;
+    let hex = b"494353590000000100000000000000000000000101000000000000010000000000000000";
+    spells(&rt, alloc, &state, hex)?;
+    let again = SysState::decode(alloc, hex_bytes(alloc, hex)?.bytes(), 12)?;
+    let record = again.canister(&canister).ok_or("no canister")?;
+    assert_eq!(rt; (record.birth, record.heap), (12, 1));
+    Ok(())
+}
+
+#[test]
+fn the_first_bad_field_is_named(rt: HostRuntime) -> Result<(), Fail> {
+    let alloc = rt.alloc();
+    let text = hex_bytes(alloc, ALL_FIELDS)?;
+    for end in 0..58 {
+        assert_eq!(rt;
+            bad_place(alloc, text.bytes().get(..end).ok_or("end")?),
+            Some(field_of(end))
+        );
+    }
+    let cases = [
+        (3, 4, b"X".as_slice(), 0),
+        (7, 8, b"\x02", 4),
+        (18, 20, b"\x04\x01", 16),
+        (20, 22, b"\x00", 20),
+        (20, 21, &[30; 30], 20),
+        (22, 23, b"\x02", 22),
+        (23, 30, b"\x00\x00\x40\x01", 22),
+        (30, 33, &[33; 34], 30),
+        (33, 37, b"\x00\x01\x00\x01", 33),
+        (37, 41, b"\x00\x01\x00\x01", 37),
+        (43, 45, b"\x40\x01", 41),
+        (45, 55, b"\x00", 45),
+        (
+            45,
+            55,
+            b"\x09\x01a\x01a\x01a\x01a\x01a\x01a\x01a\x01a\x01a",
+            45,
+        ),
+        (45, 55, b"\x01\x00", 45),
+        (45, 55, b"\x01\x04time", 45),
+        (46, 55, &[65; 67], 45),
+        (55, 57, b"\x04\x01", 55),
+        (58, 58, b"\x00", 58),
+    ];
+    for (from, to, with, place) in cases {
+        let bytes = spoiled(alloc, text.bytes(), from, to, with)?;
+        assert_eq!(rt; bad_place(alloc, &bytes), Some(place));
+    }
+    let whole = [
+        (
+            b"494353590000000100000000000000000000000201000000000000010000000001000000000000010000000000000000".as_slice(),
+            32,
+        ),
+        (
+            b"494353590000000100000000000000000000000000000002010161000002016101620000",
+            29,
+        ),
+    ];
+    for (hex, place) in whole {
+        assert_eq!(rt;
+            bad_place(alloc, hex_bytes(alloc, hex)?.bytes()),
+            Some(place)
+        );
+    }
+    Ok(())
+}
