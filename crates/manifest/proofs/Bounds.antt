@@ -34,7 +34,7 @@ pub record Small (f : FileSums) : Type 0 where
   pub name : length f.name < 256
   pub hashes : length f.hashes ≤ 256
 
-name_size : (id memory : Bytes) → length id ≤ 29 → length memory ≤ 6 → length (file_name id memory) < 256
+pub name_size : (id memory : Bytes) → length id ≤ 29 → length memory ≤ 6 → length (file_name id memory) < 256
 name_size id memory short few =
     let a : Bytes = codes "canister/" ++ encode_lower id in
     omega (arith, short, few, length-encode_with lower_digits id, length-append (codes "canister/") (encode_lower id), length-append a (codes "/"), length-append (a ++ codes "/") memory)

@@ -4,3 +4,9 @@ pub mod Growing
 pub mod Memories
 pub mod Bounds
 pub mod States
+pub mod Fielding
+pub mod FileLoops
+pub mod Slotting
+pub mod ChunkLoops
+pub mod Judging
+pub mod PieceLoops

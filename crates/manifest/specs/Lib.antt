@@ -1,3 +1,5 @@
 pub mod Fits
 pub mod Adding
+pub mod Gives
+pub mod Reading
 pub mod Cases

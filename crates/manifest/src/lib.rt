@@ -2,15 +2,23 @@
 #![tactic(auto)]
 
 mod adding;
+mod chunks;
+mod decoding;
 mod encoding;
+mod error;
+mod fields;
+mod files;
+mod hashes;
 mod making;
 mod meta;
 mod names;
 mod parts;
 mod rows;
+mod slots;
 #[cfg(test)]
 mod tests;
 
+pub use error::ManifestError;
 pub use making::from_scratch;
 pub use meta::MetaManifest;
 pub use rows::{ChunkRow, FileRow, Manifest};

@@ -7,6 +7,7 @@ ghost use Rattle.state_spec.specs.Manifest.{manifest_from, file_sums, manifest_o
 ghost use Rattle.sys_state.specs.System.{part_of, kept_of};
 ghost use Rattle.manifest.specs.Fits.{FitsText, FitSums, FitMemories};
 
+use crate::fields::VERSION;
 use crate::names::SYSTEM;
 use crate::parts::chunk_hashes;
 use crate::rows::Manifest;
@@ -14,9 +15,6 @@ use byte_codec::{Blob, NoMemory};
 use hash_domain::Hash32;
 use std::alloc::Global;
 use sys_state::SysState;
-
-/// The version of the manifests that are made here.
-const VERSION: u32 = 1;
 
 impl Manifest {
     /// The manifest of a state with this system text, of which the chunks of each memory in file order have these

@@ -1,0 +1,255 @@
+//! The fields of a manifest's text, each with its rule and the place where it is refused.
+
+ghost use Rattle.std.specs.Prelude.{◌≡◌, ◌==◌, ◌<◌, ◌≤◌, ◌^◌, ◌+◌, ◌*◌, ◌%◌, ◌&&◌, nat_le, nat_lt, codes, length, IfOk, OnOk, Some};
+ghost use Rattle.std.specs.Int.{w32, w64};
+ghost use Rattle.std.specs.List.{before_first, position};
+ghost use Rattle.hex.specs.Hex.{decode_of};
+ghost use Rattle.format_spec.specs.Bytes.{same_bytes, is_after, bytes_cmp};
+ghost use Rattle.format_spec.specs.Fields.{field, number, block, string8, any, magic};
+ghost use Rattle.state_spec.specs.Files.{system_name};
+ghost use Rattle.state_spec.specs.ManifestText.{decoded, id_in, is_next_heap, is_its_stable, is_system_size};
+ghost use Rattle.manifest.specs.Gives.{Gives};
+ghost use Rattle.manifest.specs.Reading.{fits_memory, only_id};
+
+use crate::encoding::MAGIC;
+use crate::error::ManifestError;
+use crate::names::{SYSTEM, memory_name};
+use byte_codec::{Blob, Reader};
+use format_spec::{
+    MAX_CANISTERS, MAX_ID, MAX_MEMORY_PAGES, MAX_PIECES, MAX_STATE_PAGES, MAX_SYSTEM, MIN_SYSTEM,
+    PAGE_SIZE,
+};
+use hash_domain::Hash32;
+use std::alloc::Global;
+use sys_state::CanisterId;
+
+/// The version of manifests and meta-manifests.
+pub(crate) const VERSION: u32 = 1;
+
+/// The name that the format begins with.
+pub(crate) fn read_magic(reader: &mut Reader) -> Result<(), ManifestError>
+    ensures { Gives (λ _. (codes "ICMF", reader.new)) result (magic (codes "ICMF") reader.old) }
+{
+    let at = reader.at();
+    match reader.bytes(MAGIC.len()) {
+        Ok(name) if same(MAGIC, name) => Ok(()),
+        _ => Err(ManifestError::BadManifest(at as u64)),
+    }
+}
+
+/// A number of four bytes that can only be this one.
+pub(crate) fn read_be32(reader: &mut Reader, wanted: u32) -> Result<(), ManifestError>
+    ensures { Gives (λ _. (wanted, reader.new)) result (field (number w32) (λ n. n == wanted) reader.old) }
+{
+    let at = reader.at();
+    match reader.be32() {
+        Ok(number) if number == wanted => Ok(()),
+        _ => Err(ManifestError::BadManifest(at as u64)),
+    }
+}
+
+/// A count of four bytes that can only be this one.
+pub(crate) fn read_count(reader: &mut Reader, wanted: usize) -> Result<(), ManifestError>
+    ensures count { Gives (λ _. (wanted, reader.new)) result (field (number w32) (λ n. n == wanted) reader.old) }
+    ensures small { OnOk result (wanted < 2 ^ 32) }
+{
+    let at = reader.at();
+    match reader.be32() {
+        Ok(count) if count as usize == wanted => Ok(()),
+        _ => Err(ManifestError::BadManifest(at as u64)),
+    }
+}
+
+/// The number of pieces, which is 1 to 128.
+pub(crate) fn read_piece_count(reader: &mut Reader) -> Result<u32, ManifestError>
+    ensures count { Gives (λ n. (n, reader.new)) result (field (number w32) (λ n. nat_lt 0 n && nat_le n MAX_PIECES) reader.old) }
+    ensures few { IfOk result (λ n. n ≤ 128) }
+{
+    let at = reader.at();
+    match reader.be32() {
+        Ok(count) if 0 < count && count as usize <= MAX_PIECES => Ok(count),
+        _ => Err(ManifestError::BadManifest(at as u64)),
+    }
+}
+
+/// The number of files, which is odd and at most 2,049.
+pub(crate) fn read_file_count(reader: &mut Reader) -> Result<u32, ManifestError>
+    ensures count { Gives (λ n. (n, reader.new)) result (field (number w32) (λ n. n % 2 == 1 && nat_le n (2 * MAX_CANISTERS + 1)) reader.old) }
+    ensures odd { IfOk result (λ n. n % 2 ≡ 1) }
+    ensures few { IfOk result (λ n. n ≤ 2049) }
+{
+    let at = reader.at();
+    match reader.be32() {
+        Ok(count) if count % 2 == 1 && count as usize <= 2 * MAX_CANISTERS + 1 => Ok(count),
+        _ => Err(ManifestError::BadManifest(at as u64)),
+    }
+}
+
+/// A number of eight bytes that can only be this one.
+pub(crate) fn read_be64(reader: &mut Reader, wanted: u64) -> Result<(), ManifestError>
+    ensures { Gives (λ _. (wanted, reader.new)) result (field (number w64) (λ n. n == wanted) reader.old) }
+{
+    let at = reader.at();
+    match reader.be64() {
+        Ok(number) if number == wanted => Ok(()),
+        _ => Err(ManifestError::BadManifest(at as u64)),
+    }
+}
+
+/// A hash.
+pub(crate) fn read_hash(reader: &mut Reader) -> Result<Hash32, ManifestError>
+    ensures { Gives (λ hash. (hash, reader.new)) result (field (block 32) any reader.old) }
+{
+    let at = reader.at();
+    let Ok(bytes) = reader.bytes(32) else {
+        return Err(ManifestError::BadManifest(at as u64));
+    };
+    let mut hash = [0; 32];
+    hash.copy_from_slice(bytes);
+    Ok(Hash32(hash))
+}
+
+/// The size of a memory, where those before have this size together.
+pub(crate) fn read_memory_size(reader: &mut Reader, total: u64) -> Result<u64, ManifestError>
+    ensures size { Gives (λ size. (size, reader.new)) result (field (number w64) (fits_memory total) reader.old) }
+    ensures fits { IfOk result (λ size. total + size ≤ 2 ^ 30) }
+{
+    let at = reader.at();
+    match reader.be64() {
+        Ok(size) if is_memory_size(total, size) => Ok(size),
+        _ => Err(ManifestError::BadManifest(at as u64)),
+    }
+}
+
+fn is_memory_size(total: u64, size: u64) -> bool
+    ensures { result ≡ fits_memory total size }
+{
+    size % PAGE_SIZE as u64 == 0
+        && size <= (MAX_MEMORY_PAGES * PAGE_SIZE) as u64
+        && total.saturating_add(size) <= (MAX_STATE_PAGES * PAGE_SIZE) as u64
+}
+
+/// The size of the system text.
+pub(crate) fn read_system_size(reader: &mut Reader) -> Result<u64, ManifestError>
+    ensures { Gives (λ size. (size, reader.new)) result (field (number w64) is_system_size reader.old) }
+{
+    let at = reader.at();
+    match reader.be64() {
+        Ok(size) if MIN_SYSTEM as u64 <= size && size <= MAX_SYSTEM as u64 => Ok(size),
+        _ => Err(ManifestError::BadManifest(at as u64)),
+    }
+}
+
+/// The name of the system text.
+pub(crate) fn read_system_name(alloc: Global, reader: &mut Reader) -> Result<Blob, ManifestError>
+    ensures name { Gives (λ name. (name, reader.new)) result (field string8 (λ name. same_bytes name system_name) reader.old) }
+    ensures short { IfOk result (λ name. length name < 256) }
+{
+    let at = reader.at();
+    match reader.string8() {
+        Ok(name) if same(name, SYSTEM) => Ok(Blob::from_slice(alloc, SYSTEM)?),
+        _ => Err(ManifestError::BadManifest(at as u64)),
+    }
+}
+
+/// The name of the heap of an id above the last one, and that id.
+pub(crate) fn read_heap_name(
+    alloc: Global,
+    reader: &mut Reader,
+    last: &Option<CanisterId>,
+) -> Result<(CanisterId, Blob), ManifestError>
+    ensures name { Gives (λ x. (x.1, reader.new)) result (field string8 (λ name. is_next_heap last.now (id_in name) name) reader.old) }
+    ensures id { IfOk result (λ x. id_in x.1 ≡ Some x.0) }
+    ensures short { IfOk result (λ x. length x.1 < 256) }
+{
+    let at = reader.at();
+    let bad = ManifestError::BadManifest(at as u64);
+    let Ok(name) = reader.string8() else {
+        return Err(bad);
+    };
+    let Some(id) = id_of(name) else {
+        return Err(bad);
+    };
+    let heap = memory_name(alloc, &id, b"heap")?;
+    if is_heap(name, heap.bytes(), last, &id) {
+        Ok((id, heap))
+    } else {
+        Err(bad)
+    }
+}
+
+// The name is the one looked for, and the id is above the last one.
+fn is_heap(name: &[u8], wanted: &[u8], last: &Option<CanisterId>, id: &CanisterId) -> bool
+    ensures { result ≡ same_bytes name.now wanted.now && is_after bytes_cmp last.now id.now }
+{
+    same(name, wanted) && is_next(last, id)
+}
+
+/// The name of the stable memory of this id.
+pub(crate) fn read_stable_name(
+    alloc: Global,
+    reader: &mut Reader,
+    id: &CanisterId,
+) -> Result<Blob, ManifestError>
+    ensures name { Gives (λ name. (name, reader.new)) result (field string8 (is_its_stable (Some id.now)) reader.old) }
+    ensures id { IfOk result (λ name. id_in name ≡ Some id.now) }
+    ensures short { IfOk result (λ name. length name < 256) }
+{
+    let at = reader.at();
+    let stable = memory_name(alloc, id, b"stable")?;
+    match reader.string8() {
+        Ok(name) if same(name, stable.bytes()) => Ok(stable),
+        _ => Err(ManifestError::BadManifest(at as u64)),
+    }
+}
+
+fn is_next(last: &Option<CanisterId>, id: &CanisterId) -> bool
+    ensures { result ≡ is_after bytes_cmp last.now id.now }
+{
+    match last {
+        None => true,
+        Some(last) => last < id,
+    }
+}
+
+// The id whose digits stand between the ninth byte of a name and the next slash.
+fn id_of(name: &[u8]) -> Option<CanisterId>
+    ensures { result ≡ only_id (id_in name.now) }
+{
+    id_of_digits(before_slash(&name[name.len().min(9)..]))
+}
+
+fn before_slash(bytes: &[u8]) -> &[u8]
+    ensures { result.now ≡ before_first (λ c. c == 47) bytes.now }
+{
+    match first_slash(bytes) {
+        Some(end) => &bytes[..end],
+        None => bytes,
+    }
+}
+
+fn first_slash(bytes: &[u8]) -> Option<usize>
+    ensures { result ≡ position (λ c. c == 47) bytes.now }
+{
+    bytes.iter().position(|byte| *byte == b'/')
+}
+
+fn id_of_digits(digits: &[u8]) -> Option<CanisterId>
+    ensures { result ≡ only_id (decoded (decode_of digits.now)) }
+{
+    let count = digits.len() / 2;
+    if count > MAX_ID {
+        return None;
+    }
+    let mut bytes = [0; MAX_ID];
+    let room = &mut bytes[..count];
+    hex::decode_to_slice(digits, room).ok()?;
+    CanisterId::new(room)
+}
+
+/// Whether two byte strings are equal.
+pub(crate) fn same(a: &[u8], b: &[u8]) -> bool
+    ensures { result ≡ same_bytes a.now b.now }
+{
+    a == b
+}
