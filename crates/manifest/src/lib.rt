@@ -13,6 +13,8 @@ mod making;
 mod meta;
 mod names;
 mod parts;
+#[cfg(test)]
+mod reading_tests;
 mod rows;
 mod slots;
 #[cfg(test)]
