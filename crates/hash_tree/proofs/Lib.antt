@@ -1,0 +1,6 @@
+pub mod Lists
+pub mod Putting
+pub mod Stacking
+pub mod Ids
+pub mod Levelling
+pub mod Growing

@@ -1,0 +1,4 @@
+use Rattle.hash_tree.proofs.forks.+take_forks.Given as goal
+
+abbrev pub decreases-take_forks : goal.decreases-take_forks
+decreases-take_forks l = l.count

@@ -1,0 +1,4 @@
+pub mod View
+pub mod Levels
+pub mod Stack
+pub mod Canisters

@@ -1,0 +1,10 @@
+pub mod Entries
+pub mod Fielding
+pub mod Steps
+pub mod Within
+pub mod Truth
+pub mod Rests
+pub mod Parts
+pub mod Neighbours
+pub mod Walked
+pub mod Witnesses

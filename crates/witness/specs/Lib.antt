@@ -1,0 +1,6 @@
+pub mod Answers
+pub mod Gives
+pub mod Strings
+pub mod Level
+pub mod Parts
+pub mod Shows
