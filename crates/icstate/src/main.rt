@@ -1,6 +1,7 @@
-//! The program over standard input and output.
+//! The program over standard input and output, and the folder `state`.
 #![tactic(auto)]
 
+use disk_folder::FolderDisk;
 use io_edge::{StdSink, StdSource};
 use state_cli::{Status, run};
 use std::alloc::{AllocError, Global};
@@ -8,6 +9,9 @@ use std::io::ErrorKind;
 use std::process::ExitCode;
 use std::rt::Env;
 use std::{env, io};
+
+// Where the disk is, from the folder that the program is run in.
+const FOLDER: &str = "state";
 
 // The words after the program's name. Where one is no text, a word that no command line has.
 fn words(rt: &(impl Env + AllocGlobal)) -> Result<Vec<String>, AllocError> {
@@ -22,12 +26,18 @@ fn words(rt: &(impl Env + AllocGlobal)) -> Result<Vec<String>, AllocError> {
     }
 }
 
+// The words, and the path of the disk.
+fn given(rt: &(impl Env + AllocGlobal)) -> Result<(Vec<String>, String), AllocError> {
+    Ok((words(rt)?, String::from_str(rt.alloc(), FOLDER)?))
+}
+
 fn main(rt: HostRuntime) -> ExitCode {
-    let status = match words(&rt) {
-        Ok(words) => {
+    let status = match given(&rt) {
+        Ok((words, path)) => {
             let mut source = StdSource::new(rt.reader());
             let mut sink = StdSink::new(io::writer(&rt));
-            run(rt.alloc(), &words, &mut source, &mut sink)
+            let mut disk = FolderDisk::at(&rt, path);
+            run(rt.alloc(), &words, &mut source, &mut sink, &mut disk)
         }
         Err(_) => Status::Memory,
     };

@@ -6,3 +6,4 @@ pub mod Machine
 pub mod Script
 pub mod States
 pub mod Step
+pub mod WitnessSteps

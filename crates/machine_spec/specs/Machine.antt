@@ -1,5 +1,6 @@
 -- The plain machine: what it holds between two lines, and how a step is said.
-use Rattle.std.specs.Prelude.{ℕ, Bool, true, false, List, [], ◌∷◌, Option, Some, None}
+use Rattle.std.specs.Prelude.{ℕ, ◌==◌, not, Bool, true, false, List, [], ◌∷◌, find, filter, Option, Some, None}
+use Rattle.std.specs.Option.{option_map}
 use Rattle.format_spec.specs.Bytes.{Bytes}
 use Rattle.state_spec.specs.State.{State, Canister}
 use Rattle.script_text.specs.declared.command.HeightOrLive.{HeightOrLive}
@@ -10,14 +11,15 @@ use Rattle.script_text.specs.declared.reply.Refusal.{Refusal}
 use Rattle.script_text.specs.declared.reply.Refusal.TheVariants.{NoCanister, NoHeight}
 use Rattle.machine_spec.specs.States.{empty_state, canister_in}
 
--- the live state and its height
+-- the live state and its height, and the states in memory by their heights, ascending
 pub record Machine : Type 0 where
   pub live : State
   pub height : ℕ
+  pub memory : List (ℕ × State)
 
 -- the machine of an empty store
 abbrev pub start : Machine
-start = record { live = empty_state; height = 1 }
+start = record { live = empty_state; height = 1; memory = [] }
 
 -- a reply, and the machine after it
 pub record Outcome : Type 0 where
@@ -50,10 +52,18 @@ unless_none (Some x) refusal m act = act x
 abbrev pub on_canister : Machine → Bytes → (Canister → Outcome) → Outcome
 on_canister m id act = unless_none (canister_in m.live id) NoCanister m act
 
--- the state that a line asks about: so far there is none but the live one
+-- the state in memory at a height
+abbrev pub kept_at : ℕ → List (ℕ × State) → Option State
+kept_at h ks = option_map (λ k. k.1) (find (λ k. k.0 == h) ks)
+
+-- the states in memory but for the one at a height
+abbrev pub without_height : ℕ → List (ℕ × State) → List (ℕ × State)
+without_height h ks = filter (λ k. not (k.0 == h)) ks
+
+-- the state that a line asks about
 abbrev pub state_at : Machine → HeightOrLive → Option State
 state_at m Live = Some m.live
-state_at m (Height h) = None
+state_at m (Height h) = kept_at h m.memory
 
 -- what a step does with the state that a line asks about
 abbrev pub on_state : Machine → HeightOrLive → (State → Outcome) → Outcome

@@ -6,17 +6,19 @@ use Rattle.std.specs.Result.{IfOk}
 use Rattle.std.specs.Prelude.{if◌then◌else◌, codes}
 use Rattle.std.specs.Str.{bytes_eq}
 use Rattle.format_spec.specs.Bytes.{Bytes}
-use Rattle.format_spec.specs.declared.limits.TheConstants.{MAX_MODULE, MAX_CERTIFIED, MAX_VALUE, MAX_READ}
+use Rattle.format_spec.specs.declared.limits.TheConstants.{MAX_MODULE, MAX_CERTIFIED, MAX_VALUE, MAX_READ, MAX_PATHS}
 use Rattle.script_text.specs.declared.command.Command.{Command}
 use Rattle.script_text.specs.declared.command.Command.TheVariants as commands
 use Rattle.script_text.specs.declared.keywords.Keyword.{Keyword}
 use Rattle.script_text.specs.declared.keywords.Keyword.TheVariants.{Canister, Drop, Grow, Write, Module, Certify, Time}
-use Rattle.script_text.specs.declared.keywords.Keyword.TheVariants.{Put, Del, Read, Heights, Root, Manifest}
-use Rattle.script_text.specs.Commands.{FitsForm, command_by, command_of, command_of_words, one_word, two_words, three_words, four_words, five_words, no_words}
-use Rattle.script_text.specs.Commands.{module_command_of, certify_of, put_of, read_of}
+use Rattle.script_text.specs.declared.keywords.Keyword.TheVariants.{Put, Del, Read, Round, Forget, Heights, Root}
+use Rattle.script_text.specs.declared.keywords.Keyword.TheVariants.{Tree, Manifest, Witness, Check}
+use Rattle.script_text.specs.Commands.{FitsForm, command_by, command_of, command_of_words, one_word, two_words, three_words, four_words, five_words, no_words, word_and_more}
+use Rattle.script_text.specs.Commands.{module_command_of, certify_of, put_of, read_of, witness_of}
 use Rattle.script_text.specs.Keywords.{keyword_of}
 use Rattle.script_text.specs.Script.{words}
-use Rattle.script_text.specs.Words.{such_that, hex_of, hex_up_to, id_of, module_of, path_of, number_of, number_up_to, mem_of, height_or_live}
+use Rattle.script_text.proofs.PathCounts.{path_count}
+use Rattle.script_text.specs.Words.{such_that, hex_of, hex_up_to, id_of, module_of, hash_of, path_of, is_path_count, paths_of, each_of, number_of, number_up_to, mem_of, height_of, height_or_live}
 
 abbrev Fits : Option Command → Type 0
 Fits found = IfSome found FitsForm
@@ -60,6 +62,12 @@ read_fits at id mem offset len =
     then_fits FitsForm _ (height_or_live at) (λ h. then_fits FitsForm _ (id_of id) (λ i. then_fits FitsForm _ (mem_of mem) (λ m. then_fits FitsForm _ (number_of offset) (λ o.
     map_fits FitsForm (λ n. commands.Read h i m o n) (number_up_to MAX_READ len) (such_fits (λ (n : ℕ). n ≤ MAX_READ) (λ n. nat_le n MAX_READ) (number_of len) (λ n e. leb-true n MAX_READ e))))))
 
+paths_fit : (words : List Bytes) → IfSome (paths_of words) (λ paths. (1 ≤ length paths) × (length paths ≤ MAX_PATHS))
+paths_fit words = such_fits (λ (paths : List (List Bytes)). (1 ≤ length paths) × (length paths ≤ MAX_PATHS)) (λ paths. is_path_count (length paths)) (each_of path_of words) (λ paths e. path_count (length paths) e)
+
+witness_fits : (at : Bytes) (paths : List Bytes) → Fits (witness_of at paths)
+witness_fits at paths = then_fits FitsForm _ (height_or_live at) (λ h. map_fits FitsForm (λ ps. commands.Witness h ps) (paths_of paths) (paths_fit paths))
+
 one_fits : (f : Bytes → Option Command) → ((a : Bytes) → Fits (f a)) → (rest : List Bytes) → Fits (one_word f rest)
 one_fits f h [] = tt
 one_fits f h (p ∷ []) = h p
@@ -95,6 +103,10 @@ five_fits f h (p ∷ q ∷ r ∷ s ∷ []) = tt
 five_fits f h (p ∷ q ∷ r ∷ s ∷ t ∷ []) = h p q r s t
 five_fits f h (p ∷ q ∷ r ∷ s ∷ t ∷ u ∷ more) = tt
 
+more_fits : (f : Bytes → List Bytes → Option Command) → ((a : Bytes) (more : List Bytes) → Fits (f a more)) → (rest : List Bytes) → Fits (word_and_more f rest)
+more_fits f h [] = tt
+more_fits f h (p ∷ more) = h p more
+
 none_fits : (c : Command) → FitsForm c → (rest : List Bytes) → Fits (no_words (Some c) rest)
 none_fits c h [] = h
 none_fits c h (w ∷ rest) = tt
@@ -110,9 +122,14 @@ by_keyword Time rest = one_fits _ (λ n. map_fits FitsForm (λ t. commands.Time 
 by_keyword Put rest = two_fits _ put_fits rest
 by_keyword Del rest = one_fits _ (λ path. map_fits FitsForm (λ p. commands.Del p) (path_of path) (any_fits _ (path_of path) (λ p. tt))) rest
 by_keyword Read rest = five_fits _ read_fits rest
+by_keyword Round rest = none_fits commands.Round tt rest
+by_keyword Forget rest = one_fits _ (λ at. map_fits FitsForm (λ h. commands.Forget h) (height_of at) (any_fits _ (height_of at) (λ h. tt))) rest
 by_keyword Heights rest = none_fits commands.Heights tt rest
 by_keyword Root rest = one_fits _ (λ at. map_fits FitsForm (λ h. commands.Root h) (height_or_live at) (any_fits _ (height_or_live at) (λ h. tt))) rest
+by_keyword Tree rest = one_fits _ (λ at. map_fits FitsForm (λ h. commands.Tree h) (height_or_live at) (any_fits _ (height_or_live at) (λ h. tt))) rest
 by_keyword Manifest rest = one_fits _ (λ at. map_fits FitsForm (λ h. commands.Manifest h) (height_or_live at) (any_fits _ (height_or_live at) (λ h. tt))) rest
+by_keyword Witness rest = more_fits _ witness_fits rest
+by_keyword Check rest = three_fits _ (λ root bytes path. then_fits FitsForm _ (hash_of root) (λ r. then_fits FitsForm _ (hex_of bytes) (λ b. map_fits FitsForm (λ p. commands.Check r b p) (path_of path) (any_fits _ (path_of path) (λ p. tt))))) rest
 
 by_words : (ws : List Bytes) → Fits (command_of_words ws)
 by_words [] = tt

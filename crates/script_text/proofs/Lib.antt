@@ -1,7 +1,9 @@
+pub mod Each
 pub mod Fits
+pub mod Hashes
 pub mod Ids
 pub mod Joined
-pub mod Labels
 pub mod Lines
 pub mod Numerals
+pub mod PathCounts
 pub mod WordCounts

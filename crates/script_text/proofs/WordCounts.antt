@@ -1,8 +1,9 @@
 -- Forms by the number of their words.
-use Rattle.std.proofs.Common.{◌≡◌, List, [], ◌∷◌, length, map, get_or, arith, Option, None, refl}
+use Rattle.std.proofs.Common.{◌≡◌, ◌≤◌, ◌-◌, take, drop, ap, List, [], ◌∷◌, length, map, get_or, arith, Option, None, refl}
+use Rattle.std.proofs.lemmas.List.{take_all}
 use Rattle.format_spec.specs.Bytes.{Bytes}
 use Rattle.script_text.specs.declared.command.Command.{Command}
-use Rattle.script_text.specs.Commands.{one_word, two_words, three_words, four_words, five_words}
+use Rattle.script_text.specs.Commands.{one_word, two_words, three_words, four_words, five_words, word_and_more}
 
 pub one_word_here : {W : Type 0} (f : Bytes → Option Command) (bytes : W → Bytes) (rest : List W) (a : W) → length rest ≡ 1
     → f (bytes (get_or rest 0 a)) ≡ one_word f (map bytes rest)
@@ -78,3 +79,8 @@ five_words_other f bytes (p ∷ q ∷ r ∷ []) n = refl
 five_words_other f bytes (p ∷ q ∷ r ∷ s ∷ []) n = refl
 five_words_other f bytes (p ∷ q ∷ r ∷ s ∷ t ∷ []) n = absurd (n refl)
 five_words_other f bytes (p ∷ q ∷ r ∷ s ∷ t ∷ u ∷ more) n = refl
+
+pub word_and_more_here : {W : Type 0} (f : Bytes → List Bytes → Option Command) (bytes : W → Bytes) (rest : List W) (a : W) → 1 ≤ length rest
+    → f (bytes (get_or rest 0 a)) (map bytes (take (length rest - 1) (drop 1 rest))) ≡ word_and_more f (map bytes rest)
+word_and_more_here f bytes [] a n = absurd (omega arith)
+word_and_more_here f bytes (p ∷ more) a n = ap (λ t. f (bytes p) (map bytes t)) (take_all (length (p ∷ more) - 1) more (omega arith))

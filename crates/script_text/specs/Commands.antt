@@ -2,16 +2,17 @@
 use Rattle.std.specs.Prelude.{◌≤◌, List, [], ◌∷◌, length, Option, Some, None}
 use Rattle.std.specs.Option.{option_map, option_and_then}
 use Rattle.format_spec.specs.Bytes.{Bytes}
-use Rattle.format_spec.specs.declared.limits.TheConstants.{MAX_MODULE, MAX_CERTIFIED, MAX_VALUE, MAX_READ}
+use Rattle.format_spec.specs.declared.limits.TheConstants.{MAX_MODULE, MAX_CERTIFIED, MAX_VALUE, MAX_READ, MAX_PATHS}
 use Rattle.script_text.specs.declared.command.Command.{Command}
 use Rattle.script_text.specs.declared.command.Command.TheVariants as commands
 use Rattle.script_text.specs.declared.keywords.Keyword.{Keyword}
 use Rattle.script_text.specs.declared.keywords.Keyword.TheVariants.{Canister, Drop, Grow, Write, Module, Certify, Time}
-use Rattle.script_text.specs.declared.keywords.Keyword.TheVariants.{Put, Del, Read, Heights, Root, Manifest}
+use Rattle.script_text.specs.declared.keywords.Keyword.TheVariants.{Put, Del, Read, Round, Forget, Heights, Root}
+use Rattle.script_text.specs.declared.keywords.Keyword.TheVariants.{Tree, Manifest, Witness, Check}
 use Rattle.script_text.specs.Keywords.{keyword_of}
 use Rattle.script_text.specs.Script.{words}
-use Rattle.script_text.specs.Words.{number_of, number_up_to, hex_of, hex_up_to, id_of, mem_of, height_or_live}
-use Rattle.script_text.specs.Words.{module_of, path_of}
+use Rattle.script_text.specs.Words.{number_of, number_up_to, hex_of, hex_up_to, id_of, mem_of, height_of, height_or_live}
+use Rattle.script_text.specs.Words.{module_of, hash_of, path_of, paths_of}
 
 -- ---- what so many words give, and none for another number of them
 
@@ -38,6 +39,10 @@ four_words f _ = None
 abbrev pub five_words : (Bytes → Bytes → Bytes → Bytes → Bytes → Option Command) → List Bytes → Option Command
 five_words f (a ∷ b ∷ c ∷ d ∷ e ∷ []) = f a b c d e
 five_words f _ = None
+
+abbrev pub word_and_more : (Bytes → List Bytes → Option Command) → List Bytes → Option Command
+word_and_more f [] = None
+word_and_more f (a ∷ more) = f a more
 
 -- ---- the words behind the first one
 
@@ -90,13 +95,32 @@ read_of at id mem offset len =
     commands.Read h i m o n) (number_up_to MAX_READ len)) (number_of offset)) (mem_of mem)) (id_of id))
     (height_or_live at)
 
+-- `forget H`
+abbrev pub forget_of : Bytes → Option Command
+forget_of height = option_map commands.Forget (height_of height)
+
 -- `root HL`
 abbrev pub root_of : Bytes → Option Command
 root_of at = option_map commands.Root (height_or_live at)
 
+-- `tree HL`
+abbrev pub tree_of : Bytes → Option Command
+tree_of at = option_map commands.Tree (height_or_live at)
+
 -- `manifest HL`
 abbrev pub manifest_of : Bytes → Option Command
 manifest_of at = option_map commands.Manifest (height_or_live at)
+
+-- `witness HL PATH ..`
+abbrev pub witness_of : Bytes → List Bytes → Option Command
+witness_of at paths =
+    option_and_then (λ h. option_map (λ ps. commands.Witness h ps) (paths_of paths)) (height_or_live at)
+
+-- `check ROOT HEX PATH`
+abbrev pub check_of : Bytes → Bytes → Bytes → Option Command
+check_of root bytes path =
+    option_and_then (λ r. option_and_then (λ b. option_map (λ p.
+    commands.Check r b p) (path_of path)) (hex_of bytes)) (hash_of root)
 
 -- the command of a keyword and the words behind it
 abbrev pub command_by : Keyword → List Bytes → Option Command
@@ -110,9 +134,14 @@ command_by Time rest = one_word time_of rest
 command_by Put rest = two_words put_of rest
 command_by Del rest = one_word del_of rest
 command_by Read rest = five_words read_of rest
+command_by Round rest = no_words (Some commands.Round) rest
+command_by Forget rest = one_word forget_of rest
 command_by Heights rest = no_words (Some commands.Heights) rest
 command_by Root rest = one_word root_of rest
+command_by Tree rest = one_word tree_of rest
 command_by Manifest rest = one_word manifest_of rest
+command_by Witness rest = word_and_more witness_of rest
+command_by Check rest = three_words check_of rest
 
 abbrev pub command_of_words : List Bytes → Option Command
 command_of_words [] = None
@@ -128,4 +157,5 @@ FitsForm (commands.Module id (Some wasm)) = length wasm ≤ MAX_MODULE
 FitsForm (commands.Certify id bytes) = length bytes ≤ MAX_CERTIFIED
 FitsForm (commands.Put path value) = length value ≤ MAX_VALUE
 FitsForm (commands.Read at id mem offset len) = len ≤ MAX_READ
+FitsForm (commands.Witness at paths) = (1 ≤ length paths) × (length paths ≤ MAX_PATHS)
 FitsForm _ = Unit {0}

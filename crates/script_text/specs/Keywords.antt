@@ -4,8 +4,22 @@ use Rattle.std.specs.Str.{bytes_eq}
 use Rattle.format_spec.specs.Bytes.{Bytes}
 use Rattle.script_text.specs.declared.keywords.Keyword.{Keyword}
 use Rattle.script_text.specs.declared.keywords.Keyword.TheVariants.{Canister, Drop, Grow, Write, Module, Certify, Time}
-use Rattle.script_text.specs.declared.keywords.Keyword.TheVariants.{Put, Del, Read, Heights, Root, Manifest}
+use Rattle.script_text.specs.declared.keywords.Keyword.TheVariants.{Put, Del, Read, Round, Forget, Heights, Root}
+use Rattle.script_text.specs.declared.keywords.Keyword.TheVariants.{Tree, Manifest, Witness, Check}
 
+-- the keyword of a line that only asks
+abbrev pub question_of : Bytes → Option Keyword
+question_of word =
+    if bytes_eq word (codes "read") then Some Read
+    else if bytes_eq word (codes "heights") then Some Heights
+    else if bytes_eq word (codes "root") then Some Root
+    else if bytes_eq word (codes "tree") then Some Tree
+    else if bytes_eq word (codes "manifest") then Some Manifest
+    else if bytes_eq word (codes "witness") then Some Witness
+    else if bytes_eq word (codes "check") then Some Check
+    else None
+
+-- the keyword that a word spells
 abbrev pub keyword_of : Bytes → Option Keyword
 keyword_of word =
     if bytes_eq word (codes "canister") then Some Canister
@@ -17,8 +31,6 @@ keyword_of word =
     else if bytes_eq word (codes "time") then Some Time
     else if bytes_eq word (codes "put") then Some Put
     else if bytes_eq word (codes "del") then Some Del
-    else if bytes_eq word (codes "read") then Some Read
-    else if bytes_eq word (codes "heights") then Some Heights
-    else if bytes_eq word (codes "root") then Some Root
-    else if bytes_eq word (codes "manifest") then Some Manifest
-    else None
+    else if bytes_eq word (codes "round") then Some Round
+    else if bytes_eq word (codes "forget") then Some Forget
+    else question_of word

@@ -6,6 +6,7 @@ use Rattle.format_spec.specs.Bytes.{Bytes}
 use Rattle.script_text.specs.declared.reply.Refusal.{Refusal}
 use Rattle.script_text.specs.declared.reply.Refusal.TheVariants.{Exists, ManyCanisters, NoCanister, MemoryFull, StateFull}
 use Rattle.script_text.specs.declared.reply.Refusal.TheVariants.{Reserved, PathConflict, TreeFull, NoPath, NoHeight, PastEnd}
+use Rattle.script_text.specs.declared.reply.Refusal.TheVariants.{ManyHeights, HeightLimit, BadWitness, WrongRoot}
 use Rattle.script_text.specs.declared.reply.Reply.{Reply}
 use Rattle.script_text.specs.declared.reply.Reply.TheVariants as replies
 
@@ -31,18 +32,29 @@ refusal_text TreeFull = codes "TreeFull"
 refusal_text NoPath = codes "NoPath"
 refusal_text NoHeight = codes "NoHeight"
 refusal_text PastEnd = codes "PastEnd"
+refusal_text ManyHeights = codes "ManyHeights"
+refusal_text HeightLimit = codes "HeightLimit"
+refusal_text (BadWitness place) = codes "BadWitness " ++ decimal place
+refusal_text (WrongRoot found) = codes "WrongRoot " ++ encode_lower found
 
 -- the text of a reply, without its line feed
 abbrev pub reply_text : Reply → Bytes
 reply_text replies.Fine = codes "ok"
 reply_text (replies.Bytes bytes) = codes "data " ++ hex_or_dash bytes
+reply_text (replies.Round height tree) = codes "round " ++ decimal height ++ codes " tree " ++ encode_lower tree
 reply_text (replies.Heights live memory published) =
     codes "heights live " ++ decimal live ++ codes " memory " ++ numbers_text memory
     ++ codes " published " ++ numbers_text published
 reply_text (replies.Root root) = codes "root " ++ encode_lower root
+reply_text (replies.Tree root) = codes "tree " ++ encode_lower root
 reply_text (replies.Manifest files chunks pieces bytes) =
     codes "manifest files " ++ decimal files ++ codes " chunks " ++ decimal chunks
     ++ codes " pieces " ++ decimal pieces ++ codes " bytes " ++ decimal bytes
+reply_text (replies.Witness bytes) = codes "witness " ++ hex_or_dash bytes
+reply_text (replies.Found bytes) = codes "found " ++ hex_or_dash bytes
+reply_text replies.Absent = codes "absent"
+reply_text replies.Unknown = codes "unknown"
+reply_text replies.Error = codes "error"
 reply_text (replies.Refused refusal) = codes "refused " ++ refusal_text refusal
 
 -- the text for a line that fits no form

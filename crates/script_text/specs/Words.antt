@@ -1,4 +1,4 @@
--- The words of a line: numbers, hexadecimal bytes, ids, memories and heights.
+-- The words of a line: numbers, hexadecimal bytes, ids, hashes, memories, heights and paths.
 use Rattle.std.specs.Prelude.{ℕ, ◌^◌, Bool, false, not, ◌&&◌, ◌||◌, ◌==◌, nat_lt, nat_le, if◌then◌else◌, List, [], ◌∷◌}
 use Rattle.std.specs.Prelude.{length, drop, nat_eq, Option, Some, None, codes}
 use Rattle.std.specs.List.{list_all, slice_split, starts_with}
@@ -6,7 +6,7 @@ use Rattle.std.specs.Option.{option_map, option_and_then}
 use Rattle.std.specs.Str.{bytes_eq}
 use Rattle.std.specs.Str.Parse.{digits_value}
 use Rattle.format_spec.specs.Bytes.{Bytes}
-use Rattle.format_spec.specs.declared.limits.TheConstants.{MAX_HEIGHT, MAX_MODULE}
+use Rattle.format_spec.specs.declared.limits.TheConstants.{HASH_SIZE, MAX_HEIGHT, MAX_MODULE, MAX_PATHS}
 use Rattle.state_spec.specs.State.{is_id, is_label, is_path}
 use Rattle.byte_codec.specs.Hex.{bytes_of_hex}
 use Rattle.sys_state.specs.declared.mem.Mem.{Mem}
@@ -44,6 +44,10 @@ hex_of (first ∷ rest) = if bytes_eq (first ∷ rest) (codes "-") then Some [] 
 -- an id, in hexadecimal
 abbrev pub id_of : Bytes → Option Bytes
 id_of word = such_that is_id (bytes_of_hex word)
+
+-- a hash: 32 bytes in hexadecimal
+abbrev pub hash_of : Bytes → Option Bytes
+hash_of word = such_that (λ bytes. length bytes == HASH_SIZE) (bytes_of_hex word)
 
 abbrev pub mem_of : Bytes → Option Mem
 mem_of word =
@@ -89,14 +93,14 @@ abbrev pub onto : {A : Type 0} → A → Option (List A) → Option (List A)
 onto x None = None
 onto x (Some xs) = Some (x ∷ xs)
 
--- each word read as a label, where each is one
-abbrev pub labels_of : List Bytes → Option (List Bytes)
-labels_of [] = Some []
-labels_of (word ∷ rest) = option_and_then (λ label. onto label (labels_of rest)) (label_of word)
+-- each word read, where each can be
+abbrev pub each_of : {A : Type 0} → (Bytes → Option A) → List Bytes → Option (List A)
+each_of read [] = Some []
+each_of read (word ∷ rest) = option_and_then (λ x. onto x (each_of read rest)) (read word)
 
 -- nothing before the first `/`, and 1 to 8 labels
 abbrev pub path_by : Bytes → List Bytes → Option (List Bytes)
-path_by [] words = such_that is_path (labels_of words)
+path_by [] words = such_that is_path (each_of label_of words)
 path_by (byte ∷ bytes) words = None
 
 abbrev pub path_of_parts : List Bytes → Option (List Bytes)
@@ -106,3 +110,11 @@ path_of_parts (first ∷ rest) = path_by first rest
 -- a `/` is 47
 abbrev pub path_of : Bytes → Option (List Bytes)
 path_of word = path_of_parts (slice_split (λ byte. byte == 47) word)
+
+-- one line may ask for so many paths
+abbrev pub is_path_count : ℕ → Bool
+is_path_count count = nat_le 1 count && nat_le count MAX_PATHS
+
+-- each word read as a path, where they are 1 to 64
+abbrev pub paths_of : List Bytes → Option (List (List Bytes))
+paths_of words = such_that (λ paths. is_path_count (length paths)) (each_of path_of words)

@@ -1,4 +1,6 @@
+use crate::path_list::Paths;
 use byte_codec::Blob;
+use hash_domain::Hash32;
 use sys_state::{CanisterId, Mem, Path};
 
 /// Which state a line asks about.
@@ -65,14 +67,35 @@ pub enum Command {
         offset: u64,
         len: u64,
     },
+    /// `round` keeps the live state in memory, as the live height, and begins the next one.
+    Round,
+    /// `forget H` drops the state that is kept in memory at a height, 1 to 2^62.
+    Forget {
+        height: u64,
+    },
     /// `heights` asks which heights there are.
     Heights,
     /// `root HL` asks for the root hash of a state's manifest.
     Root {
         at: HeightOrLive,
     },
+    /// `tree HL` asks for the root hash of a state's tree.
+    Tree {
+        at: HeightOrLive,
+    },
     /// `manifest HL` asks for the sizes of a state's manifest.
     Manifest {
         at: HeightOrLive,
+    },
+    /// `witness HL PATH ..` asks for the part of a state's tree that shows 1 to 64 paths.
+    Witness {
+        at: HeightOrLive,
+        paths: Paths,
+    },
+    /// `check ROOT HEX PATH` asks what a witness, given by its bytes, shows of a path in the tree with a root hash.
+    Check {
+        root: Hash32,
+        bytes: Blob,
+        path: Path,
     },
 }

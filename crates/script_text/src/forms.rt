@@ -1,14 +1,15 @@
 //! The forms of lines: the words behind the first one, read.
 
-ghost use Rattle.std.specs.Prelude.{◌≡◌, IfOk};
+ghost use Rattle.std.specs.Prelude.{◌≡◌, IfOk, map};
 ghost use Rattle.script_text.specs.Commands.{canister_of, drop_of, grow_of, write_of, module_command_of, certify_of};
-ghost use Rattle.script_text.specs.Commands.{time_of, put_of, del_of, read_of, root_of, manifest_of};
+ghost use Rattle.script_text.specs.Commands.{time_of, put_of, del_of, read_of, forget_of, root_of, tree_of, manifest_of};
+ghost use Rattle.script_text.specs.Commands.{witness_of, check_of};
 
 use crate::command::Command;
-use crate::paths::read_path;
+use crate::paths::{read_path, read_paths};
 use crate::words::{
-    read_at, read_hex, read_hex_up_to, read_id, read_mem, read_module, read_number,
-    read_number_up_to,
+    read_at, read_hash, read_height, read_hex, read_hex_up_to, read_id, read_mem, read_module,
+    read_number, read_number_up_to,
 };
 use byte_codec::NoMemory;
 use format_spec::{MAX_CERTIFIED, MAX_READ, MAX_VALUE};
@@ -145,6 +146,14 @@ pub fn read(at: &[u8], id: &[u8], mem: &[u8], offset: &[u8], len: &[u8]) -> Opti
     })
 }
 
+/// `forget H`
+pub fn forget(height: &[u8]) -> Option<Command>
+    ensures { result ≡ forget_of height.now }
+{
+    let height = read_height(height)?;
+    Some(Command::Forget { height })
+}
+
 /// `root HL`
 pub fn root(at: &[u8]) -> Option<Command>
     ensures { result ≡ root_of at.now }
@@ -153,10 +162,52 @@ pub fn root(at: &[u8]) -> Option<Command>
     Some(Command::Root { at })
 }
 
+/// `tree HL`
+pub fn tree(at: &[u8]) -> Option<Command>
+    ensures { result ≡ tree_of at.now }
+{
+    let at = read_at(at)?;
+    Some(Command::Tree { at })
+}
+
 /// `manifest HL`
 pub fn manifest(at: &[u8]) -> Option<Command>
     ensures { result ≡ manifest_of at.now }
 {
     let at = read_at(at)?;
     Some(Command::Manifest { at })
+}
+
+/// `witness HL PATH ..`
+pub fn witness(alloc: Global, at: &[u8], paths: &[&[u8]]) -> Result<Option<Command>, NoMemory>
+    ensures { IfOk result (λ found. found ≡ witness_of at.now (map (λ word. word.now) paths.now)) }
+{
+    let Some(at) = read_at(at) else {
+        return Ok(None);
+    };
+    let Some(paths) = read_paths(alloc, paths)? else {
+        return Ok(None);
+    };
+    Ok(Some(Command::Witness { at, paths }))
+}
+
+/// `check ROOT HEX PATH`
+pub fn check(
+    alloc: Global,
+    root: &[u8],
+    bytes: &[u8],
+    path: &[u8],
+) -> Result<Option<Command>, NoMemory>
+    ensures { IfOk result (λ found. found ≡ check_of root.now bytes.now path.now) }
+{
+    let Some(root) = read_hash(root) else {
+        return Ok(None);
+    };
+    let Some(bytes) = read_hex(alloc, bytes)? else {
+        return Ok(None);
+    };
+    let Some(path) = read_path(alloc, path)? else {
+        return Ok(None);
+    };
+    Ok(Some(Command::Check { root, bytes, path }))
 }

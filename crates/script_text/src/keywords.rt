@@ -1,7 +1,7 @@
 //! The first word of a line.
 
 ghost use Rattle.std.specs.Prelude.{◌≡◌};
-ghost use Rattle.script_text.specs.Keywords.{keyword_of};
+ghost use Rattle.script_text.specs.Keywords.{keyword_of, question_of};
 
 /// The first word of a line.
 #[derive(Clone, Copy, Debug, PartialEq, Eq)]
@@ -16,9 +16,14 @@ pub enum Keyword {
     Put,
     Del,
     Read,
+    Round,
+    Forget,
     Heights,
     Root,
+    Tree,
     Manifest,
+    Witness,
+    Check,
 }
 
 /// The keyword that a word spells.
@@ -52,6 +57,19 @@ pub fn read_keyword(word: &[u8]) -> Option<Keyword>
     if word == b"del".as_slice() {
         return Some(Keyword::Del);
     }
+    if word == b"round".as_slice() {
+        return Some(Keyword::Round);
+    }
+    if word == b"forget".as_slice() {
+        return Some(Keyword::Forget);
+    }
+    read_question(word)
+}
+
+// The keyword of a line that only asks.
+fn read_question(word: &[u8]) -> Option<Keyword>
+    ensures { result ≡ question_of word.now }
+{
     if word == b"read".as_slice() {
         return Some(Keyword::Read);
     }
@@ -61,8 +79,17 @@ pub fn read_keyword(word: &[u8]) -> Option<Keyword>
     if word == b"root".as_slice() {
         return Some(Keyword::Root);
     }
+    if word == b"tree".as_slice() {
+        return Some(Keyword::Tree);
+    }
     if word == b"manifest".as_slice() {
         return Some(Keyword::Manifest);
+    }
+    if word == b"witness".as_slice() {
+        return Some(Keyword::Witness);
+    }
+    if word == b"check".as_slice() {
+        return Some(Keyword::Check);
     }
     None
 }

@@ -6,15 +6,19 @@ mod forms;
 mod keywords;
 mod numbers;
 mod parsing;
+mod path_list;
 mod paths;
 mod reply;
 mod status;
+#[cfg(test)]
+mod tests;
 mod texts;
 mod words;
 
 pub use command::{Command, HeightOrLive};
 pub use numbers::Numbers;
 pub use parsing::{is_silent, parse};
+pub use path_list::Paths;
 pub use reply::{Refusal, Reply};
 pub use status::Status;
 pub use texts::{write_bad_line, write_reply};

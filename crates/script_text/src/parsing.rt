@@ -2,14 +2,16 @@
 
 ghost use Rattle.std.specs.Prelude.{◌≡◌, IfOk, IfSome, map, Some};
 ghost use Rattle.script_text.specs.Commands.{canister_of, drop_of, grow_of, write_of, module_command_of, certify_of};
-ghost use Rattle.script_text.specs.Commands.{time_of, put_of, del_of, read_of, root_of, manifest_of};
-ghost use Rattle.script_text.specs.Commands.{no_words, one_word, two_words, three_words, four_words, five_words};
+ghost use Rattle.script_text.specs.Commands.{time_of, put_of, del_of, read_of, forget_of, root_of, tree_of, manifest_of};
+ghost use Rattle.script_text.specs.Commands.{witness_of, check_of};
+ghost use Rattle.script_text.specs.Commands.{no_words, one_word, two_words, three_words, four_words, five_words, word_and_more};
 ghost use Rattle.script_text.specs.Commands.{command_by, command_of, FitsForm};
 ghost use Rattle.script_text.specs.Script.{is_silent as is_silent_line};
 
 use crate::command::Command;
 use crate::forms::{
-    canister, certify, del, drop, grow, manifest, module, put, read, root, time, write,
+    canister, certify, check, del, drop, forget, grow, manifest, module, put, read, root, time,
+    tree, witness, write,
 };
 use crate::keywords::{Keyword, read_keyword};
 use crate::words::words_of;
@@ -113,6 +115,35 @@ fn parse_read(rest: &[&[u8]]) -> Option<Command>
     read(rest[0], rest[1], rest[2], rest[3], rest[4])
 }
 
+fn parse_round(rest: &[&[u8]]) -> Option<Command>
+    ensures { result ≡ no_words (Some Command.Round) (map (λ word. word.now) rest.now) }
+{
+    if rest.is_empty() {
+        Some(Command::Round)
+    } else {
+        None
+    }
+}
+
+fn parse_forget(rest: &[&[u8]]) -> Option<Command>
+    ensures { result ≡ one_word forget_of (map (λ word. word.now) rest.now) }
+{
+    if rest.len() != 1 {
+        return None;
+    }
+    forget(rest[0])
+}
+
+fn parse_heights(rest: &[&[u8]]) -> Option<Command>
+    ensures { result ≡ no_words (Some Command.Heights) (map (λ word. word.now) rest.now) }
+{
+    if rest.is_empty() {
+        Some(Command::Heights)
+    } else {
+        None
+    }
+}
+
 fn parse_root(rest: &[&[u8]]) -> Option<Command>
     ensures { result ≡ one_word root_of (map (λ word. word.now) rest.now) }
 {
@@ -120,6 +151,15 @@ fn parse_root(rest: &[&[u8]]) -> Option<Command>
         return None;
     }
     root(rest[0])
+}
+
+fn parse_tree(rest: &[&[u8]]) -> Option<Command>
+    ensures { result ≡ one_word tree_of (map (λ word. word.now) rest.now) }
+{
+    if rest.len() != 1 {
+        return None;
+    }
+    tree(rest[0])
 }
 
 fn parse_manifest(rest: &[&[u8]]) -> Option<Command>
@@ -131,14 +171,22 @@ fn parse_manifest(rest: &[&[u8]]) -> Option<Command>
     manifest(rest[0])
 }
 
-fn parse_heights(rest: &[&[u8]]) -> Option<Command>
-    ensures { result ≡ no_words (Some Command.Heights) (map (λ word. word.now) rest.now) }
+fn parse_witness(alloc: Global, rest: &[&[u8]]) -> Result<Option<Command>, NoMemory>
+    ensures { IfOk result (λ found. found ≡ word_and_more witness_of (map (λ word. word.now) rest.now)) }
 {
-    if rest.is_empty() {
-        Some(Command::Heights)
-    } else {
-        None
+    let [at, paths @ ..] = rest else {
+        return Ok(None);
+    };
+    witness(alloc, at, paths)
+}
+
+fn parse_check(alloc: Global, rest: &[&[u8]]) -> Result<Option<Command>, NoMemory>
+    ensures { IfOk result (λ found. found ≡ three_words check_of (map (λ word. word.now) rest.now)) }
+{
+    if rest.len() != 3 {
+        return Ok(None);
     }
+    check(alloc, rest[0], rest[1], rest[2])
 }
 
 // The command of a keyword and the words behind it.
@@ -156,9 +204,14 @@ fn parse_by(alloc: Global, keyword: Keyword, rest: &[&[u8]]) -> Result<Option<Co
         Keyword::Put => parse_put(alloc, rest),
         Keyword::Del => parse_del(alloc, rest),
         Keyword::Read => Ok(parse_read(rest)),
+        Keyword::Round => Ok(parse_round(rest)),
+        Keyword::Forget => Ok(parse_forget(rest)),
         Keyword::Heights => Ok(parse_heights(rest)),
         Keyword::Root => Ok(parse_root(rest)),
+        Keyword::Tree => Ok(parse_tree(rest)),
         Keyword::Manifest => Ok(parse_manifest(rest)),
+        Keyword::Witness => parse_witness(alloc, rest),
+        Keyword::Check => parse_check(alloc, rest),
     }
 }
 

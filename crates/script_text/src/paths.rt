@@ -4,10 +4,11 @@ ghost use Rattle.std.specs.Prelude.{◌≡◌, ◌==◌, IfOk, map, option_map};
 ghost use Rattle.std.specs.List.{list_all, slice_split};
 ghost use Rattle.state_spec.specs.State.{is_label};
 ghost use Rattle.byte_codec.specs.Hex.{bytes_of_hex};
-ghost use Rattle.script_text.specs.Words.{is_label_byte, plain_label, such_that, label_of, labels_of, path_by, path_of};
+ghost use Rattle.script_text.specs.Words.{is_label_byte, plain_label, such_that, label_of, each_of, path_by, path_of, is_path_count, paths_of};
 
+use crate::path_list::Paths;
 use byte_codec::{Blob, HexError, NoMemory, hex_bytes};
-use format_spec::MAX_LABEL;
+use format_spec::{MAX_LABEL, MAX_PATHS};
 use std::alloc::Global;
 use sys_state::Path;
 
@@ -68,7 +69,7 @@ fn read_label(alloc: Global, word: &[u8]) -> Result<Option<Blob>, NoMemory>
 
 // Each word as a label. None where one of them is none.
 fn read_labels(alloc: Global, words: &[&[u8]]) -> Result<Option<Vec<Blob>>, NoMemory>
-    ensures { IfOk result (λ labels. option_map (λ found. found.items) labels ≡ labels_of (map (λ word. word.now) words.now)) }
+    ensures { IfOk result (λ labels. option_map (λ found. found.items) labels ≡ each_of label_of (map (λ word. word.now) words.now)) }
 {
     let mut labels = Vec::new(alloc);
     for word in words {
@@ -109,4 +110,38 @@ pub fn read_path(alloc: Global, word: &[u8]) -> Result<Option<Path>, NoMemory>
         return Ok(None);
     };
     read_parts(alloc, first, rest)
+}
+
+// Whether one line may ask for so many paths: 1 to 64.
+fn is_good_count(count: usize) -> bool
+    ensures { result ≡ is_path_count count }
+{
+    1 <= count && count <= MAX_PATHS
+}
+
+// Each word as a path. None where one of them is none.
+fn read_each_path(alloc: Global, words: &[&[u8]]) -> Result<Option<Vec<Path>>, NoMemory>
+    ensures { IfOk result (λ paths. option_map (λ found. found.items) paths ≡ each_of path_of (map (λ word. word.now) words.now)) }
+{
+    let mut paths = Vec::with_capacity(alloc, words.len())?;
+    for word in words {
+        let Some(path) = read_path(alloc, word)? else {
+            return Ok(None);
+        };
+        paths.push(path)?;
+    }
+    Ok(Some(paths))
+}
+
+/// 1 to 64 paths, one a word.
+pub fn read_paths(alloc: Global, words: &[&[u8]]) -> Result<Option<Paths>, NoMemory>
+    ensures { IfOk result (λ paths. paths ≡ paths_of (map (λ word. word.now) words.now)) }
+{
+    if !is_good_count(words.len()) {
+        return Ok(None);
+    }
+    let Some(paths) = read_each_path(alloc, words)? else {
+        return Ok(None);
+    };
+    Ok(Some(Paths::new(paths)))
 }

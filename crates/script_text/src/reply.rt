@@ -27,6 +27,14 @@ pub enum Refusal {
     NoHeight,
     /// The bytes asked for end behind the memory's.
     PastEnd,
+    /// As many heights are in memory as may be there.
+    ManyHeights,
+    /// The live height is above the greatest at which a state is kept, 2^62.
+    HeightLimit,
+    /// The bytes are no witness: the field at this place, in bytes, breaks its rule.
+    BadWitness(u64),
+    /// The witness has another root hash: this one.
+    WrongRoot(Hash32),
 }
 
 /// The answer to a command.
@@ -36,6 +44,11 @@ pub enum Reply {
     Fine,
     /// `data HEX`: bytes of a memory.
     Bytes(Blob),
+    /// `round L tree HEX`: the height that is kept from now on, and the root hash of its state's tree.
+    Round {
+        height: u64,
+        tree: Hash32,
+    },
     /// `heights live L memory A,B published C,D`: the live height, the heights in memory and those published.
     Heights {
         live: u64,
@@ -44,6 +57,8 @@ pub enum Reply {
     },
     /// `root HEX`: the root hash of a state's manifest.
     Root(Hash32),
+    /// `tree HEX`: the root hash of a state's tree.
+    Tree(Hash32),
     /// `manifest files F chunks C pieces P bytes N`: what a state's manifest counts.
     Manifest {
         files: u32,
@@ -51,6 +66,16 @@ pub enum Reply {
         pieces: u32,
         bytes: u64,
     },
+    /// `witness HEX`: the bytes of a witness.
+    Witness(Blob),
+    /// `found HEX`: the witness shows a leaf with these bytes at the path.
+    Found(Blob),
+    /// `absent`: the witness shows that nothing is at the path.
+    Absent,
+    /// `unknown`: the witness doesn't show what is at the path.
+    Unknown,
+    /// `error`: the path ends above a leaf, or goes on behind one.
+    Error,
     /// `refused` and why: nothing has changed.
     Refused(Refusal),
 }

@@ -12,6 +12,8 @@ pub enum Status {
     ReadFault,
     /// The sink failed.
     WriteFault,
+    /// The disk failed.
+    DiskFault,
     /// A line is too long.
     LongLine,
     /// The script has too many lines.
@@ -30,6 +32,7 @@ impl Status {
             Status::Usage => 1,
             Status::ReadFault => 3,
             Status::WriteFault => 4,
+            Status::DiskFault => 5,
             Status::LongLine => 7,
             Status::ManyLines => 8,
             Status::Memory => 9,

@@ -2,10 +2,12 @@
 
 ghost use Rattle.std.specs.Prelude.{◌≡◌, ◌++◌, OnOk, codes, decimal};
 ghost use Rattle.std.specs.List.{flat_map};
+ghost use Rattle.hex.specs.Hex.{encode_lower};
 ghost use Rattle.script_text.specs.Texts.{hex_or_dash, numbers_text, refusal_text, reply_text, bad_line_text};
 
 use crate::reply::{Refusal, Reply};
-use byte_codec::{NoMemory, hex_text};
+use byte_codec::{Blob, NoMemory, hex_text};
+use hash_domain::Hash32;
 use itoa::Buffer;
 use std::alloc::Global;
 
@@ -66,22 +68,51 @@ fn write_list(name: &[u8], numbers: &[u64], out: &mut Vec<u8>) -> Result<(), NoM
     write_numbers(numbers, out)
 }
 
-fn refusal_bytes(refusal: &Refusal) -> &'static [u8]
-    ensures { result.now ≡ refusal_text refusal.now }
+// A name and hexadecimal.
+fn write_hash(alloc: Global, name: &[u8], hash: &Hash32, out: &mut Vec<u8>) -> Result<(), NoMemory>
+    ensures { OnOk result (out.new.items ≡ out.old.items ++ (name.now ++ encode_lower hash.now)) }
+{
+    out.extend_from_slice(name)?;
+    out.extend_from_slice(hex_text(alloc, hash.bytes())?.bytes())?;
+    Ok(())
+}
+
+// A name and bytes.
+fn write_bytes(alloc: Global, name: &[u8], bytes: &Blob, out: &mut Vec<u8>) -> Result<(), NoMemory>
+    ensures { OnOk result (out.new.items ≡ out.old.items ++ (name.now ++ hex_or_dash bytes.now)) }
+{
+    out.extend_from_slice(name)?;
+    write_hex(alloc, bytes.bytes(), out)
+}
+
+fn write_refusal(alloc: Global, refusal: &Refusal, out: &mut Vec<u8>) -> Result<(), NoMemory>
+    ensures { OnOk result (out.new.items ≡ out.old.items ++ refusal_text refusal.now) }
 {
     match refusal {
-        Refusal::Exists => b"Exists",
-        Refusal::ManyCanisters => b"ManyCanisters",
-        Refusal::NoCanister => b"NoCanister",
-        Refusal::MemoryFull => b"MemoryFull",
-        Refusal::StateFull => b"StateFull",
-        Refusal::Reserved => b"Reserved",
-        Refusal::PathConflict => b"PathConflict",
-        Refusal::TreeFull => b"TreeFull",
-        Refusal::NoPath => b"NoPath",
-        Refusal::NoHeight => b"NoHeight",
-        Refusal::PastEnd => b"PastEnd",
+        Refusal::Exists => out.extend_from_slice(b"Exists")?,
+        Refusal::ManyCanisters => out.extend_from_slice(b"ManyCanisters")?,
+        Refusal::NoCanister => out.extend_from_slice(b"NoCanister")?,
+        Refusal::MemoryFull => out.extend_from_slice(b"MemoryFull")?,
+        Refusal::StateFull => out.extend_from_slice(b"StateFull")?,
+        Refusal::Reserved => out.extend_from_slice(b"Reserved")?,
+        Refusal::PathConflict => out.extend_from_slice(b"PathConflict")?,
+        Refusal::TreeFull => out.extend_from_slice(b"TreeFull")?,
+        Refusal::NoPath => out.extend_from_slice(b"NoPath")?,
+        Refusal::NoHeight => out.extend_from_slice(b"NoHeight")?,
+        Refusal::PastEnd => out.extend_from_slice(b"PastEnd")?,
+        Refusal::ManyHeights => out.extend_from_slice(b"ManyHeights")?,
+        Refusal::HeightLimit => out.extend_from_slice(b"HeightLimit")?,
+        Refusal::BadWitness(place) => write_count(b"BadWitness ", *place, out)?,
+        Refusal::WrongRoot(found) => write_hash(alloc, b"WrongRoot ", found, out)?,
     }
+    Ok(())
+}
+
+fn write_round(alloc: Global, height: u64, tree: &Hash32, out: &mut Vec<u8>) -> Result<(), NoMemory>
+    ensures { OnOk result (out.new.items ≡ out.old.items ++ reply_text (Reply.Round height tree.now)) }
+{
+    write_count(b"round ", height, out)?;
+    write_hash(alloc, b" tree ", tree, out)
 }
 
 fn write_heights(
@@ -120,28 +151,29 @@ pub fn write_reply(alloc: Global, reply: &Reply, out: &mut Vec<u8>) -> Result<()
 {
     match reply {
         Reply::Fine => out.extend_from_slice(b"ok")?,
-        Reply::Bytes(bytes) => {
-            out.extend_from_slice(b"data ")?;
-            write_hex(alloc, bytes.bytes(), out)?;
-        }
+        Reply::Bytes(bytes) => write_bytes(alloc, b"data ", bytes, out)?,
+        Reply::Round { height, tree } => write_round(alloc, *height, tree, out)?,
         Reply::Heights {
             live,
             memory,
             published,
         } => write_heights(*live, memory.items(), published.items(), out)?,
-        Reply::Root(root) => {
-            out.extend_from_slice(b"root ")?;
-            out.extend_from_slice(hex_text(alloc, &root.0)?.bytes())?;
-        }
+        Reply::Root(root) => write_hash(alloc, b"root ", root, out)?,
+        Reply::Tree(root) => write_hash(alloc, b"tree ", root, out)?,
         Reply::Manifest {
             files,
             chunks,
             pieces,
             bytes,
         } => write_manifest(*files, *chunks, *pieces, *bytes, out)?,
+        Reply::Witness(bytes) => write_bytes(alloc, b"witness ", bytes, out)?,
+        Reply::Found(bytes) => write_bytes(alloc, b"found ", bytes, out)?,
+        Reply::Absent => out.extend_from_slice(b"absent")?,
+        Reply::Unknown => out.extend_from_slice(b"unknown")?,
+        Reply::Error => out.extend_from_slice(b"error")?,
         Reply::Refused(refusal) => {
             out.extend_from_slice(b"refused ")?;
-            out.extend_from_slice(refusal_bytes(refusal))?;
+            write_refusal(alloc, refusal, out)?;
         }
     }
     Ok(())

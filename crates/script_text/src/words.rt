@@ -4,12 +4,13 @@ ghost use Rattle.std.specs.Prelude.{◌≡◌, IfOk, map};
 ghost use Rattle.std.specs.List.{list_all};
 ghost use Rattle.byte_codec.specs.Hex.{is_lower_digit};
 ghost use Rattle.script_text.specs.Script.{words};
-ghost use Rattle.script_text.specs.Words.{is_digit, is_number, number_of, number_up_to, hex_of, hex_up_to, id_of, mem_of};
+ghost use Rattle.script_text.specs.Words.{is_digit, is_number, number_of, number_up_to, hex_of, hex_up_to, id_of, hash_of, mem_of};
 ghost use Rattle.script_text.specs.Words.{module_of, height_of, height_or_live};
 
 use crate::command::HeightOrLive;
 use byte_codec::{Blob, HexError, NoMemory, hex_bytes};
-use format_spec::{MAX_HEIGHT, MAX_ID, MAX_MODULE};
+use format_spec::{HASH_SIZE, MAX_HEIGHT, MAX_ID, MAX_MODULE};
+use hash_domain::Hash32;
 use std::alloc::Global;
 use sys_state::{CanisterId, Mem};
 
@@ -86,6 +87,18 @@ pub fn read_id(word: &[u8]) -> Option<CanisterId>
     let room = &mut bytes[..count];
     hex::decode_to_slice(word, room).ok()?;
     CanisterId::new(room)
+}
+
+/// A hash, in hexadecimal.
+pub fn read_hash(word: &[u8]) -> Option<Hash32>
+    ensures { result ≡ hash_of word.now }
+{
+    if !are_hex_digits(word) {
+        return None;
+    }
+    let mut bytes = [0; HASH_SIZE];
+    hex::decode_to_slice(word, &mut bytes).ok()?;
+    Some(Hash32(bytes))
 }
 
 /// The name of a memory.

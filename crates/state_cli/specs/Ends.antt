@@ -7,7 +7,7 @@ use Rattle.machine_spec.specs.Answers.{Turn, answer, answers, after_turns}
 use Rattle.machine_spec.specs.Machine.{start}
 use Rattle.script_text.specs.Script.{lines, feeds, joined, AreWithinLimits}
 use Rattle.script_text.specs.declared.status.Status.{Status}
-use Rattle.script_text.specs.declared.status.Status.TheVariants.{Done, Usage, ReadFault, WriteFault, LongLine, ManyLines, Memory}
+use Rattle.script_text.specs.declared.status.Status.TheVariants.{Done, Usage, ReadFault, WriteFault, DiskFault, LongLine, ManyLines, Memory}
 use Rattle.state_cli.specs.declared.session.Stop.{Stop}
 use Rattle.state_cli.specs.declared.session.Stop.TheVariants as stops
 
@@ -60,6 +60,8 @@ EndsBy Usage closes answered rest tail taken = (taken ≡ []) × closes usage_te
 EndsBy ReadFault closes answered rest tail taken =
     (length answered ≡ feeds taken) × closes (codes "stopped: read fault\n") tail
 EndsBy WriteFault closes answered rest tail taken = CutsAnswer answered rest tail
+-- nothing was taken yet
+EndsBy DiskFault closes answered rest tail taken = (taken ≡ []) × closes (codes "stopped: disk fault\n") tail
 EndsBy LongLine closes answered rest tail taken =
     IsTooLong answered rest × closes (long_line_text (length answered + 1)) tail
 EndsBy ManyLines closes answered rest tail taken =
@@ -83,6 +85,7 @@ abbrev pub status_of : Result Unit Stop → Status
 status_of (Ok done) = Done
 status_of (Err stops.ReadFault) = ReadFault
 status_of (Err stops.WriteFault) = WriteFault
+status_of (Err stops.DiskFault) = DiskFault
 status_of (Err (stops.LongLine number)) = LongLine
 status_of (Err stops.ManyLines) = ManyLines
 status_of (Err stops.Memory) = Memory
@@ -91,6 +94,7 @@ status_of (Err stops.Memory) = Memory
 abbrev pub closing_text : Stop → Bytes
 closing_text stops.ReadFault = codes "stopped: read fault\n"
 closing_text stops.WriteFault = []
+closing_text stops.DiskFault = codes "stopped: disk fault\n"
 closing_text (stops.LongLine number) = long_line_text number
 closing_text stops.ManyLines = codes "stopped: many lines\n"
 closing_text stops.Memory = codes "stopped: no memory\n"

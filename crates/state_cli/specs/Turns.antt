@@ -12,7 +12,7 @@ use Rattle.state_cli.specs.declared.session.Continuation.TheVariants.{More, Fini
 use Rattle.state_cli.specs.declared.session.LineError.{LineError}
 use Rattle.state_cli.specs.declared.session.LineError.TheVariants as answering
 use Rattle.state_cli.specs.declared.session.Stop.{Stop}
-use Rattle.state_cli.specs.declared.session.Stop.TheVariants.{ReadFault, WriteFault, LongLine, ManyLines, Memory}
+use Rattle.state_cli.specs.declared.session.Stop.TheVariants.{ReadFault, WriteFault, DiskFault, LongLine, ManyLines, Memory}
 
 -- what was written for a line that was read, by what doing and writing it answered
 abbrev pub AnswersLine : Result Unit LineError → Machine → (Machine → Type 0) → Turn → Bytes → Type 0
@@ -51,6 +51,7 @@ TakesTurn (Ok More) number m kept taken gained ended = IsAnswered m kept taken g
 TakesTurn (Ok Finished) number m kept taken gained ended = IsEnded m kept taken gained ended
 TakesTurn (Err ReadFault) number m kept taken gained ended = IsLine taken × (gained ≡ [])
 TakesTurn (Err WriteFault) number m kept taken gained ended = IsCut m taken gained
+TakesTurn (Err DiskFault) number m kept taken gained ended = ⊥
 TakesTurn (Err (LongLine at)) number m kept taken gained ended =
     IsLine taken × (length taken ≡ MAX_LINE + 1) × (gained ≡ []) × (at ≡ number)
 TakesTurn (Err ManyLines) number m kept taken gained ended = ⊥

@@ -13,3 +13,5 @@ pub use script_text::Status;
 
 #[cfg(test)]
 mod tests;
+#[cfg(test)]
+mod tree_tests;

@@ -1,20 +1,22 @@
 //! A script, answered line by line.
 
-ghost use Rattle.std.specs.Prelude.{◌≡◌, ℕ, List, Err};
+ghost use Rattle.std.specs.Prelude.{◌≡◌, ◌≢◌, ℕ, List, Err, IsTrue};
 ghost use Rattle.std.specs.Io.KnownBytes.{IsAtEnd, Appends};
 ghost use Rattle.io_edge.specs.Faults.{IsCounted};
 ghost use Rattle.io_edge.specs.Moves.{Moves};
 ghost use Rattle.machine_spec.specs.Machine.{Machine, start};
 ghost use Rattle.state_manager.specs.Kept.{Keeps};
-ghost use Rattle.state_cli.specs.Ends.{Serves};
+ghost use Rattle.state_cli.specs.Ends.{Serves, status_of};
+ghost use Rattle.state_cli.specs.Settles.{Settles};
 ghost use Rattle.state_cli.specs.Turns.{AnswersLine, TakesTurn};
-ghost use Rattle.state_cli.specs.Stops.{stop_of, stop_of_line};
+ghost use Rattle.state_cli.specs.Stops.{stop_of, stop_of_disk, stop_of_line};
 ghost use Rattle.state_cli.specs.declared.reading.ReadError.{ReadError};
 ghost use Rattle.state_cli.specs.declared.session.LineError.TheVariants as lines;
 
 use crate::answering::answer_into;
 use crate::reading::{LineEnd, ReadError, next_byte, read_line};
 use byte_codec::NoMemory;
+use disk_model::{Disk, DiskError};
 use format_spec::MAX_LINES;
 use io_edge::{Sink, Source, write_all};
 use state_manager::Manager;
@@ -25,6 +27,7 @@ use std::alloc::Global;
 pub enum Stop {
     ReadFault,
     WriteFault,
+    DiskFault,
     /// The line of this number, from 1, is too long.
     LongLine(u32),
     ManyLines,
@@ -38,6 +41,17 @@ impl From<ReadError> for Stop {
         match error {
             ReadError::Fault => Stop::ReadFault,
             ReadError::Memory => Stop::Memory,
+        }
+    }
+}
+
+impl From<DiskError> for Stop {
+    ghost from_gives = { λ error stop. stop ≡ stop_of_disk error };
+
+    fn from(error: DiskError) -> Stop {
+        match error {
+            DiskError::Fault => Stop::DiskFault,
+            DiskError::Memory => Stop::Memory,
         }
     }
 }
@@ -107,6 +121,7 @@ fn serve_line<S: Source, K: Sink>(
         TakesTurn result number m (Keeps session.new.manager) taken gained (IsAtEnd (S.left source.new))) }
     ensures read { IsCounted (S.faults source.old) (S.faults source.new) (result ≡ Err Stop.ReadFault) }
     ensures write { IsCounted (K.faults sink.old) (K.faults sink.new) (result ≡ Err Stop.WriteFault) }
+    ensures no_disk { result ≢ Err Stop.DiskFault }
 {
     match read_line(source, &mut session.line)? {
         LineEnd::NoLine => Ok(Continuation::Finished),
@@ -133,6 +148,7 @@ fn serve_lines<S: Source, K: Sink>(
         (Serves result (IsAtEnd (S.left source.new))) }
     ensures read { IsCounted (S.faults source.old) (S.faults source.new) (result ≡ Err Stop.ReadFault) }
     ensures write { IsCounted (K.faults sink.old) (K.faults sink.new) (result ≡ Err Stop.WriteFault) }
+    ensures no_disk { result ≢ Err Stop.DiskFault }
 {
     for number in 0..MAX_LINES as u32 {
         match serve_line(alloc, number + 1, session, source, sink)? {
@@ -147,13 +163,21 @@ fn serve_lines<S: Source, K: Sink>(
     }
 }
 
-/// Answers a script to its end.
-pub fn serve<S: Source, K: Sink>(alloc: Global, source: &mut S, sink: &mut K) -> Result<(), Stop>
+/// Settles the disk, and answers a script to its end.
+pub fn serve<S: Source, K: Sink, D: Disk>(
+    alloc: Global,
+    source: &mut S,
+    sink: &mut K,
+    disk: &mut D,
+) -> Result<(), Stop>
     ensures session { Moves (S.left source.old) (S.left source.new) (K.written sink.old) (K.written sink.new)
         (Serves result (IsAtEnd (S.left source.new))) }
     ensures read { IsCounted (S.faults source.old) (S.faults source.new) (result ≡ Err Stop.ReadFault) }
     ensures write { IsCounted (K.faults sink.old) (K.faults sink.new) (result ≡ Err Stop.WriteFault) }
+    ensures disk { IsTrue D.tells → Settles (status_of result) (D.view disk.old) (D.view disk.new) }
+    ensures disk_fault { IsCounted (D.faults disk.old) (D.faults disk.new) (result ≡ Err Stop.DiskFault) }
 {
+    disk.settle(alloc)?;
     let Ok(manager) = Manager::open(alloc) else {
         return Err(Stop::Memory);
     };

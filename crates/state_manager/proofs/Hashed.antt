@@ -9,7 +9,13 @@ use Rattle.state_spec.specs.ManifestText.{manifest_text}
 use Rattle.state_spec.specs.Root.{MetaManifest, meta_of, root_of, root_of_meta}
 use Rattle.state_spec.specs.State.{State}
 use Rattle.script_text.specs.declared.reply.Reply.TheVariants as replies
-use Rattle.machine_spec.specs.HeightSteps.{counts_of}
+use Rattle.machine_spec.specs.HeightSteps.{counts_of, tree_root}
+use Rattle.machine_spec.specs.WitnessSteps.{witness_text}
+use Rattle.state_spec.specs.State.{system_of}
+use Rattle.tree_spec.specs.Cbor.{cbor}
+use Rattle.tree_spec.specs.Witness.{witness}
+use Rattle.tree_spec.specs.Labelled.{state_tree}
+use Rattle.tree_spec.specs.Tree.{Tree, reconstruct}
 use Rattle.sys_state.specs.System.{System, part_of}
 use Rattle.sys_state.specs.declared.record.CanisterRecord.{CanisterRecord}
 use Rattle.state_manager.specs.Sizes.{HaveSizes, sizes_of}
@@ -32,3 +38,11 @@ pub counts_are : (s : State) (man : Manifest) (meta : MetaManifest) (text : Byte
     → replies.Manifest (length man.files) (length man.chunks) (length meta.pieces) (length text) ≡ counts_of s
 unfolding counts_of
 counts_are s man meta text a b c = rw (c, b, a) refl
+
+pub tree_root_is : (s : State) (t : Tree) (r : Bytes) → r ≡ reconstruct t → t ≡ state_tree (system_of s) → r ≡ tree_root s
+unfolding tree_root
+tree_root_is s t r a b = a ∙ ap reconstruct b
+
+pub witness_text_is : (s : State) (paths : List (List Bytes)) (w : Tree) (text : Bytes) → text ≡ cbor w → w ≡ witness (system_of s) paths → text ≡ witness_text s paths
+unfolding witness_text
+witness_text_is s paths w text a b = a ∙ ap cbor b

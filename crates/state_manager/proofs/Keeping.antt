@@ -13,7 +13,7 @@ use Rattle.sys_state.specs.System.{System, kept_of, record_of}
 use Rattle.sys_state.specs.declared.record.CanisterRecord.{CanisterRecord}
 use Rattle.machine_spec.specs.Machine.{Machine}
 use Rattle.machine_spec.specs.States.{canister_in, with_canister, without_canister, newborn}
-use Rattle.state_manager.specs.Kept.{Held, Keeps}
+use Rattle.state_manager.specs.StateKept.{HeldState, KeepsState}
 use Rattle.state_manager.proofs.Pairs.{take_front, drop_front}
 use Rattle.state_manager.proofs.Splits.{images, find_images, put_images, without_images, sorted-put, sorted-without, comes, stays}
 
@@ -46,11 +46,10 @@ pub length-kept : (s : State) → length (kept_of s).canisters ≡ length s.cani
 length-kept s = length-map s.canisters (λ (c : Bytes × Canister). (c.0, record_of c.1))
 
 -- the parts of a manager that no line on the live state changes
-pub record SameBeside (old new : Held) : Type 0 where
-  pub closed : new.closed ≡ old.closed
+pub record SameBeside (old new : HeldState) : Type 0 where
   pub height : new.height ≡ old.height
 
-module _ (held now : Held) (m : Machine) (k : Keeps held m) (beside : SameBeside held now) where
+module _ (held now : HeldState) (m : Machine) (k : KeepsState held m) (beside : SameBeside held now) where
   there : images record_of m.live.canisters ≡ held.system.canisters
   there = sym (ap (λ (s : System). s.canisters) k.system)
 
@@ -58,9 +57,8 @@ module _ (held now : Held) (m : Machine) (k : Keeps held m) (beside : SameBeside
   in_front front before e = sym (length-map front (λ (c : Bytes × Canister). (c.0, record_of c.1))) ∙ ap length e
 
   -- nothing has changed
-  pub kept_same : now.system ≡ held.system → now.memories ≡ held.memories → Keeps now m
+  pub kept_same : now.system ≡ held.system → now.memories ≡ held.memories → KeepsState now m
   kept_same system memories = record {
-    usable = beside.closed ∙ k.usable;
     version = k.version;
     sorted = k.sorted;
     system = system ∙ k.system;
@@ -71,7 +69,7 @@ module _ (held now : Held) (m : Machine) (k : Keeps held m) (beside : SameBeside
   -- a canister has come
   pub kept_create : (id : Bytes) → calls.Creates held.system now.system id (calls.newborn held.height)
       → now.memories ≡ take (2 * place_of bytes_cmp id held.system.canisters) held.memories ++ ([] ∷ [] ∷ drop (2 * place_of bytes_cmp id held.system.canisters) held.memories)
-      → Keeps now (record m { live = with_canister m.live id (newborn m.height) })
+      → KeepsState now (record m { live = with_canister m.live id (newborn m.height) })
   kept_create id c memories =
       let nb : Canister = newborn held.height in
       let cs : Canisters = m.live.canisters in
@@ -88,20 +86,19 @@ module _ (held now : Held) (m : Machine) (k : Keeps held m) (beside : SameBeside
       ∙ ap (λ (ms : List Bytes). bytes_in split.front ++ ([] ∷ [] ∷ ms)) (drop_front (bytes_in split.front) (bytes_in split.back) at count)
       ∙ sym (bytes-append split.front ((id, nb) ∷ split.back))
       ∙ sym (ap bytes_in (split.put_is nb)) in
-      let keeps : Keeps now (record m { live = with_canister m.live id nb }) = record {
-        usable = beside.closed ∙ k.usable;
+      let keeps : KeepsState now (record m { live = with_canister m.live id nb }) = record {
         version = k.version;
         sorted = sorted-put id nb cs k.sorted;
         system = c.now ∙ ap (λ (s : System). calls.with_canister s id (record_of nb)) k.system ∙ ap (λ (rs : List (Bytes × CanisterRecord)). record (kept_of m.live) { canisters = rs }) (sym (put_images record_of id nb cs));
         memories = all;
         height = beside.height ∙ k.height;
       } in
-      subst (λ (n : ℕ). Keeps now (record m { live = with_canister m.live id (newborn n) })) k.height keeps
+      subst (λ (n : ℕ). KeepsState now (record m { live = with_canister m.live id (newborn n) })) k.height keeps
 
   -- a canister is gone
   pub kept_remove : (id : Bytes) → calls.Removes held.system now.system id
       → now.memories ≡ take (2 * place_of bytes_cmp id held.system.canisters) held.memories ++ drop 2 (drop (2 * place_of bytes_cmp id held.system.canisters) held.memories)
-      → Keeps now (record m { live = without_canister m.live id })
+      → KeepsState now (record m { live = without_canister m.live id })
   kept_remove id c memories =
       let cs : Canisters = m.live.canisters in
       let split = stays record_of id c.c cs c.split.before c.split.after k.sorted (there ∙ c.split.old_is) in
@@ -117,7 +114,6 @@ module _ (held now : Held) (m : Machine) (k : Keeps held m) (beside : SameBeside
       ∙ sym (bytes-append split.front split.back)
       ∙ sym (ap bytes_in split.without_is) in
       record {
-        usable = beside.closed ∙ k.usable;
         version = k.version;
         sorted = sorted-without id cs k.sorted;
         system = c.now ∙ ap (λ (s : System). calls.without_canister s id) k.system ∙ ap (λ (rs : List (Bytes × CanisterRecord)). record (kept_of m.live) { canisters = rs }) (sym (without_images record_of id cs));
@@ -129,7 +125,7 @@ module _ (held now : Held) (m : Machine) (k : Keeps held m) (beside : SameBeside
   pub kept_change : (id : Bytes) (change : CanisterRecord → CanisterRecord) (c new : Canister) → canister_in m.live id ≡ Some c → record_of new ≡ change (record_of c)
       → calls.Changes held.system now.system id change
       → ((front back : Canisters) → length front ≡ place_of bytes_cmp id held.system.canisters → held.memories ≡ bytes_in front ++ c.heap.bytes ∷ c.stable.bytes ∷ bytes_in back → now.memories ≡ bytes_in front ++ new.heap.bytes ∷ new.stable.bytes ∷ bytes_in back)
-      → Keeps now (record m { live = with_canister m.live id new })
+      → KeepsState now (record m { live = with_canister m.live id new })
   kept_change id change c new found same done memories =
       let cs : Canisters = m.live.canisters in
       let split = stays record_of id done.c cs done.split.before done.split.after k.sorted (there ∙ done.split.old_is) in
@@ -139,7 +135,6 @@ module _ (held now : Held) (m : Machine) (k : Keeps held m) (beside : SameBeside
       k.memories ∙ ap bytes_in split.whole ∙ bytes-append split.front ((id, split.value) ∷ split.back) ∙ ap (λ (x : Canister). bytes_in split.front ++ x.heap.bytes ∷ x.stable.bytes ∷ bytes_in split.back) value in
       let changed : change done.c ≡ record_of new = ap change (sym split.value_is ∙ ap record_of value) ∙ sym same in
       record {
-        usable = beside.closed ∙ k.usable;
         version = k.version;
         sorted = sorted-put id new cs k.sorted;
         system = done.now ∙ ap (λ (r : CanisterRecord). calls.with_canister held.system id r) changed ∙ ap (λ (s : System). calls.with_canister s id (record_of new)) k.system ∙ ap (λ (rs : List (Bytes × CanisterRecord)). record (kept_of m.live) { canisters = rs }) (sym (put_images record_of id new cs));

@@ -1,9 +1,12 @@
+pub mod Checked
 pub mod Hashed
 pub mod Indexed
 pub mod Keeping
 pub mod Lines
 pub mod MemoryLines
+pub mod Onward
 pub mod Pairs
 pub mod Sized
 pub mod Splits
+pub mod Standing
 pub mod Stepped

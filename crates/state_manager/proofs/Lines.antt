@@ -17,15 +17,15 @@ use Rattle.machine_spec.specs.LiveSteps.{canister_step, drop_step, module_step, 
 use Rattle.machine_spec.specs.Machine.{Machine, now_live}
 use Rattle.machine_spec.specs.States.{canister_in, with_canister, without_canister, newborn}
 use Rattle.state_manager.specs.Changes.{Alters}
-use Rattle.state_manager.specs.Kept.{Held, Keeps, After}
+use Rattle.state_manager.specs.StateKept.{HeldState, KeepsState, AfterState}
 use Rattle.state_manager.proofs.Keeping.{SameBeside, is_found, length-kept, kept_same, kept_create, kept_remove, kept_change}
 use Rattle.state_manager.proofs.Stepped.{alters_two, alters_three, alters_found}
 
-abbrev pub Same : Held → Held → Type 0
+abbrev pub Same : HeldState → HeldState → Type 0
 Same old now = (now.system ≡ old.system) × (now.memories ≡ old.memories)
 
-module _ (old now : Held) (m : Machine) (k : Keeps old m) (beside : SameBeside old now) where
-  same : Same old now → Keeps now m
+module _ (old now : HeldState) (m : Machine) (k : KeepsState old m) (beside : SameBeside old now) where
+  same : Same old now → KeepsState now m
   same s = kept_same old now m k beside s.0 s.1
 
   found : (id : Bytes) → is_some (calls.canister_in old.system id) ≡ is_some (canister_in m.live id)
@@ -38,7 +38,7 @@ module _ (old now : Held) (m : Machine) (k : Keeps old m) (beside : SameBeside o
       → Alters (calls.create_refusal old.system id) result
       (calls.Creates old.system now.system id (calls.newborn old.height) × (now.memories ≡ take (2 * place_of bytes_cmp id old.system.canisters) old.memories ++ ([] ∷ [] ∷ drop (2 * place_of bytes_cmp id old.system.canisters) old.memories)))
       (Same old now)
-      → After result now (canister_step m id)
+      → AfterState result now (canister_step m id)
   step_create id result h =
       let done : Type 0 = calls.Creates old.system now.system id (calls.newborn old.height) × (now.memories ≡ take (2 * place_of bytes_cmp id old.system.canisters) old.memories ++ ([] ∷ [] ∷ drop (2 * place_of bytes_cmp id old.system.canisters) old.memories)) in
       let g = subst (λ (b : Bool). Alters (if b then Some errors.Exists else if nat_le MAX_CANISTERS (length old.system.canisters) then Some errors.ManyCanisters else None) result done (Same old now)) (found id) h in
@@ -50,7 +50,7 @@ module _ (old now : Held) (m : Machine) (k : Keeps old m) (beside : SameBeside o
       → Alters (calls.find_refusal old.system id) result
       (calls.Removes old.system now.system id × (now.memories ≡ take (2 * place_of bytes_cmp id old.system.canisters) old.memories ++ drop 2 (drop (2 * place_of bytes_cmp id old.system.canisters) old.memories)))
       (Same old now)
-      → After result now (drop_step m id)
+      → AfterState result now (drop_step m id)
   step_remove id result h =
       let done : Type 0 = calls.Removes old.system now.system id × (now.memories ≡ take (2 * place_of bytes_cmp id old.system.canisters) old.memories ++ drop 2 (drop (2 * place_of bytes_cmp id old.system.canisters) old.memories)) in
       let g = subst (λ (b : Bool). Alters (if b then None else Some errors.NoCanister) result done (Same old now)) (found id) h in
@@ -59,7 +59,7 @@ module _ (old now : Held) (m : Machine) (k : Keeps old m) (beside : SameBeside o
 
   pub step_module : (id : Bytes) (wasm : Option Bytes) (result : Result Reply NoMemory)
       → Alters (calls.find_refusal old.system id) result (calls.Changes old.system now.system id (calls.with_module wasm) × (now.memories ≡ old.memories)) (Same old now)
-      → After result now (module_step m id wasm)
+      → AfterState result now (module_step m id wasm)
   step_module id wasm result h =
       let done : Type 0 = calls.Changes old.system now.system id (calls.with_module wasm) × (now.memories ≡ old.memories) in
       let g = subst (λ (b : Bool). Alters (if b then None else Some errors.NoCanister) result done (Same old now)) (found id) h in
@@ -68,7 +68,7 @@ module _ (old now : Held) (m : Machine) (k : Keeps old m) (beside : SameBeside o
 
   pub step_certify : (id bytes : Bytes) (result : Result Reply NoMemory)
       → Alters (calls.find_refusal old.system id) result (calls.Changes old.system now.system id (calls.with_certified bytes) × (now.memories ≡ old.memories)) (Same old now)
-      → After result now (certify_step m id bytes)
+      → AfterState result now (certify_step m id bytes)
   step_certify id bytes result h =
       let done : Type 0 = calls.Changes old.system now.system id (calls.with_certified bytes) × (now.memories ≡ old.memories) in
       let g = subst (λ (b : Bool). Alters (if b then None else Some errors.NoCanister) result done (Same old now)) (found id) h in
@@ -77,7 +77,7 @@ module _ (old now : Held) (m : Machine) (k : Keeps old m) (beside : SameBeside o
 
   pub step_put : (path : List Bytes) (value : Bytes) (result : Result Reply NoMemory)
       → Alters (calls.put_refusal old.system path) result ((now.system ≡ calls.with_entry old.system path value) × (now.memories ≡ old.memories)) (Same old now)
-      → After result now (put_step m path value)
+      → AfterState result now (put_step m path value)
   step_put path value result h =
       let done : Type 0 = (now.system ≡ calls.with_entry old.system path value) × (now.memories ≡ old.memories) in
       let g = subst (λ (s : System). Alters (calls.put_refusal s path) result done (Same old now)) k.system h in
@@ -87,7 +87,6 @@ module _ (old now : Held) (m : Machine) (k : Keeps old m) (beside : SameBeside o
       (λ d. (
         refl,
         record {
-          usable = beside.closed ∙ k.usable;
           version = k.version;
           sorted = k.sorted;
           system = d.0 ∙ ap (λ (s : System). calls.with_entry s path value) k.system;

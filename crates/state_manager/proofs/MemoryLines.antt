@@ -28,7 +28,7 @@ use Rattle.machine_spec.specs.LiveSteps.{grow_step, write_step, read_step}
 use Rattle.machine_spec.specs.Machine.{Machine, Outcome, now_live, unless, unless_none, answered}
 use Rattle.machine_spec.specs.States.{canister_in, with_canister, memory_of, with_memory, pages_with, state_pages}
 use Rattle.state_manager.specs.Changes.{Alters}
-use Rattle.state_manager.specs.Kept.{Held, Keeps, After}
+use Rattle.state_manager.specs.StateKept.{HeldState, KeepsState, AfterState}
 use Rattle.state_manager.specs.Memories.{pages_more, written, write_refusal}
 use Rattle.state_manager.specs.Places.{index_of}
 use Rattle.state_manager.proofs.Indexed.{pick, heap_with, stable_with, pair_get, pair_set}
@@ -94,8 +94,8 @@ more_is round m at (b ∷ w) = rw (some_bytes b w) (write_pages round m at (b �
 with_is : (m : Memory) (at n : ℕ) → pages_with m at n - pages_of m ≡ pages_more (pages_of m) at n
 with_is m at n = elim (n == 0) as (λ (b : Bool). (if b then pages_of m else max (pages_of m) (pages_for (at + n))) - pages_of m ≡ (if b then 0 else max (pages_of m) (pages_for (at + n)) - pages_of m)) [ true ↦ omega arith | false ↦ refl ]
 
-module _ (old now : Held) (m : Machine) (k : Keeps old m) (beside : SameBeside old now) (id : Bytes) (mem : Mem) where
-  same : Same old now → Keeps now m
+module _ (old now : HeldState) (m : Machine) (k : KeepsState old m) (beside : SameBeside old now) (id : Bytes) (mem : Mem) where
+  same : Same old now → KeepsState now m
   same s = kept_same old now m k beside s.0 s.1
 
   -- a memory of a canister has changed
@@ -103,7 +103,7 @@ module _ (old now : Held) (m : Machine) (k : Keeps old m) (beside : SameBeside o
       → calls.Changes old.system now.system id (calls.extended mem more)
       → now.memories ≡ set old.memories (index_of (place_of bytes_cmp id old.system.canisters) mem) x
       → (get_or old.memories (index_of (place_of bytes_cmp id old.system.canisters) mem) [] ≡ (memory_of c mem).bytes → x ≡ new.bytes)
-      → Keeps now (record m { live = with_canister m.live id (with_memory c mem new) })
+      → KeepsState now (record m { live = with_canister m.live id (with_memory c mem new) })
   kept_memory c new more x found pages done memories bytes =
       let n : ℕ = place_of bytes_cmp id old.system.canisters in
       kept_change old now m k beside id (calls.extended mem more) c (with_memory c mem new) found (record_with mem c new more pages) done
@@ -123,7 +123,7 @@ module _ (old now : Held) (m : Machine) (k : Keeps old m) (beside : SameBeside o
       → Alters (calls.extend_refusal old.system id mem n) result
       (calls.Changes old.system now.system id (calls.extended mem n) × (now.memories ≡ set old.memories (index_of (place_of bytes_cmp id old.system.canisters) mem) x) × (x ≡ get_or old.memories (index_of (place_of bytes_cmp id old.system.canisters) mem) [] ++ zeros (n * PAGE_SIZE)))
       (Same old now)
-      → After result now (grow_step m id mem n)
+      → AfterState result now (grow_step m id mem n)
   step_grow n r x result there h =
       let its = its_canister r there in
       let c : Canister = its.0 in
@@ -131,7 +131,7 @@ module _ (old now : Held) (m : Machine) (k : Keeps old m) (beside : SameBeside o
       let f = subst (λ (o : Option CanisterRecord). Alters (calls.pages_refusal old.system mem n o) result done (Same old now)) (there ∙ ap (λ (y : CanisterRecord). Some y) (sym its.2)) h in
       let g = subst (λ (p : ℕ). Alters (if nat_lt (memory_limit 1) (p + n) then Some errors.MemoryFull else if nat_lt (state_limit 1) (calls.all_pages_of old.system + n) then Some errors.StateFull else None) result done (Same old now)) (pages_alike mem c) f in
       let e = subst (λ (p : ℕ). Alters (if nat_lt (memory_limit 1) (pages_of (memory_of c mem) + n) then Some errors.MemoryFull else if nat_lt (state_limit 1) (p + n) then Some errors.StateFull else None) result done (Same old now)) all_pages g in
-      subst (λ (o : Option Canister). After result now (unless_none o refusals.NoCanister m (λ c. unless ((nat_lt (memory_limit m.live.version) (pages_of (memory_of c mem) + n), refusals.MemoryFull) ∷ (nat_lt (state_limit m.live.version) (state_pages m.live + n), refusals.StateFull) ∷ []) m (λ m. now_live m (with_canister m.live id (with_memory c mem (grow (memory_of c mem) n))))))) (sym its.1)
+      subst (λ (o : Option Canister). AfterState result now (unless_none o refusals.NoCanister m (λ c. unless ((nat_lt (memory_limit m.live.version) (pages_of (memory_of c mem) + n), refusals.MemoryFull) ∷ (nat_lt (state_limit m.live.version) (state_pages m.live + n), refusals.StateFull) ∷ []) m (λ m. now_live m (with_canister m.live id (with_memory c mem (grow (memory_of c mem) n))))))) (sym its.1)
       (alters_two (nat_lt (memory_limit 1) (pages_of (memory_of c mem) + n)) (nat_lt (state_limit 1) (state_pages m.live + n)) errors.MemoryFull errors.StateFull refusals.MemoryFull refusals.StateFull result now m
       (λ m. now_live m (with_canister m.live id (with_memory c mem (grow (memory_of c mem) n)))) done (Same old now) refl refl e same
       (λ d. (refl, kept_memory c (grow (memory_of c mem) n) n x its.1 (grow_pages (memory_of c mem) n) d.0 d.1 (λ was. d.2 ∙ ap (λ (b : Bytes). b ++ zeros (n * PAGE_SIZE)) was ∙ sym (grow_is (memory_of c mem) n)))))
@@ -166,7 +166,7 @@ module _ (old now : Held) (m : Machine) (k : Keeps old m) (beside : SameBeside o
       → Alters (write_refusal old.system id mem pages at (length w)) result
       (calls.Changes old.system now.system id (calls.extended mem (pages_more pages at (length w))) × (now.memories ≡ set old.memories (index_of (place_of bytes_cmp id old.system.canisters) mem) x) × (x ≡ written (get_or old.memories (index_of (place_of bytes_cmp id old.system.canisters) mem) []) at w))
       (Same old now)
-      → After result now (write_step m id mem at w)
+      → AfterState result now (write_step m id mem at w)
   step_write at pages w r x result there pages_is few h =
       let its = its_canister r there in
       let c : Canister = its.0 in
@@ -176,29 +176,29 @@ module _ (old now : Held) (m : Machine) (k : Keeps old m) (beside : SameBeside o
       let why = same_if full (Some errors.MemoryFull) (calls.extend_refusal old.system id mem (pages_more pages at (length w))) (if more then Some errors.StateFull else None) (only_state at (length w) pages r c there its.2 pages_is few) in
       let f = subst (λ (o : Option SysError). Alters o result done (Same old now)) why h in
       let of_memory : pages ≡ pages_of (memory_of c mem) = pages_is ∙ ap (calls.pages_of mem) (sym its.2) ∙ pages_alike mem c in
-      subst (λ (o : Option Canister). After result now (unless_none o refusals.NoCanister m (λ c. unless ((nat_lt (memory_limit m.live.version * PAGE_SIZE) (at + length w), refusals.MemoryFull) ∷ (nat_lt (state_limit m.live.version) (state_pages m.live + (pages_with (memory_of c mem) at (length w) - pages_of (memory_of c mem))), refusals.StateFull) ∷ []) m (λ m. now_live m (with_canister m.live id (with_memory c mem (write m.height (memory_of c mem) at w))))))) (sym its.1)
+      subst (λ (o : Option Canister). AfterState result now (unless_none o refusals.NoCanister m (λ c. unless ((nat_lt (memory_limit m.live.version * PAGE_SIZE) (at + length w), refusals.MemoryFull) ∷ (nat_lt (state_limit m.live.version) (state_pages m.live + (pages_with (memory_of c mem) at (length w) - pages_of (memory_of c mem))), refusals.StateFull) ∷ []) m (λ m. now_live m (with_canister m.live id (with_memory c mem (write m.height (memory_of c mem) at w))))))) (sym its.1)
       (alters_two full more errors.MemoryFull errors.StateFull refusals.MemoryFull refusals.StateFull result now m
       (λ m. now_live m (with_canister m.live id (with_memory c mem (write m.height (memory_of c mem) at w)))) done (Same old now) refl refl f same
       (λ d. (refl, kept_memory c (write m.height (memory_of c mem) at w) (pages_more pages at (length w)) x its.1 (more_is m.height (memory_of c mem) at w ∙ ap (λ (p : ℕ). pages_of (memory_of c mem) + pages_more p at (length w)) (sym of_memory)) d.0 d.1 (λ was. d.2 ∙ ap (λ (b : Bytes). written b at w) was ∙ write_is m.height (memory_of c mem) at w))))
 
 -- a canister that the system lacks isn't there
-pub absent_there : (held : Held) (m : Machine) → Keeps held m → (id : Bytes) (act : Canister → Outcome) → calls.canister_in held.system id ≡ None
-    → (Refused refusals.NoCanister ≡ (unless_none (canister_in m.live id) refusals.NoCanister m act).reply) × Keeps held (unless_none (canister_in m.live id) refusals.NoCanister m act).after
+pub absent_there : (held : HeldState) (m : Machine) → KeepsState held m → (id : Bytes) (act : Canister → Outcome) → calls.canister_in held.system id ≡ None
+    → (Refused refusals.NoCanister ≡ (unless_none (canister_in m.live id) refusals.NoCanister m act).reply) × KeepsState held (unless_none (canister_in m.live id) refusals.NoCanister m act).after
 absent_there held m k id act h =
     let none : canister_in m.live id ≡ None = no_canister (canister_in m.live id) (sym (found_there m.live id) ∙ sym (ap (λ (s : System). calls.canister_in s id) k.system) ∙ h) in
-    subst (λ (o : Option Canister). (Refused refusals.NoCanister ≡ (unless_none o refusals.NoCanister m act).reply) × Keeps held (unless_none o refusals.NoCanister m act).after) (sym none) (refl, k)
+    subst (λ (o : Option Canister). (Refused refusals.NoCanister ≡ (unless_none o refusals.NoCanister m act).reply) × KeepsState held (unless_none o refusals.NoCanister m act).after) (sym none) (refl, k)
   where
     no_canister : (o : Option Canister) → option_map record_of o ≡ None → o ≡ None
     no_canister None e = refl
     no_canister (Some c) e = absurd (cc e)
 
 -- the canister of the machine, and the bytes of one of its memories
-pub record IsThere (held : Held) (m : Machine) (id : Bytes) (n : ℕ) (mem : Mem) : Type 0 where
+pub record IsThere (held : HeldState) (m : Machine) (id : Bytes) (n : ℕ) (mem : Mem) : Type 0 where
   pub canister : Canister
   pub found : canister_in m.live id ≡ Some canister
   pub bytes : get_or held.memories (index_of n mem) [] ≡ (memory_of canister mem).bytes
 
-pub is_there : (held : Held) (m : Machine) → Keeps held m → (id : Bytes) (n : ℕ) (mem : Mem) → Stands bytes_cmp id held.system.canisters n → IsThere held m id n mem
+pub is_there : (held : HeldState) (m : Machine) → KeepsState held m → (id : Bytes) (n : ℕ) (mem : Mem) → Stands bytes_cmp id held.system.canisters n → IsThere held m id n mem
 is_there held m k id n mem s =
     let split = stays record_of id s.value m.live.canisters s.at.before s.at.after k.sorted (sym (ap (λ (t : System). t.canisters) k.system) ∙ s.at.split) in
     let count : length split.front ≡ n = sym (length-map split.front (λ (c : Bytes × Canister). (c.0, record_of c.1))) ∙ ap length split.front_is ∙ s.at.count in
@@ -211,19 +211,19 @@ is_there held m k id n mem s =
     }
 
 -- a reading line finds the canister
-module _ (held : Held) (m : Machine) (k : Keeps held m) (id : Bytes) (n : ℕ) (mem : Mem) (s : Stands bytes_cmp id held.system.canisters n) (from len : ℕ) where
-  read_by : (reply : Reply) → (t : IsThere held m id n mem) → After (Ok reply) held (unless ((nat_lt (length (memory_of t.canister mem).bytes) (from + len), refusals.PastEnd) ∷ []) m (λ m. answered (replies.Bytes (read (memory_of t.canister mem) from len)) m)) → After (Ok reply) held (read_step m Live id mem from len)
-  read_by reply t h = subst (λ (o : Option Canister). After (Ok reply) held (unless_none o refusals.NoCanister m (λ c. unless ((nat_lt (length (memory_of c mem).bytes) (from + len), refusals.PastEnd) ∷ []) m (λ m. answered (replies.Bytes (read (memory_of c mem) from len)) m)))) (sym t.found) h
+module _ (held : HeldState) (m : Machine) (k : KeepsState held m) (id : Bytes) (n : ℕ) (mem : Mem) (s : Stands bytes_cmp id held.system.canisters n) (from len : ℕ) where
+  read_by : (reply : Reply) → (t : IsThere held m id n mem) → AfterState (Ok reply) held (unless ((nat_lt (length (memory_of t.canister mem).bytes) (from + len), refusals.PastEnd) ∷ []) m (λ m. answered (replies.Bytes (read (memory_of t.canister mem) from len)) m)) → AfterState (Ok reply) held (read_step m Live id mem from len)
+  read_by reply t h = subst (λ (o : Option Canister). AfterState (Ok reply) held (unless_none o refusals.NoCanister m (λ c. unless ((nat_lt (length (memory_of c mem).bytes) (from + len), refusals.PastEnd) ∷ []) m (λ m. answered (replies.Bytes (read (memory_of c mem) from len)) m)))) (sym t.found) h
 
-  pub reads_past : length (get_or held.memories (index_of n mem) []) < from + len → After (Ok (Refused refusals.PastEnd)) held (read_step m Live id mem from len)
+  pub reads_past : length (get_or held.memories (index_of n mem) []) < from + len → AfterState (Ok (Refused refusals.PastEnd)) held (read_step m Live id mem from len)
   reads_past h =
       let t = is_there held m k id n mem s in
       let past : nat_lt (length (memory_of t.canister mem).bytes) (from + len) ≡ true = lt-ltb (length (memory_of t.canister mem).bytes) (from + len) (subst (λ (b : Bytes). length b < from + len) t.bytes h) in
-      read_by (Refused refusals.PastEnd) t (subst (λ (b : Bool). After (Ok (Refused refusals.PastEnd)) held (unless ((b, refusals.PastEnd) ∷ []) m (λ m. answered (replies.Bytes (read (memory_of t.canister mem) from len)) m))) (sym past) (refl, k))
+      read_by (Refused refusals.PastEnd) t (subst (λ (b : Bool). AfterState (Ok (Refused refusals.PastEnd)) held (unless ((b, refusals.PastEnd) ∷ []) m (λ m. answered (replies.Bytes (read (memory_of t.canister mem) from len)) m))) (sym past) (refl, k))
 
-  pub reads_bytes : (bytes : Bytes) → from + len ≤ length (get_or held.memories (index_of n mem) []) → bytes ≡ take len (drop from (get_or held.memories (index_of n mem) [])) → After (Ok (replies.Bytes bytes)) held (read_step m Live id mem from len)
+  pub reads_bytes : (bytes : Bytes) → from + len ≤ length (get_or held.memories (index_of n mem) []) → bytes ≡ take len (drop from (get_or held.memories (index_of n mem) [])) → AfterState (Ok (replies.Bytes bytes)) held (read_step m Live id mem from len)
   reads_bytes bytes h is =
       let t = is_there held m k id n mem s in
       let within : nat_lt (length (memory_of t.canister mem).bytes) (from + len) ≡ false = le-ltb (length (memory_of t.canister mem).bytes) (from + len) (subst (λ (b : Bytes). from + len ≤ length b) t.bytes h) in
       let same : bytes ≡ read (memory_of t.canister mem) from len = is ∙ ap (λ (b : Bytes). take len (drop from b)) t.bytes in
-      read_by (replies.Bytes bytes) t (subst (λ (b : Bool). After (Ok (replies.Bytes bytes)) held (unless ((b, refusals.PastEnd) ∷ []) m (λ m. answered (replies.Bytes (read (memory_of t.canister mem) from len)) m))) (sym within) (ap (λ (b : Bytes). replies.Bytes b) same, k))
+      read_by (replies.Bytes bytes) t (subst (λ (b : Bool). AfterState (Ok (replies.Bytes bytes)) held (unless ((b, refusals.PastEnd) ∷ []) m (λ m. answered (replies.Bytes (read (memory_of t.canister mem) from len)) m))) (sym within) (ap (λ (b : Bytes). replies.Bytes b) same, k))

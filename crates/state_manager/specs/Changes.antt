@@ -1,8 +1,10 @@
 -- How a change of the live state is answered: `ok`, a refusal, or want of memory.
-use Rattle.std.specs.Prelude.{◌≡◌, Option, Some, None, Result, Ok, Err}
+use Rattle.std.specs.Prelude.{◌≡◌, Option, Some, None, Result, Ok, Err, IsErr}
 use Rattle.byte_codec.specs.declared.error.NoMemory.{NoMemory}
 use Rattle.sys_state.specs.declared.error.SysError.{SysError}
 use Rattle.sys_state.specs.declared.error.SysError.TheVariants as errors
+use Rattle.witness.specs.declared.error.WitnessError.{WitnessError}
+use Rattle.witness.specs.declared.error.WitnessError.TheVariants as witnesses
 use Rattle.script_text.specs.declared.reply.Reply.{Reply}
 use Rattle.script_text.specs.declared.reply.Reply.TheVariants.{Fine, Refused}
 use Rattle.script_text.specs.declared.reply.Refusal.{Refusal}
@@ -34,6 +36,12 @@ abbrev pub Answers : Result (Unit {0}) SysError → Result Reply NoMemory → Ty
 Answers (Ok done) (Ok reply) = reply ≡ Fine
 Answers (Ok done) (Err e) = ⊥
 Answers (Err error) result = Refuses (refusal_of error) result
+
+-- the reply to a witness that is refused, and none where memory ran out
+abbrev pub RefusedBy : WitnessError → Result Reply NoMemory → Type 0
+RefusedBy (witnesses.BadWitness place) result = result ≡ Ok (Refused (refusals.BadWitness place))
+RefusedBy (witnesses.WrongRoot hash) result = result ≡ Ok (Refused (refusals.WrongRoot hash))
+RefusedBy witnesses.Memory result = IsErr result
 
 -- a change that is refused for a reason, or done; where it is not done everything is the same
 abbrev pub Alters : Option SysError → Result Reply NoMemory → Type 0 → Type 0 → Type 0

@@ -3,3 +3,4 @@ pub mod Kept
 pub mod Memories
 pub mod Places
 pub mod Sizes
+pub mod StateKept

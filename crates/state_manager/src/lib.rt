@@ -1,7 +1,10 @@
-//! The manager of the live state: applies the commands of a script, one at a time.
+//! The manager of the live state and those in memory: applies the commands of a script, one at a time.
 #![tactic(auto)]
 
 mod canisters;
+mod checks;
+mod height_state;
+mod kept;
 mod manager;
 mod memories;
 mod refusals;

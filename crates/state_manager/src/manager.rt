@@ -1,158 +1,89 @@
-ghost use Rattle.std.specs.Prelude.{◌≡◌, ◌↔◌, true, IsTrue, Ok, Err, Some, ◌≤◌, length, IfOk, IfSome, OnOk, OnErr};
-ghost use Rattle.format_spec.specs.declared.limits.TheConstants.{MAX_MODULE, MAX_CERTIFIED, MAX_VALUE};
-ghost use Rattle.state_spec.specs.Manifest.{manifest_of};
-ghost use Rattle.manifest.specs.Fits.{FitsText};
+ghost use Rattle.std.specs.Prelude.{◌≡◌, ◌↔◌, ◌≤◌, true, Ok, Err, length, IfOk, OnOk, OnErr};
+ghost use Rattle.std.specs.Option.{option_copied};
 ghost use Rattle.script_text.specs.Commands.{FitsForm};
 ghost use Rattle.machine_spec.specs.Machine.{Machine, start};
-ghost use Rattle.state_manager.specs.Kept.{Keeps, Performs, Applies};
-ghost use Rattle.state_manager.specs.Places.{index_of};
+ghost use Rattle.state_manager.specs.Kept.{Keeps, Performs, Applies, held_at};
 
-use crate::canisters::{create_canister, remove_canister};
-use crate::memories::{grow_memory, write_memory};
-use crate::refusals::reply_to;
+use crate::checks::check_witness;
+use crate::height_state::HeightState;
+use crate::kept::{drop_height, find_height, heights_of};
 use crate::stop::{OpenError, Stop};
-use byte_codec::{Blob, NoMemory};
-use manifest::{Manifest, from_scratch};
+use byte_codec::NoMemory;
+use format_spec::{MAX_HEIGHT, MAX_HEIGHTS};
 use script_text::{Command, HeightOrLive, Numbers, Refusal, Reply};
 use std::alloc::Global;
 use std::marker::Model;
-use sys_state::{CanisterId, Mem, Path, SysState};
+use sys_state::{CanisterId, Mem, Path};
 
-/// The live state and its height, and the commands on them.
+/// The live state and those in memory, and the commands on them.
 #[derive(Drop)]
 pub struct Manager {
-    sys: SysState,
-    // The bytes of the memories, heap and stable of each canister in order of ids.
-    memories: Vec<Vec<u8>>,
-    height: u64,
+    live: HeightState,
+    // The states in memory, ascending by height.
+    memory: Vec<HeightState>,
     closed: bool,
 }
 
 impl Model for Manager {
-    ghost use Rattle.std.specs.Prelude.{map};
     ghost use Rattle.state_manager.specs.Kept.{Held};
-    ghost use Rattle.state_manager.specs.Sizes.{HaveSizes};
 
     ghost Value = { Held };
 
-    ghost view = { λ m. record { system = m.sys; memories = map (λ v. v.items) m.memories.items; height = m.height; closed = m.closed } };
-
-    ghost invariant = { λ m. HaveSizes m.sys.canisters (map (λ v. v.items) m.memories.items) };
-}
-
-// Where a memory of the canister at a place stands among all memories.
-fn memory_index(place: u32, mem: Mem) -> usize
-    ensures { result ≡ index_of place mem }
-{
-    match mem {
-        Mem::Heap => 2 * place as usize,
-        Mem::Stable => 2 * place as usize + 1,
-    }
+    ghost view = { λ m. record { live = m.live; memory = m.memory.items; closed = m.closed } };
 }
 
 impl Manager {
-    /// The manager of an empty store: no canister and no entry, at time 0 and height 1.
+    /// The manager of an empty store: no canister and no entry, at time 0 and height 1, and no state in memory.
     pub fn open(alloc: Global) -> Result<Manager, OpenError>
         ensures { IfOk result (λ manager. Keeps manager start) }
     {
         Ok(Manager {
-            sys: SysState::new(alloc),
-            memories: Vec::new(alloc),
-            height: 1,
+            live: HeightState::new(alloc),
+            memory: Vec::new(alloc),
             closed: false,
         })
     }
 
-    // `canister ID`
-    fn create(&mut self, alloc: Global, id: &CanisterId) -> Result<Reply, NoMemory>
-        ensures step { (m : Machine) → Keeps self.old m → Performs result self.new m (Command.Canister id.now) }
-        ensures same { self.new.closed ≡ self.old.closed }
+    // The state that a line asks about.
+    fn state_at(&self, at: HeightOrLive) -> Option<&HeightState>
+        ensures { option_copied result ≡ held_at self.now at }
     {
-        create_canister(alloc, &mut self.sys, &mut self.memories, id, self.height)
+        match at {
+            HeightOrLive::Live => Some(&self.live),
+            HeightOrLive::Height(height) => find_height(&self.memory, height),
+        }
     }
 
-    // `drop ID`
-    fn remove(&mut self, id: &CanisterId) -> Result<Reply, NoMemory>
-        ensures step { (m : Machine) → Keeps self.old m → Performs result self.new m (Command.Remove id.now) }
+    // `round`
+    fn round(&mut self, alloc: Global) -> Result<Reply, NoMemory>
+        ensures step { (m : Machine) → Keeps self.old m → Performs result self.new m Command.Round }
         ensures same { self.new.closed ≡ self.old.closed }
     {
-        remove_canister(&mut self.sys, &mut self.memories, id)
+        if self.memory.len() >= MAX_HEIGHTS {
+            return Ok(Reply::Refused(Refusal::ManyHeights));
+        }
+        let height = self.live.height();
+        if height > MAX_HEIGHT {
+            return Ok(Reply::Refused(Refusal::HeightLimit));
+        }
+        let tree = self.live.tree_root(alloc)?;
+        self.memory.push(self.live.copy(alloc)?)?;
+        self.live.advance();
+        Ok(Reply::Round { height, tree })
     }
 
-    // `grow ID MEM N`
-    fn grow(&mut self, id: &CanisterId, mem: Mem, pages: u64) -> Result<Reply, NoMemory>
-        ensures step { (m : Machine) → Keeps self.old m → Performs result self.new m (Command.Grow id.now mem pages) }
+    // `forget H`
+    fn forget(&mut self, height: u64) -> Result<Reply, NoMemory>
+        ensures step { (m : Machine) → Keeps self.old m → Performs result self.new m (Command.Forget height) }
         ensures same { self.new.closed ≡ self.old.closed }
     {
-        let Ok(place) = self.sys.place(id) else {
-            return Ok(Reply::Refused(Refusal::NoCanister));
-        };
-        let memory = &mut self.memories[memory_index(place, mem)];
-        grow_memory(&mut self.sys, memory, id, mem, pages)
-    }
-
-    // `write ID MEM OFFSET HEX`
-    fn write(
-        &mut self,
-        id: &CanisterId,
-        mem: Mem,
-        offset: u64,
-        bytes: &[u8],
-    ) -> Result<Reply, NoMemory>
-        ensures step { (m : Machine) → Keeps self.old m → Performs result self.new m (Command.Write id.now mem offset bytes.now) }
-        ensures same { self.new.closed ≡ self.old.closed }
-    {
-        let Ok(place) = self.sys.place(id) else {
-            return Ok(Reply::Refused(Refusal::NoCanister));
-        };
-        // Its contract bounds the pages that the memory has.
-        let _pages = self.sys.pages(id, mem);
-        let memory = &mut self.memories[memory_index(place, mem)];
-        write_memory(&mut self.sys, memory, id, mem, offset, bytes)
-    }
-
-    // `module ID HEX` and `module ID none`
-    fn install(&mut self, id: &CanisterId, module: Option<Blob>) -> Result<Reply, NoMemory>
-        requires { IfSome «module» (λ wasm. length wasm ≤ MAX_MODULE) }
-        ensures step { (m : Machine) → Keeps self.old m → Performs result self.new m (Command.Module id.now «module») }
-        ensures same { self.new.closed ≡ self.old.closed }
-    {
-        reply_to(self.sys.set_module(id, module))
-    }
-
-    // `certify ID HEX`
-    fn certify(&mut self, id: &CanisterId, bytes: Blob) -> Result<Reply, NoMemory>
-        requires { length bytes ≤ MAX_CERTIFIED }
-        ensures step { (m : Machine) → Keeps self.old m → Performs result self.new m (Command.Certify id.now bytes) }
-        ensures same { self.new.closed ≡ self.old.closed }
-    {
-        reply_to(self.sys.set_certified(id, bytes))
-    }
-
-    // `put PATH HEX`
-    fn put(&mut self, alloc: Global, path: Path, value: Blob) -> Result<Reply, NoMemory>
-        requires { length value ≤ MAX_VALUE }
-        ensures step { (m : Machine) → Keeps self.old m → Performs result self.new m (Command.Put path value) }
-        ensures same { self.new.closed ≡ self.old.closed }
-    {
-        reply_to(self.sys.put(alloc, path, value))
-    }
-
-    // `time N`
-    fn set_time(&mut self, time: u64) -> Result<Reply, NoMemory>
-        ensures step { (m : Machine) → Keeps self.old m → Performs result self.new m (Command.Time time) }
-        ensures same { self.new.closed ≡ self.old.closed }
-    {
-        self.sys.set_time(time);
-        Ok(Reply::Fine)
-    }
-
-    // `del PATH`
-    fn delete(&mut self, path: &Path) -> Result<Reply, NoMemory>
-        ensures step { (m : Machine) → Keeps self.old m → Performs result self.new m (Command.Del path.now) }
-        ensures same { self.new.closed ≡ self.old.closed }
-    {
-        reply_to(self.sys.del(path))
+        match find_height(&self.memory, height) {
+            Some(_) => {
+                drop_height(&mut self.memory, height);
+                Ok(Reply::Fine)
+            }
+            None => Ok(Reply::Refused(Refusal::NoHeight)),
+        }
     }
 
     // `heights`
@@ -160,32 +91,10 @@ impl Manager {
         ensures { (m : Machine) → Keeps self.now m → Performs result self.now m Command.Heights }
     {
         Ok(Reply::Heights {
-            live: self.height,
-            memory: Numbers::new(Vec::new(alloc)),
+            live: self.live.height(),
+            memory: heights_of(alloc, &self.memory)?,
             published: Numbers::new(Vec::new(alloc)),
         })
-    }
-
-    // `read live ID MEM OFFSET LEN`
-    fn read_live(
-        &self,
-        alloc: Global,
-        id: &CanisterId,
-        mem: Mem,
-        offset: u64,
-        len: u64,
-    ) -> Result<Reply, NoMemory>
-        ensures { (m : Machine) → Keeps self.now m → Performs result self.now m (Command.Read HeightOrLive.Live id.now mem offset len) }
-    {
-        let Ok(place) = self.sys.place(id) else {
-            return Ok(Reply::Refused(Refusal::NoCanister));
-        };
-        let memory = &self.memories[memory_index(place, mem)];
-        if offset.saturating_add(len) > memory.len() as u64 {
-            return Ok(Reply::Refused(Refusal::PastEnd));
-        }
-        let bytes = &memory[offset as usize..offset as usize + len as usize];
-        Ok(Reply::Bytes(Blob::from_slice(alloc, bytes)?))
     }
 
     // `read HL ID MEM OFFSET LEN`
@@ -200,62 +109,50 @@ impl Manager {
     ) -> Result<Reply, NoMemory>
         ensures { (m : Machine) → Keeps self.now m → Performs result self.now m (Command.Read at id.now mem offset len) }
     {
-        match at {
-            HeightOrLive::Live => self.read_live(alloc, id, mem, offset, len),
-            HeightOrLive::Height(_) => Ok(Reply::Refused(Refusal::NoHeight)),
+        match self.state_at(at) {
+            Some(state) => state.read(alloc, id, mem, offset, len),
+            None => Ok(Reply::Refused(Refusal::NoHeight)),
         }
-    }
-
-    // The manifest of the live state, all of whose bytes are hashed.
-    fn live_manifest(&self, alloc: Global) -> Result<Manifest, NoMemory>
-        ensures value { (m : Machine) → Keeps self.now m → IfOk result (λ found. found ≡ manifest_of m.live) }
-        ensures fits { IfOk result FitsText }
-    {
-        let system = self.sys.encode(alloc)?;
-        from_scratch(alloc, system.bytes(), &self.sys, &self.memories)
-    }
-
-    // `root live`
-    fn live_root(&self, alloc: Global) -> Result<Reply, NoMemory>
-        ensures { (m : Machine) → Keeps self.now m → Performs result self.now m (Command.Root HeightOrLive.Live) }
-    {
-        let manifest = self.live_manifest(alloc)?;
-        let meta = manifest.meta(alloc)?;
-        Ok(Reply::Root(meta.root()))
     }
 
     // `root HL`
     fn root(&self, alloc: Global, at: HeightOrLive) -> Result<Reply, NoMemory>
         ensures { (m : Machine) → Keeps self.now m → Performs result self.now m (Command.Root at) }
     {
-        match at {
-            HeightOrLive::Live => self.live_root(alloc),
-            HeightOrLive::Height(_) => Ok(Reply::Refused(Refusal::NoHeight)),
+        match self.state_at(at) {
+            Some(state) => state.root(alloc),
+            None => Ok(Reply::Refused(Refusal::NoHeight)),
         }
-    }
-
-    // `manifest live`
-    fn count_live(&self, alloc: Global) -> Result<Reply, NoMemory>
-        ensures { (m : Machine) → Keeps self.now m → Performs result self.now m (Command.Manifest HeightOrLive.Live) }
-    {
-        let manifest = self.live_manifest(alloc)?;
-        let meta = manifest.meta(alloc)?;
-        let text = manifest.encode(alloc)?;
-        Ok(Reply::Manifest {
-            files: manifest.files.len() as u32,
-            chunks: manifest.chunks.len() as u32,
-            pieces: meta.pieces.len() as u32,
-            bytes: text.bytes().len() as u64,
-        })
     }
 
     // `manifest HL`
     fn count_manifest(&self, alloc: Global, at: HeightOrLive) -> Result<Reply, NoMemory>
         ensures { (m : Machine) → Keeps self.now m → Performs result self.now m (Command.Manifest at) }
     {
-        match at {
-            HeightOrLive::Live => self.count_live(alloc),
-            HeightOrLive::Height(_) => Ok(Reply::Refused(Refusal::NoHeight)),
+        match self.state_at(at) {
+            Some(state) => state.count_manifest(alloc),
+            None => Ok(Reply::Refused(Refusal::NoHeight)),
+        }
+    }
+
+    // `tree HL`
+    fn tree(&self, alloc: Global, at: HeightOrLive) -> Result<Reply, NoMemory>
+        ensures { (m : Machine) → Keeps self.now m → Performs result self.now m (Command.Tree at) }
+    {
+        match self.state_at(at) {
+            Some(state) => Ok(Reply::Tree(state.tree_root(alloc)?)),
+            None => Ok(Reply::Refused(Refusal::NoHeight)),
+        }
+    }
+
+    // `witness HL PATH ..`
+    fn witness(&self, alloc: Global, at: HeightOrLive, paths: &[Path]) -> Result<Reply, NoMemory>
+        requires { 1 ≤ length paths.now }
+        ensures { (m : Machine) → Keeps self.now m → Performs result self.now m (Command.Witness at paths.now) }
+    {
+        match self.state_at(at) {
+            Some(state) => Ok(Reply::Witness(state.witness(alloc, paths)?)),
+            None => Ok(Reply::Refused(Refusal::NoHeight)),
         }
     }
 
@@ -266,26 +163,26 @@ impl Manager {
         ensures same { self.new.closed ≡ self.old.closed }
     {
         match command {
-            Command::Canister { id } => self.create(alloc, id),
-            Command::Remove { id } => self.remove(id),
-            Command::Grow { id, mem, pages } => self.grow(id, *mem, *pages),
+            Command::Canister { id } => self.live.create(alloc, id),
+            Command::Remove { id } => self.live.remove(id),
+            Command::Grow { id, mem, pages } => self.live.grow(id, *mem, *pages),
             Command::Write {
                 id,
                 mem,
                 offset,
                 bytes,
-            } => self.write(id, *mem, *offset, bytes.bytes()),
-            Command::Module { id, module: None } => self.install(id, None),
+            } => self.live.write(id, *mem, *offset, bytes.bytes()),
+            Command::Module { id, module: None } => self.live.install(id, None),
             Command::Module {
                 id,
                 module: Some(bytes),
-            } => self.install(id, Some(bytes.copy(alloc)?)),
-            Command::Certify { id, bytes } => self.certify(id, bytes.copy(alloc)?),
-            Command::Time { time } => self.set_time(*time),
+            } => self.live.install(id, Some(bytes.copy(alloc)?)),
+            Command::Certify { id, bytes } => self.live.certify(id, bytes.copy(alloc)?),
+            Command::Time { time } => self.live.set_time(*time),
             Command::Put { path, value } => {
-                self.put(alloc, path.copy(alloc)?, value.copy(alloc)?)
+                self.live.put(alloc, path.copy(alloc)?, value.copy(alloc)?)
             }
-            Command::Del { path } => self.delete(path),
+            Command::Del { path } => self.live.delete(path),
             Command::Read {
                 at,
                 id,
@@ -296,6 +193,13 @@ impl Manager {
             Command::Heights => self.heights(alloc),
             Command::Root { at } => self.root(alloc, *at),
             Command::Manifest { at } => self.count_manifest(alloc, *at),
+            Command::Round => self.round(alloc),
+            Command::Forget { height } => self.forget(*height),
+            Command::Tree { at } => self.tree(alloc, *at),
+            Command::Witness { at, paths } => self.witness(alloc, *at, paths.as_slice()),
+            Command::Check { root, bytes, path } => {
+                check_witness(alloc, root, bytes.bytes(), path)
+            }
         }
     }
 

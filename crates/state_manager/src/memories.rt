@@ -1,6 +1,6 @@
 //! The bytes of memories: a vector for each, heap and stable of each canister in order of ids.
 
-ghost use Rattle.std.specs.Prelude.{◌≡◌, ◌+◌, ◌*◌, ◌/◌, ◌<◌, ◌≤◌, ◌∷◌, ◌++◌, [], map, take, drop, length, vec_len, vec_capacity, Some, IfSome, OnOk};
+ghost use Rattle.std.specs.Prelude.{◌≡◌, ◌+◌, ◌*◌, ◌/◌, ◌<◌, ◌≤◌, ◌∷◌, ◌++◌, [], map, take, drop, length, vec_len, vec_capacity, Some, IfSome, IfOk, OnOk};
 ghost use Rattle.format_spec.specs.declared.limits.TheConstants.{PAGE_SIZE, MAX_MEMORY_PAGES};
 ghost use Rattle.state_spec.specs.Memory.{overwritten, extended, zeros, pages_for};
 ghost use Rattle.sys_state.specs.Calls.{Changes, extended as extended_record, extend_refusal, canister_in, pages_of};
@@ -165,4 +165,15 @@ pub fn write_memory(
         return Ok(Reply::Refused(Refusal::MemoryFull));
     }
     write_within(sys, memory, id, mem, offset as usize, bytes)
+}
+
+/// The same bytes again.
+pub fn copy_memories(alloc: Global, memories: &[Vec<u8>]) -> Result<Vec<Vec<u8>>, NoMemory>
+    ensures { IfOk result (λ copies. map (λ v. v.items) copies.items ≡ map (λ v. v.items) memories.now) }
+{
+    let mut copies = Vec::with_capacity(alloc, memories.len())?;
+    for memory in memories {
+        copies.push(Vec::from_slice(alloc, memory)?)?;
+    }
+    Ok(copies)
 }

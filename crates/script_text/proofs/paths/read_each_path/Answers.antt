@@ -1,0 +1,15 @@
+use Rattle.std.proofs.Common.{◌∙◌, sym}
+use Rattle.script_text.specs.Words.{path_of}
+use Rattle.script_text.proofs.Each.{behind_nothing, step_more, step_end}
+use Rattle.script_text.proofs.paths.read_each_path.Goals as goal
+
+pub loop-word-init : goal.loop-word-init
+loop-word-init c = rw c.in_ok-paths.ensures.items (behind_nothing _)
+
+pub loop-word-preserved : goal.loop-word-preserved
+loop-word-preserved c =
+    let words = c.args.words.now in
+    rw c.in_ok-push.ensures.items (step_more path_of (λ w. w.now) words c.loop-word.word-index _ c.loop-word.paths.items c.in-Some.path _ c.loop-word-test.true (sym c.in-Some.is ∙ c.in_ok-path.ensures) c.loop-word.invariant)
+
+pub returns : goal.returns
+returns c = step_end path_of (λ w. w.now) c.args.words.now c.loop-word.word-index c.loop-word.paths.items _ c.loop-word-test.false c.loop-word.invariant

@@ -1,0 +1,96 @@
+use super::*;
+use byte_codec::Blob;
+use hash_domain::Hash32;
+use std::alloc::Global;
+use std::process::Abort;
+use std::rt::HostRuntime;
+use std::test::Fail;
+
+// Lines that fit a form.
+const GOOD: &[&str] = &[
+    "round",
+    "forget 1",
+    "forget 4611686018427387904",
+    "tree live",
+    "tree 3",
+    "witness live /a",
+    "witness 7 /a /b/0x00",
+    "check 00000000000000000000000000000000000000000000000000000000000000af - /a",
+];
+
+// Lines that fit none.
+const BAD: &[&str] = &[
+    "round 1",
+    "round ",
+    "forget",
+    "forget 0",
+    "forget live",
+    "forget 4611686018427387905",
+    "tree",
+    "tree 0",
+    "witness",
+    "witness live",
+    "witness 0 /a",
+    "witness 7 /a b",
+    "witness 7 /a ",
+    "check 0000000000000000000000000000000000000000000000000000000000000000 - a",
+    "check 0000000000000000000000000000000000000000000000000000000000000000  /a",
+    "check 0000000000000000000000000000000000000000000000000000000000000000 - /a /b",
+    "check 000000000000000000000000000000000000000000000000000000000000000A - /a",
+    "check 000000000000000000000000000000000000000000000000000000000000000 - /a",
+    "check 00000000000000000000000000000000000000000000000000000000000000 - /a",
+    "check 000000000000000000000000000000000000000000000000000000000000000000 - /a",
+];
+
+fn check(rt: &impl Abort, alloc: Global, lines: &[&str], fits: bool) -> Result<(), Fail> {
+    for line in lines {
+        assert_eq!(rt; parse(alloc, line.as_bytes())?.is_some(), fits);
+    }
+    Ok(())
+}
+
+#[test]
+fn lines_fit_their_forms(rt: HostRuntime) -> Result<(), Fail> {
+    let alloc = rt.alloc();
+    check(&rt, alloc, GOOD, true)?;
+    check(&rt, alloc, BAD, false)?;
+    let mut line = String::new(alloc);
+    line.push_str("witness live")?;
+    for _ in 0..64 {
+        line.push_str(" /a")?;
+    }
+    check(&rt, alloc, &[line.as_str()], true)?;
+    line.push_str(" /a")?;
+    check(&rt, alloc, &[line.as_str()], false)
+}
+
+fn check_text(rt: &impl Abort, alloc: Global, reply: &Reply, text: &str) -> Result<(), Fail> {
+    let mut out = Vec::new(alloc);
+    write_reply(alloc, reply, &mut out)?;
+    assert_eq!(rt; out.as_slice(), text.as_bytes());
+    Ok(())
+}
+
+#[test]
+fn replies_are_written(rt: HostRuntime) -> Result<(), Fail> {
+    let alloc = rt.alloc();
+    let tree = Hash32([0xab; 32]);
+    let digits = "abababababababababababababababababababababababababababababababab";
+    let round = format!(in alloc; "round 12 tree {digits}")?;
+    check_text(&rt, alloc, &Reply::Round { height: 12, tree }, &round)?;
+    let wrong = format!(in alloc; "refused WrongRoot {digits}")?;
+    let refusal = Refusal::WrongRoot(tree);
+    check_text(&rt, alloc, &Reply::Refused(refusal), &wrong)?;
+    let refusal = Refusal::BadWitness(20);
+    check_text(
+        &rt,
+        alloc,
+        &Reply::Refused(refusal),
+        "refused BadWitness 20",
+    )?;
+    let witness = Blob::from_slice(alloc, &[1, 254])?;
+    check_text(&rt, alloc, &Reply::Witness(witness), "witness 01fe")?;
+    let nothing = Blob::from_slice(alloc, &[])?;
+    check_text(&rt, alloc, &Reply::Found(nothing), "found -")?;
+    check_text(&rt, alloc, &Reply::Absent, "absent")
+}

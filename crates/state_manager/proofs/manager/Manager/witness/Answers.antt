@@ -1,0 +1,15 @@
+use Rattle.std.proofs.Common.{refl, ap}
+use Rattle.format_spec.specs.Bytes.{Bytes}
+use Rattle.script_text.specs.declared.reply.Reply.TheVariants as replies
+use Rattle.machine_spec.specs.Machine.{answered}
+use Rattle.machine_spec.specs.WitnessSteps.{witness_text}
+use Rattle.state_manager.proofs.Standing.{at_none, at_some, asks, asks_none}
+use Rattle.state_manager.proofs.manager.Manager.witness.Goals as goal
+
+pub returns-in_ok-witness-in-Some : goal.returns-in_ok-witness-in-Some
+returns-in_ok-witness-in-Some c = λ m k.
+    let n = at_some c.args.self.now m k c.args.at c.in-Some.state.now c.in-Some.ensures in
+    asks c.args.self.now m k c.args.at n.0.live n.2 (λ s. answered (replies.Witness (witness_text s c.args.paths.now)) m) (replies.Witness c.in_ok-witness-in-Some.field-0) (ap (λ (r : Bytes). replies.Witness r) (c.in_ok-witness-in-Some.ensures n.0 n.1)) refl
+
+pub returns-in-None : goal.returns-in-None
+returns-in-None c = λ m k. asks_none c.args.self.now m k c.args.at (at_none c.args.self.now m k c.args.at c.in-None.ensures) _

@@ -1,0 +1,251 @@
+//! A state at its height, and the lines on it.
+
+ghost use Rattle.std.specs.Prelude.{◌≡◌, ◌≤◌, ◌<◌, ◌+◌, ◌-◌, ◌^◌, length, IfOk, IfSome};
+ghost use Rattle.format_spec.specs.declared.limits.TheConstants.{MAX_MODULE, MAX_CERTIFIED, MAX_VALUE};
+ghost use Rattle.state_spec.specs.Manifest.{manifest_of};
+ghost use Rattle.manifest.specs.Fits.{FitsText};
+ghost use Rattle.machine_spec.specs.HeightSteps.{tree_root};
+ghost use Rattle.machine_spec.specs.WitnessSteps.{witness_text};
+ghost use Rattle.machine_spec.specs.Machine.{Machine, start};
+ghost use Rattle.state_manager.specs.StateKept.{KeepsState, PerformsState};
+ghost use Rattle.state_manager.specs.Places.{index_of};
+
+use crate::canisters::{create_canister, remove_canister};
+use crate::memories::{copy_memories, grow_memory, write_memory};
+use crate::refusals::reply_to;
+use byte_codec::{Blob, NoMemory};
+use hash_domain::Hash32;
+use hash_tree::StateTree;
+use manifest::{Manifest, from_scratch};
+use script_text::{Command, HeightOrLive, Refusal, Reply};
+use std::alloc::Global;
+use std::marker::Model;
+use sys_state::{CanisterId, Mem, Path, SysState};
+use witness::{to_cbor, witness};
+
+/// A state with all its bytes, and its height.
+#[derive(Drop)]
+pub struct HeightState {
+    sys: SysState,
+    // The bytes of the memories, heap and stable of each canister in order of ids.
+    memories: Vec<Vec<u8>>,
+    height: u64,
+}
+
+impl Model for HeightState {
+    ghost use Rattle.std.specs.Prelude.{map};
+    ghost use Rattle.state_manager.specs.StateKept.{HeldState};
+    ghost use Rattle.state_manager.specs.Sizes.{HaveSizes};
+
+    ghost Value = { HeldState };
+
+    ghost view = { λ m. record { system = m.sys; memories = map (λ v. v.items) m.memories.items; height = m.height } };
+
+    ghost invariant = { λ m. HaveSizes m.sys.canisters (map (λ v. v.items) m.memories.items) };
+}
+// Where a memory of the canister at a place stands among all memories.
+fn memory_index(place: u32, mem: Mem) -> usize
+    ensures { result ≡ index_of place mem }
+{
+    match mem {
+        Mem::Heap => 2 * place as usize,
+        Mem::Stable => 2 * place as usize + 1,
+    }
+}
+
+impl HeightState {
+    /// The state of an empty store: no canister and no entry, at time 0 and height 1.
+    pub fn new(alloc: Global) -> HeightState
+        ensures { KeepsState result start }
+    {
+        HeightState {
+            sys: SysState::new(alloc),
+            memories: Vec::new(alloc),
+            height: 1,
+        }
+    }
+
+    /// `canister ID`
+    pub fn create(&mut self, alloc: Global, id: &CanisterId) -> Result<Reply, NoMemory>
+        ensures { (m : Machine) → KeepsState self.old m → PerformsState result self.new m (Command.Canister id.now) }
+    {
+        create_canister(alloc, &mut self.sys, &mut self.memories, id, self.height)
+    }
+
+    /// `drop ID`
+    pub fn remove(&mut self, id: &CanisterId) -> Result<Reply, NoMemory>
+        ensures { (m : Machine) → KeepsState self.old m → PerformsState result self.new m (Command.Remove id.now) }
+    {
+        remove_canister(&mut self.sys, &mut self.memories, id)
+    }
+
+    /// `grow ID MEM N`
+    pub fn grow(&mut self, id: &CanisterId, mem: Mem, pages: u64) -> Result<Reply, NoMemory>
+        ensures { (m : Machine) → KeepsState self.old m → PerformsState result self.new m (Command.Grow id.now mem pages) }
+    {
+        let Ok(place) = self.sys.place(id) else {
+            return Ok(Reply::Refused(Refusal::NoCanister));
+        };
+        let memory = &mut self.memories[memory_index(place, mem)];
+        grow_memory(&mut self.sys, memory, id, mem, pages)
+    }
+
+    /// `write ID MEM OFFSET HEX`
+    pub fn write(
+        &mut self,
+        id: &CanisterId,
+        mem: Mem,
+        offset: u64,
+        bytes: &[u8],
+    ) -> Result<Reply, NoMemory>
+        ensures { (m : Machine) → KeepsState self.old m → PerformsState result self.new m (Command.Write id.now mem offset bytes.now) }
+    {
+        let Ok(place) = self.sys.place(id) else {
+            return Ok(Reply::Refused(Refusal::NoCanister));
+        };
+        // Its contract bounds the pages that the memory has.
+        let _pages = self.sys.pages(id, mem);
+        let memory = &mut self.memories[memory_index(place, mem)];
+        write_memory(&mut self.sys, memory, id, mem, offset, bytes)
+    }
+
+    /// `module ID HEX` and `module ID none`
+    pub fn install(&mut self, id: &CanisterId, module: Option<Blob>) -> Result<Reply, NoMemory>
+        requires { IfSome «module» (λ wasm. length wasm ≤ MAX_MODULE) }
+        ensures { (m : Machine) → KeepsState self.old m → PerformsState result self.new m (Command.Module id.now «module») }
+    {
+        reply_to(self.sys.set_module(id, module))
+    }
+
+    /// `certify ID HEX`
+    pub fn certify(&mut self, id: &CanisterId, bytes: Blob) -> Result<Reply, NoMemory>
+        requires { length bytes ≤ MAX_CERTIFIED }
+        ensures { (m : Machine) → KeepsState self.old m → PerformsState result self.new m (Command.Certify id.now bytes) }
+    {
+        reply_to(self.sys.set_certified(id, bytes))
+    }
+
+    /// `put PATH HEX`
+    pub fn put(&mut self, alloc: Global, path: Path, value: Blob) -> Result<Reply, NoMemory>
+        requires { length value ≤ MAX_VALUE }
+        ensures { (m : Machine) → KeepsState self.old m → PerformsState result self.new m (Command.Put path value) }
+    {
+        reply_to(self.sys.put(alloc, path, value))
+    }
+
+    /// `time N`
+    pub fn set_time(&mut self, time: u64) -> Result<Reply, NoMemory>
+        ensures { (m : Machine) → KeepsState self.old m → PerformsState result self.new m (Command.Time time) }
+    {
+        self.sys.set_time(time);
+        Ok(Reply::Fine)
+    }
+
+    /// `del PATH`
+    pub fn delete(&mut self, path: &Path) -> Result<Reply, NoMemory>
+        ensures { (m : Machine) → KeepsState self.old m → PerformsState result self.new m (Command.Del path.now) }
+    {
+        reply_to(self.sys.del(path))
+    }
+
+    /// `read live ID MEM OFFSET LEN`
+    pub fn read(
+        &self,
+        alloc: Global,
+        id: &CanisterId,
+        mem: Mem,
+        offset: u64,
+        len: u64,
+    ) -> Result<Reply, NoMemory>
+        ensures { (m : Machine) → KeepsState self.now m → PerformsState result self.now m (Command.Read HeightOrLive.Live id.now mem offset len) }
+    {
+        let Ok(place) = self.sys.place(id) else {
+            return Ok(Reply::Refused(Refusal::NoCanister));
+        };
+        let memory = &self.memories[memory_index(place, mem)];
+        if offset.saturating_add(len) > memory.len() as u64 {
+            return Ok(Reply::Refused(Refusal::PastEnd));
+        }
+        let bytes = &memory[offset as usize..offset as usize + len as usize];
+        Ok(Reply::Bytes(Blob::from_slice(alloc, bytes)?))
+    }
+
+    // The manifest of the live state, all of whose bytes are hashed.
+    pub fn manifest(&self, alloc: Global) -> Result<Manifest, NoMemory>
+        ensures value { (m : Machine) → KeepsState self.now m → IfOk result (λ found. found ≡ manifest_of m.live) }
+        ensures fits { IfOk result FitsText }
+    {
+        let system = self.sys.encode(alloc)?;
+        from_scratch(alloc, system.bytes(), &self.sys, &self.memories)
+    }
+
+    /// `root live`
+    pub fn root(&self, alloc: Global) -> Result<Reply, NoMemory>
+        ensures { (m : Machine) → KeepsState self.now m → PerformsState result self.now m (Command.Root HeightOrLive.Live) }
+    {
+        let manifest = self.manifest(alloc)?;
+        let meta = manifest.meta(alloc)?;
+        Ok(Reply::Root(meta.root()))
+    }
+
+    /// `manifest live`
+    pub fn count_manifest(&self, alloc: Global) -> Result<Reply, NoMemory>
+        ensures { (m : Machine) → KeepsState self.now m → PerformsState result self.now m (Command.Manifest HeightOrLive.Live) }
+    {
+        let manifest = self.manifest(alloc)?;
+        let meta = manifest.meta(alloc)?;
+        let text = manifest.encode(alloc)?;
+        Ok(Reply::Manifest {
+            files: manifest.files.len() as u32,
+            chunks: manifest.chunks.len() as u32,
+            pieces: meta.pieces.len() as u32,
+            bytes: text.bytes().len() as u64,
+        })
+    }
+
+    /// The height.
+    pub fn height(&self) -> u64
+        ensures { result ≡ self.now.height }
+    {
+        self.height
+    }
+
+    /// Goes on at the next height.
+    pub fn advance(&mut self)
+        requires { self.old.height < 2 ^ 64 - 1 }
+        ensures { self.new ≡ record self.old { height = self.old.height + 1 } }
+    {
+        self.height += 1;
+    }
+
+    /// The same state at the same height.
+    pub fn copy(&self, alloc: Global) -> Result<HeightState, NoMemory>
+        ensures { IfOk result (λ copy. copy ≡ self.now) }
+    {
+        Ok(HeightState {
+            sys: self.sys.copy(alloc)?,
+            memories: copy_memories(alloc, &self.memories)?,
+            height: self.height,
+        })
+    }
+
+    /// `tree live`: the root of the tree.
+    pub fn tree_root(&self, alloc: Global) -> Result<Hash32, NoMemory>
+        ensures { (m : Machine) → KeepsState self.now m → IfOk result (λ root. root ≡ tree_root m.live) }
+    {
+        let tree = StateTree::build(alloc, &self.sys)?;
+        Ok(tree.root())
+    }
+
+    /// `witness live PATH ..`
+    pub fn witness(&self, alloc: Global, paths: &[Path]) -> Result<Blob, NoMemory>
+        requires { 1 ≤ length paths.now }
+        ensures { (m : Machine) → KeepsState self.now m → IfOk result (λ text. text ≡ witness_text m.live paths.now) }
+    {
+        // Its contract says that the state is valid, as `witness` needs.
+        let _count = self.sys.canisters();
+        let tree = StateTree::build(alloc, &self.sys)?;
+        let shown = witness(alloc, tree.tree(), paths)?;
+        to_cbor(alloc, &shown)
+    }
+}
