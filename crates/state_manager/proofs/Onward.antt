@@ -1,5 +1,5 @@
 -- Lines on the live state leave the states in memory, and rounds go on.
-use Rattle.std.proofs.Common.{◌≡◌, ◌==◌, ◌≤◌, ◌<◌, ◌+◌, ℕ, Bool, true, false, not, ◌&&◌, nat_le, nat_lt, List, [], ◌∷◌, ◌++◌, length, Option, Some, None, Result, Ok, Err, refl, ap, ◌∙◌, arith}
+use Rattle.std.proofs.Common.{◌≡◌, ◌==◌, ◌≤◌, ◌<◌, ◌+◌, ℕ, Bool, true, false, not, ◌&&◌, nat_le, nat_lt, List, [], ◌∷◌, ◌++◌, length, Some, None, Result, Ok, Err, refl, ap, ◌∙◌, arith}
 use Rattle.std.proofs.lemmas.Bool.Decides.{nat_tests}
 use Rattle.std.specs.Prelude.{filter}
 use Rattle.std.specs.Option.{is_some}
@@ -18,7 +18,7 @@ use Rattle.script_text.specs.declared.reply.Refusal.TheVariants as refusals
 use Rattle.script_text.specs.declared.reply.Reply.{Reply}
 use Rattle.script_text.specs.declared.reply.Refusal.{Refusal}
 use Rattle.machine_spec.specs.HeightSteps.{tree_root}
-use Rattle.machine_spec.specs.Machine.{Machine, Outcome, now_live, unless, unless_none, refused_if, without_height}
+use Rattle.machine_spec.specs.Machine.{Machine, Outcome, now_live, unless, refused_if, without_height}
 use Rattle.machine_spec.specs.Step.{step}
 use Rattle.state_manager.proofs.Standing.{at_none, at_some, as_many, drops, joins, stands}
 use Rattle.state_manager.specs.Kept.{Held, Keeps, Performs, held_at}
@@ -45,17 +45,13 @@ pub unless_leaves : (checks : List (Bool × Refusal)) (m : Machine) (act : Machi
 unless_leaves [] m act h = h
 unless_leaves (c ∷ cs) m act h = refused_leaves c.0 c.1 m (λ n. unless cs n act) (unless_leaves cs m act h)
 
-pub none_leaves : {A : Type 0} (o : Option A) (r : Refusal) (m : Machine) (act : A → Outcome) → ((x : A) → (act x).after.memory ≡ m.memory) → (unless_none o r m act).after.memory ≡ m.memory
-none_leaves None r m act h = refl
-none_leaves (Some x) r m act h = h x
-
 pub leaves_put : (m : Machine) (path : List Bytes) (value : Bytes) → (put_step m path value).after.memory ≡ m.memory
 leaves_put m path value = unless_leaves (
-  (is_reserved path, refusals.Reserved)
-  ∷ (has_conflict m.live.entries path, refusals.PathConflict)
-  ∷ (not (is_some (find path_cmp path m.live.entries)) && nat_le MAX_ENTRIES (length m.live.entries), refusals.TreeFull)
-  ∷ []
-) m (λ m. now_live m (record m.live { entries = put path_cmp path value m.live.entries })) refl
+    (is_reserved path, refusals.Reserved)
+    ∷ (has_conflict m.live.entries path, refusals.PathConflict)
+    ∷ (not (is_some (find path_cmp path m.live.entries)) && nat_le MAX_ENTRIES (length m.live.entries), refusals.TreeFull)
+    ∷ []
+    ) m (λ m. now_live m (record m.live { entries = put path_cmp path value m.live.entries })) refl
 
 -- the states in memory don't matter to the live one
 carried : (a : HeldState) (m n : Machine) → n.live ≡ m.live → n.height ≡ m.height → KeepsState a m → KeepsState a n

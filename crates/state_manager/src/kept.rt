@@ -19,11 +19,11 @@ pub fn find_height(states: &[HeightState], height: u64) -> Option<&HeightState>
 pub fn drop_height(states: &mut Vec<HeightState>, height: u64)
     ensures { states.new.items ≡ filter (λ state. not (state.height == height)) states.old.items }
 {
-    states.retain(|state| -> bool
-        ensures { result ≡ not (state.now.height == height) }
-    {
-        state.height() != height
-    });
+    states.retain(
+        |state| -> bool
+            ensures { result ≡ not (state.now.height == height) }
+        { state.height() != height },
+    );
 }
 
 /// The heights.
