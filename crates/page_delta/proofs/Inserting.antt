@@ -1,0 +1,172 @@
+-- An entry comes to a page, along nodes that only this tree has.
+use Rattle.std.proofs.Common.{◌≡◌, ◌≢◌, inl, inr, ℕ, ◌+◌, ◌/◌, ◌%◌, ◌^◌, ◌<◌, ◌≤◌, List, length, get_or, set, Option, Some, None, IsSome, refl, sym, ap, subst, ◌∙◌, arith}
+use Rattle.std.proofs.lemmas.Bool.{cases_eq}
+use Rattle.slab.specs.Slab.{Slab, slab_len}
+use Rattle.page_pool.specs.Pool.{Pool, count_at}
+use Rattle.page_delta.specs.Totals.{total}
+use Rattle.page_delta.specs.Delta.{uses}
+use Rattle.page_delta.specs.Nodes.{node_at, child_in, entry_in, count_in, level_in, names, look, with_entry}
+use Rattle.page_delta.specs.Shared.{IsShared, IsCounted, Stands, KeepsLevels, Owned, Differs}
+use Rattle.page_delta.specs.declared.entry.Entry.{Entry}
+use Rattle.page_delta.specs.declared.node.Node.{Node}
+use Rattle.page_delta.specs.declared.node.Node.TheVariants.{Branch, Leaf}
+use Rattle.page_delta.proofs.Sharing.{some-live, shared-entry, not-some, named}
+use Rattle.page_delta.proofs.Looks.{differs-leaf, differs-above}
+
+-- a node on a level above the leaves is there
+pub high-live : (o : Option Node) → 0 < level_in o → IsSome o
+high-live None high = absurd (omega arith)
+high-live (Some (Branch c l kids)) high = refl
+high-live (Some (Leaf c es)) high = refl
+
+pub counted-live : (o : Option Node) → 0 < count_in o → IsSome o
+counted-live None some = absurd (omega arith)
+counted-live (Some (Branch c l kids)) some = refl
+counted-live (Some (Leaf c es)) some = refl
+
+-- nodes stand after a call that keeps what is in hand
+pub stands-next : (old new : Slab Node) (pool pool' : Pool) (s : Stands old.slots pool) → IsShared new.slots (count_at pool') s.hands s.loose → IsCounted pool' → slab_len new ≤ 2 ^ 26 → Stands new.slots pool'
+stands-next old new pool pool' s shared counted few = record {
+  hands = s.hands;
+  loose = s.loose;
+  shared = shared;
+  few_hands = s.few_hands;
+  few_loose = s.few_loose;
+  few = few;
+  counted = counted;
+}
+
+leaf-of : (xs : List (Option Node)) (counts hands loose : ℕ → ℕ) (k : ℕ) → IsShared xs counts hands loose → IsSome (node_at xs k) → level_in (node_at xs k) ≡ 0 → (c : ℕ) × (es : List (Option Entry)) × (node_at xs k ≡ Some (Leaf c es))
+leaf-of xs counts hands loose k s live low = go (node_at xs k) refl
+  where
+    go : (o : Option Node) → node_at xs k ≡ o → (c : ℕ) × (es : List (Option Entry)) × (node_at xs k ≡ Some (Leaf c es))
+    go None e = absurd (not-some (node_at xs k) e live)
+    go (Some (Branch c l kids)) e = absurd (let high = s.tall k c l kids e in let level_is : level_in (node_at xs k) ≡ l = ap level_in e in omega arith)
+    go (Some (Leaf c es)) e = (c, es, e)
+
+-- a child whose count is one is named once
+named-once : (xs : List (Option Node)) (counts hands loose : ℕ → ℕ) (k d n : ℕ) → IsShared xs counts hands loose → child_in (node_at xs k) d ≡ Some n → count_in (node_at xs n) ≡ 1 → total (names n) xs ≡ 1
+named-once xs counts hands loose k d n s e once =
+    let pos = named xs k d n e in let count = s.counted n in omega arith
+
+module _ (x0 x1 x2 x3 x4 : List (Option Node)) (root upper lower leaf page : ℕ) (entry : Entry) (a : Owned x0 x1 root ((page / 32768) % 32) upper) (b : Owned x1 x2 upper ((page / 1024) % 32) lower) (c : Owned x2 x3 lower ((page / 32) % 32) leaf) (top : level_in (node_at x0 root) ≡ 3) (counts hands loose counts2 hands2 loose2 counts1 hands1 loose1 : ℕ → ℕ) (s : IsShared x3 counts hands loose) (s2 : IsShared x2 counts2 hands2 loose2) (s1 : IsShared x1 counts1 hands1 loose1) (now : (n : Node) → node_at x3 leaf ≡ Some n → node_at x4 leaf ≡ Some (with_entry n (page % 32) entry)) (rest : (m : ℕ) → m ≢ leaf → node_at x4 m ≡ node_at x3 m) where
+  root_live : IsSome (node_at x0 root)
+  root_live = high-live (node_at x0 root) (omega arith)
+
+  level_root1 : level_in (node_at x1 root) ≡ 3
+  level_root1 = (a.levels root root_live).1 ∙ top
+
+  level_upper1 : level_in (node_at x1 upper) ≡ 2
+  level_upper1 = let step = s1.steps root ((page / 32768) % 32) upper a.child_is in let t = level_root1 in omega arith
+
+  root_upper : root ≢ upper
+  root_upper = λ e. let eq = ap (λ i. level_in (node_at x1 i)) e in omega (arith, level_root1, level_upper1)
+
+  root2 : node_at x2 root ≡ node_at x1 root
+  root2 = b.above root (omega (arith, level_root1, level_upper1)) root_upper
+
+  level_upper2 : level_in (node_at x2 upper) ≡ 2
+  level_upper2 = (b.levels upper (high-live (node_at x1 upper) (omega (arith, level_upper1)))).1 ∙ level_upper1
+
+  level_lower2 : level_in (node_at x2 lower) ≡ 1
+  level_lower2 = let step = s2.steps upper ((page / 1024) % 32) lower b.child_is in omega (arith, level_upper2)
+
+  level_root2 : level_in (node_at x2 root) ≡ 3
+  level_root2 = ap level_in root2 ∙ level_root1
+
+  root_lower : root ≢ lower
+  root_lower = λ e. let eq = ap (λ i. level_in (node_at x2 i)) e in omega (arith, level_root2, level_lower2)
+
+  upper_lower : upper ≢ lower
+  upper_lower = λ e. let eq = ap (λ i. level_in (node_at x2 i)) e in omega (arith, level_upper2, level_lower2)
+
+  root3 : node_at x3 root ≡ node_at x1 root
+  root3 = c.above root (omega (arith, level_root2, level_lower2)) root_lower ∙ root2
+
+  upper3 : node_at x3 upper ≡ node_at x2 upper
+  upper3 = c.above upper (omega (arith, level_upper2, level_lower2)) upper_lower
+
+  level_lower3 : level_in (node_at x3 lower) ≡ 1
+  level_lower3 = (c.levels lower (high-live (node_at x2 lower) (omega (arith, level_lower2)))).1 ∙ level_lower2
+
+  child_root : child_in (node_at x3 root) ((page / 32768) % 32) ≡ Some upper
+  child_root = ap (λ o. child_in o ((page / 32768) % 32)) root3 ∙ a.child_is
+
+  child_upper : child_in (node_at x3 upper) ((page / 1024) % 32) ≡ Some lower
+  child_upper = ap (λ o. child_in o ((page / 1024) % 32)) upper3 ∙ b.child_is
+
+  level_leaf3 : level_in (node_at x3 leaf) ≡ 0
+  level_leaf3 = let step = s.steps lower ((page / 32) % 32) leaf c.child_is in omega (arith, level_lower3)
+
+  once_upper : count_in (node_at x3 upper) ≡ 1
+  once_upper = ap count_in upper3 ∙ b.count ∙ a.own
+
+  once_lower : count_in (node_at x3 lower) ≡ 1
+  once_lower = c.count ∙ b.own
+
+  pub is_leaf : (n : ℕ) × (es : List (Option Entry)) × (node_at x3 leaf ≡ Some (Leaf n es))
+  is_leaf = leaf-of x3 counts hands loose leaf s (counted-live (node_at x3 leaf) (let o = c.own in omega arith)) level_leaf3
+
+  leaf_now : node_at x4 leaf ≡ Some (Leaf is_leaf.0 (set is_leaf.1 (page % 32) (Some entry)))
+  leaf_now = now (Leaf is_leaf.0 is_leaf.1) is_leaf.2
+
+  in_places : page % 32 < length is_leaf.1
+  in_places = let wide = s.wide leaf (Leaf is_leaf.0 is_leaf.1) is_leaf.2 in omega arith
+
+  kids_same : (m d : ℕ) → child_in (node_at x4 m) d ≡ child_in (node_at x3 m) d
+  kids_same m d = elim (cases_eq m leaf) [
+    | inl e ↦ ap (λ o. child_in o d) (ap (λ i. node_at x4 i) e ∙ leaf_now) ∙ sym (ap (λ o. child_in o d) (ap (λ i. node_at x3 i) e ∙ is_leaf.2))
+    | inr ne ↦ ap (λ o. child_in o d) (rest m ne)
+  ]
+
+  level_same4 : (m : ℕ) → level_in (node_at x4 m) ≡ level_in (node_at x3 m)
+  level_same4 m = elim (cases_eq m leaf) [
+    | inl e ↦ ap level_in (ap (λ i. node_at x4 i) e ∙ leaf_now) ∙ sym (ap level_in (ap (λ i. node_at x3 i) e ∙ is_leaf.2))
+    | inr ne ↦ ap level_in (rest m ne)
+  ]
+
+  live4 : (m : ℕ) → IsSome (node_at x3 m) → IsSome (node_at x4 m)
+  live4 m live = elim (cases_eq m leaf) [
+    | inl e ↦ some-live (node_at x4 m) (Leaf is_leaf.0 (set is_leaf.1 (page % 32) (Some entry))) (ap (λ i. node_at x4 i) e ∙ leaf_now)
+    | inr ne ↦ subst (λ (o : Option Node). IsSome o) (sym (rest m ne)) live
+  ]
+
+  differs3 : Differs 3 x3 x4 root page entry
+  differs3 =
+      let zero_is = differs-leaf x3 x4 leaf is_leaf.0 page entry is_leaf.1 is_leaf.2 leaf_now rest in_places in
+      let one_is = differs-above x3 x4 counts hands loose page entry s kids_same 0 leaf lower zero_is c.child_is (named-once x3 counts hands loose lower ((page / 32) % 32) leaf s c.child_is c.own) level_lower3 in
+      let two_is = differs-above x3 x4 counts hands loose page entry s kids_same 1 lower upper one_is child_upper (named-once x3 counts hands loose upper ((page / 1024) % 32) lower s child_upper once_lower) (ap level_in upper3 ∙ level_upper2) in
+      differs-above x3 x4 counts hands loose page entry s kids_same 2 upper root two_is child_root (named-once x3 counts hands loose root ((page / 32768) % 32) upper s child_root once_upper) (ap level_in root3 ∙ level_root1)
+
+  live3 : (m : ℕ) → IsSome (node_at x0 m) → IsSome (node_at x3 m) × (level_in (node_at x3 m) ≡ level_in (node_at x0 m))
+  live3 m live =
+      let first = a.levels m live in let second = b.levels m first.0 in let third = c.levels m second.0 in
+      (third.0, third.1 ∙ second.1 ∙ first.1)
+
+  looks3 : (l m q : ℕ) → IsSome (node_at x0 m) → look l x3 (Some m) q ≡ look l x0 (Some m) q
+  looks3 l m q live =
+      let first = a.levels m live in let second = b.levels m first.0 in
+      c.looks l m q second.0 ∙ b.looks l m q first.0 ∙ a.looks l m q live
+
+  pub inserted-differs : Differs 3 x0 x4 root page entry
+  inserted-differs = record {
+    there = differs3.there;
+    apart = λ q no. differs3.apart q no ∙ looks3 3 root q root_live;
+    others = λ m q level live ne. let third = live3 m live in differs3.others m q (third.1 ∙ level) third.0 ne ∙ looks3 3 m q live;
+  }
+
+  pub inserted-levels : KeepsLevels x0 x4
+  inserted-levels m live = let third = live3 m live in (live4 m third.0, level_same4 m ∙ third.1)
+
+  place_before : get_or is_leaf.1 (page % 32) None ≡ look 3 x0 (Some root) page
+  place_before =
+      sym (ap (λ o. entry_in o (page % 32)) is_leaf.2)
+      ∙ sym (ap (λ (o : Option ℕ). look 0 x3 o page) c.child_is)
+      ∙ sym (ap (λ (o : Option ℕ). look 1 x3 o page) child_upper)
+      ∙ sym (ap (λ (o : Option ℕ). look 2 x3 o page) child_root)
+      ∙ looks3 3 root page root_live
+
+  pub inserted-shared : (counts' hands' loose' : ℕ → ℕ) → IsShared x3 counts' hands' (λ slot. loose' slot + uses slot (Some entry)) → IsShared x4 counts' hands' (λ slot. loose' slot + uses slot (look 3 x0 (Some root) page))
+  inserted-shared counts' hands' loose' t =
+      let done = shared-entry x3 x4 counts' hands' loose' leaf is_leaf.0 (page % 32) entry is_leaf.1 t is_leaf.2 leaf_now rest in_places in
+      subst (λ (o : Option Entry). IsShared x4 counts' hands' (λ slot. loose' slot + uses slot o)) place_before done

@@ -1,0 +1,121 @@
+-- An id gets a root of its own.
+use Rattle.std.proofs.Common.{◌≡◌, ◌≢◌, inl, inr, ℕ, ◌+◌, ◌^◌, ◌<◌, ◌≤◌, List, set, Option, Some, None, IsSome, is_some, count_by, refl, sym, ap, subst, ◌∙◌, arith}
+use Rattle.page_pool.specs.Pool.{Pool}
+use Rattle.page_delta.specs.Totals.{total}
+use Rattle.page_delta.specs.Nodes.{node_at, count_in, level_in, names, recounted, look}
+use Rattle.page_delta.specs.Shared.{IsShared, SameLooks, Stands}
+use Rattle.page_delta.specs.Roots.{root_at, map_below, roots, IsKept, IsHeld}
+use Rattle.page_delta.specs.declared.node.Node.{Node}
+use Rattle.page_delta.specs.declared.roots.Root.{Root}
+use Rattle.page_delta.proofs.Sums.{total-has, total-le, present, total-present, total-present32}
+use Rattle.page_delta.proofs.Sharing.{not-some, one, one-same, one-other, shared-as, level-recounted}
+use Rattle.page_delta.proofs.Looks.{looks-recounted}
+use Rattle.page_delta.proofs.Counting.{count-recounted, recounted-live}
+use Rattle.page_delta.proofs.Copies.{names-width}
+use Rattle.page_delta.proofs.Releasing.{lowered, lowered_now, lowered_at, shared-lower, len-lower}
+use Rattle.page_delta.proofs.Rooted.{Follows, kept-live, kept-next, shared-with, follows-replaced, maps-replaced, replaced-total, replaced-len}
+use Rattle.std.proofs.lemmas.Bool.{cases_eq}
+
+pub same-root : (a b : Root) (o : Option Root) → o ≡ Some a → o ≡ Some b → a ≡ b
+same-root a b o p q = (let both : Some a ≡ Some b = sym p ∙ q in cc)
+
+-- ids are few
+roots-le : (key : ℕ) (o : Option Root) → roots key o ≤ present 1 o
+roots-le key None = omega arith
+roots-le key (Some root) = one-le root.node key
+  where
+    one-le : (a b : ℕ) → one a b ≤ 1
+    one-le a b = elim (cases_eq a b) [ inl e ↦ let o = one-same a b (sym e) in omega arith | inr ne ↦ let o = one-other a b (λ e. ne (sym e)) in omega arith ]
+
+pub few-roots : (xs : List (Option Node)) (ids : List (Option Root)) (key : ℕ) → IsKept xs ids → total (roots key) ids ≤ 2 ^ 31
+few-roots xs ids key k =
+    let all = total-le (roots key) refl (present 1) ids (λ i. roots-le key (root_at ids i)) in
+    let len = total-present ids in let few = k.few_ids in omega arith
+
+pub stands-kept : (xs : List (Option Node)) (ids : List (Option Root)) (pool : Pool) (loose : ℕ → ℕ) → IsKept xs ids → IsHeld xs pool loose → ((slot : ℕ) → loose slot ≤ 1) → Stands xs pool
+stands-kept xs ids pool loose k h few = record {
+  hands = λ key. total (roots key) ids;
+  loose = loose;
+  shared = shared-with xs ids pool loose k h;
+  few_hands = λ key. let a = few-roots xs ids key k in omega arith;
+  few_loose = λ slot. let a = few slot in omega arith;
+  few = k.few_nodes;
+  counted = h.counted;
+}
+
+pub few-kept : (xs : List (Option Node)) (ids : List (Option Root)) (key : ℕ) → IsKept xs ids → count_in (node_at xs key) + 1 < 2 ^ 64
+few-kept xs ids key k =
+    let a = few-roots xs ids key k in
+    let all = total-le (names key) refl (present 32) xs (λ i. names-width key (node_at xs i) (k.shared.wide i)) in
+    let b = total-present32 xs in let c = total-present xs in let few = k.few_nodes in
+    let count = k.shared.counted key in
+    omega arith
+
+pub root-counted : (xs : List (Option Node)) (ids : List (Option Root)) (id : ℕ) (root : Root) → IsKept xs ids → root_at ids id ≡ Some root → 0 < count_in (node_at xs root.node)
+root-counted xs ids id root k is =
+    let count = k.shared.counted root.node in
+    let has = total-has (roots root.node) refl ids id in
+    let mine : roots root.node (root_at ids id) ≡ one root.node root.node = ap (roots root.node) is in
+    let one_is = one-same root.node root.node refl in
+    omega arith
+
+module _ (xs mid : List (Option Node)) (ids : List (Option Root)) (id own : ℕ) (before again : Root) (k : IsKept xs ids) (is : root_at ids id ≡ Some before) (is' : root_at ids id ≡ Some again) (many : 1 < count_in (node_at xs before.node)) (gone : node_at xs own ≡ None) (copied : node_at mid own ≡ recounted (node_at xs before.node) 1) (rest : (m : ℕ) → m ≢ own → node_at mid m ≡ recounted (node_at xs m) (count_in (node_at xs m) + names m (node_at xs before.node))) (looks : SameLooks xs mid) (alike : (level q : ℕ) → look level mid (Some own) q ≡ look level xs (Some before.node) q) where
+  abbrev now : Root
+  now = record { node = own; pages = again.pages }
+
+  pub live : IsSome (node_at xs before.node)
+  live = kept-live xs ids id before k is
+
+  apart : (m : ℕ) → IsSome (node_at xs m) → m ≢ own
+  apart m here e = not-some (node_at xs m) (ap (λ i. node_at xs i) e ∙ gone) here
+
+  pub live_mid : (m : ℕ) → IsSome (node_at xs m) → IsSome (node_at mid m)
+  live_mid m here = subst (λ (o : Option Node). IsSome o) (sym (rest m (apart m here))) (recounted-live (node_at xs m) (count_in (node_at xs m) + names m (node_at xs before.node)) here)
+
+  level_mid : (m : ℕ) → IsSome (node_at xs m) → level_in (node_at mid m) ≡ level_in (node_at xs m)
+  level_mid m here = ap level_in (rest m (apart m here)) ∙ level-recounted (node_at xs m) (count_in (node_at xs m) + names m (node_at xs before.node))
+
+  mid_many : 1 < count_in (node_at mid before.node)
+  mid_many =
+      let count : count_in (node_at mid before.node) ≡ count_in (node_at xs before.node) + names before.node (node_at xs before.node) = ap count_in (rest before.node (apart before.node live)) ∙ count-recounted (node_at xs before.node) (count_in (node_at xs before.node) + names before.node (node_at xs before.node)) live in
+      omega (arith, many)
+
+  pub root-some : 0 < count_in (node_at mid before.node)
+  root-some = omega (arith, mid_many)
+
+  abbrev zs : List (Option Node)
+  zs = lowered mid before.node (live_mid before.node live)
+
+  zs_at : (m : ℕ) → node_at zs m ≡ recounted (node_at mid m) (lowered_now mid before.node (live_mid before.node live) m)
+  zs_at m = lowered_at mid before.node (live_mid before.node live) m
+
+  looks_zs : SameLooks mid zs
+  looks_zs = looks-recounted mid zs (lowered_now mid before.node (live_mid before.node live)) zs_at
+
+  pub shared-own : (counts loose : ℕ → ℕ) → IsShared mid counts (λ m. total (roots m) ids + one own m) loose → IsShared zs counts (λ m. total (roots m) (set ids id (Some (record { node = own; pages = again.pages })))) loose
+  shared-own counts loose t =
+      shared-lower mid before.node (live_mid before.node live) counts (λ m. total (roots m) (set ids id (Some now))) loose mid_many
+      (shared-as mid counts (λ m. total (roots m) ids + one own m) (λ m. total (roots m) (set ids id (Some now)) + one before.node m) loose loose t (λ m. sym (replaced-total ids id before now is m)) (λ slot. refl))
+
+  mine : Follows xs zs before now
+  mine = record {
+    pages = ap (λ (r : Root). r.pages) (same-root again before (root_at ids id) is' is);
+    top = ap level_in (zs_at own) ∙ level-recounted (node_at mid own) (lowered_now mid before.node (live_mid before.node live) own) ∙ ap level_in copied ∙ level-recounted (node_at xs before.node) 1 ∙ k.tops id before is;
+    looks = λ q. looks_zs 3 own q (subst (λ (o : Option Node). IsSome o) (sym copied) (recounted-live (node_at xs before.node) 1 live)) ∙ alike 3 q;
+  }
+
+  same_rest : (other : ℕ) (root : Root) → other ≢ id → root_at ids other ≡ Some root → Follows xs zs root root
+  same_rest other root ne e =
+      let here = kept-live xs ids other root k e in
+      record {
+        pages = refl;
+        top = ap level_in (zs_at root.node) ∙ level-recounted (node_at mid root.node) (lowered_now mid before.node (live_mid before.node live) root.node) ∙ level_mid root.node here ∙ k.tops other root e;
+        looks = λ q. looks_zs 3 root.node q (live_mid root.node here) ∙ looks 3 root.node q here;
+      }
+
+  pub kept-own : (counts loose : ℕ → ℕ) → IsShared mid counts (λ m. total (roots m) ids + one own m) loose → count_by is_some mid ≤ 2 ^ 26 → IsKept zs (set ids id (Some (record { node = own; pages = again.pages })))
+  kept-own counts loose t few =
+      kept-next xs zs ids (set ids id (Some now)) counts loose k (shared-own counts loose t) (follows-replaced xs zs ids id before now is k mine same_rest) (let len = len-lower mid before.node (live_mid before.node live) in omega arith) (let len = replaced-len ids id before now is in omega (arith, k.few_ids))
+
+  pub maps-own : (other : ℕ) → map_below zs (root_at (set ids id (Some (record { node = own; pages = again.pages }))) other) ≡ map_below xs (root_at ids other)
+  maps-own = maps-replaced xs zs ids id before now is k mine same_rest

@@ -1,0 +1,77 @@
+use Rattle.std.proofs.Common.{◌≡◌, ◌+◌, ◌∙◌, ℕ, length, Some, drop, refl, sym, ap, subst, arith}
+use Rattle.page_pool.specs.Pool.{count_at}
+use Rattle.slab.specs.Slab.{Slab}
+use Rattle.page_delta.specs.Totals.{total}
+use Rattle.page_delta.specs.Nodes.{node_at, once, level_in, count_in, names}
+use Rattle.page_delta.specs.Shared.{IsShared, slots_in}
+use Rattle.page_delta.specs.declared.node.Node.{Node}
+use Rattle.page_delta.specs.declared.node.Node.TheVariants.{Branch, Leaf}
+use Rattle.page_delta.proofs.Sharing.{shared-counts, shared-as}
+use Rattle.page_delta.proofs.Pools.{keeps-trans}
+use Rattle.page_delta.proofs.Releasing.{in-hand, shared-lower, shared-taken, uses-enough, hand-over, pass-over, all-over, child-level, shrinks-taken, shrinks-trans}
+use Rattle.page_delta.proofs.tree.+release.Goals as goal
+use Rattle.page_delta.proofs.tree.+release.Goals.{in-Some, in_default}
+
+pub returns-then-count-gt1-clause-shared : goal.returns-then-count-gt1-clause-shared
+returns-then-count-gt1-clause-shared t c = λ hands loose s.
+    subst (λ (n : Slab Node). IsShared n.slots (count_at c.args.pool.now) hands loose) (sym c.lower.ensures) (shared-lower c.args.nodes.now.slots c.args.node (in-hand c.args.nodes.now.slots (count_at c.args.pool.now) hands loose c.args.node s).1 (count_at c.args.pool.now) hands loose (let is : count_in (node_at c.args.nodes.now.slots c.args.node) ≡ c.count.result = ap count_in c.index.ensures ∙ sym c.count.ensures in omega (arith, c.if-count-gt1.true)) s)
+
+pub release_each-requires-clause-enough : goal.release_each-requires-clause-enough
+release_each-requires-clause-enough t c =
+    let s = c.requires.shared in
+    uses-enough c.args.nodes.now.slots (count_at c.args.pool.now) (λ m. s.0 m + once m (Some c.args.node)) s.1 c.args.node c.in-Leaf.count c.in-Leaf.entries s.2 c.in-Leaf.ensures.was
+
+pub loop-child-init : goal.loop-child-init
+loop-child-init t c = record {
+  shared = λ hands loose s.
+      let few : count_in (node_at c.args.nodes.now.slots c.args.node) ≡ c.count.result = ap count_in c.index.ensures ∙ sym c.count.ensures in
+      let node = Branch c.in-Branch.count c.in-Branch.level c.in-Branch.children in
+      let taken = shared-taken c.args.nodes.now.slots c.take.new.nodes.slots (count_at c.args.pool.now) hands loose c.args.node node s c.in-Branch.ensures.was c.take.ensures.gone c.take.ensures.rest (omega (arith, c.if-count-gt1.false)) in
+      shared-as c.take.new.nodes.slots (count_at c.args.pool.now) (λ m. hands m + names m (Some node)) (λ m. hands m + total (once m) (drop 0 c.in-Branch.children)) (λ slot. loose slot + slots_in slot (Some node)) loose taken (λ m. refl) (λ slot. omega arith);
+  counted = c.requires.counted;
+  shrinks = shrinks-taken c.args.nodes.now.slots c.take.new.nodes.slots c.args.node c.take.ensures.gone c.take.ensures.rest;
+  grows = record { len = omega (arith, c.take.ensures.len); capacity = c.take.ensures.capacity };
+  keeps = λ s here. (here, refl);
+}
+
+pub release-requires : goal.release-requires
+release-requires t c =
+    let s = c.requires.shared in
+    let high = s.2.tall c.args.node c.in-Branch.count c.in-Branch.level c.in-Branch.children c.in-Branch.ensures.was in
+    let level_is : level_in (node_at c.args.nodes.now.slots c.args.node) ≡ c.in-Branch.level = ap level_in c.in-Branch.ensures.was in
+    let over = hand-over c.loop-child.nodes.slots (count_at c.loop-child.pool) s.0 s.1 c.in-Branch.children c.loop-child.child-index c.in-Some.child (let wide : length c.in-Branch.children ≡ 32 = c.requires.shared.2.wide c.args.node (Branch c.in-Branch.count c.in-Branch.level c.in-Branch.children) c.in-Branch.ensures.was in omega (arith, wide)) c.in-Some.is (c.loop-child.invariant.shared s.0 s.1 s.2) in
+    let hands = λ (m : ℕ). s.0 m + total (once m) (drop (c.loop-child.child-index + 1) c.in-Branch.children) in
+    let below = child-level c.args.nodes.now.slots c.loop-child.nodes.slots (count_at c.args.pool.now) (λ m. s.0 m + once m (Some c.args.node)) s.1 (count_at c.loop-child.pool) hands s.1 c.args.node c.in-Branch.count c.in-Branch.level c.loop-child.child-index c.in-Some.child c.in-Branch.children s.2 c.in-Branch.ensures.was c.in-Some.is c.loop-child.invariant.shrinks over in
+    (omega (arith, c.requires.level, c.decreases), ((hands, s.1, over), (c.loop-child.invariant.counted, omega (arith, c.requires.level, below))))
+
+pub loop-child-preserved : goal.loop-child-preserved
+loop-child-preserved t c =
+    elim c.match-child.branch [
+      | in-Some w ↦
+          rw (w.nodes-is, w.pool-is) record {
+            shared = λ hands loose s.
+                w.release.ensures.shared (λ m. hands m + total (once m) (drop (c.loop-child.child-index + 1) c.in-Branch.children)) loose (hand-over c.loop-child.nodes.slots (count_at c.loop-child.pool) hands loose c.in-Branch.children c.loop-child.child-index w.in-Some.child (let wide : length c.in-Branch.children ≡ 32 = c.requires.shared.2.wide c.args.node (Branch c.in-Branch.count c.in-Branch.level c.in-Branch.children) c.in-Branch.ensures.was in omega (arith, wide)) w.in-Some.is (c.loop-child.invariant.shared hands loose s));
+            counted = w.release.ensures.counted;
+            shrinks = shrinks-trans c.args.nodes.now.slots c.loop-child.nodes.slots w.release.new.nodes.slots c.loop-child.invariant.shrinks w.release.ensures.shrinks;
+            grows = record { len = omega (arith, w.release.ensures.grows.len, c.loop-child.invariant.grows.len); capacity = w.release.ensures.grows.capacity ∙ c.loop-child.invariant.grows.capacity };
+            keeps = keeps-trans c.args.pool.now c.loop-child.pool w.release.new.pool c.loop-child.invariant.keeps w.release.ensures.keeps;
+          }
+      | in_default w ↦
+          rw (w.nodes-is, w.pool-is) record {
+            shared = λ hands loose s. pass-over c.loop-child.nodes.slots (count_at c.loop-child.pool) hands loose c.in-Branch.children c.loop-child.child-index (let wide : length c.in-Branch.children ≡ 32 = c.requires.shared.2.wide c.args.node (Branch c.in-Branch.count c.in-Branch.level c.in-Branch.children) c.in-Branch.ensures.was in omega (arith, wide)) w.in_default.is (c.loop-child.invariant.shared hands loose s);
+            counted = c.loop-child.invariant.counted;
+            shrinks = c.loop-child.invariant.shrinks;
+            grows = c.loop-child.invariant.grows;
+            keeps = c.loop-child.invariant.keeps;
+          }
+    ]
+
+pub returns-in-Leaf-clause-shared : goal.returns-in-Leaf-clause-shared
+returns-in-Leaf-clause-shared t c = λ hands loose s.
+    let few : count_in (node_at c.args.nodes.now.slots c.args.node) ≡ c.count.result = ap count_in c.index.ensures ∙ sym c.count.ensures in
+    let taken = shared-taken c.args.nodes.now.slots c.take.new.nodes.slots (count_at c.args.pool.now) hands loose c.args.node (Leaf c.in-Leaf.count c.in-Leaf.entries) s c.in-Leaf.ensures.was c.take.ensures.gone c.take.ensures.rest (omega (arith, c.if-count-gt1.false)) in
+    shared-counts c.take.new.nodes.slots (count_at c.args.pool.now) (count_at c.release_each.new.pool) hands (λ slot. loose slot + slots_in slot (Some (Leaf c.in-Leaf.count c.in-Leaf.entries))) loose (shared-as c.take.new.nodes.slots (count_at c.args.pool.now) (λ m. hands m + names m (Some (Leaf c.in-Leaf.count c.in-Leaf.entries))) hands (λ slot. loose slot + slots_in slot (Some (Leaf c.in-Leaf.count c.in-Leaf.entries))) (λ slot. loose slot + slots_in slot (Some (Leaf c.in-Leaf.count c.in-Leaf.entries))) taken (λ m. omega arith) (λ slot. refl)) (λ slot. let m = c.release_each.ensures.counts slot in omega arith)
+
+pub returns-after-loop-child-clause-shared : goal.returns-after-loop-child-clause-shared
+returns-after-loop-child-clause-shared t c = λ hands loose s.
+    all-over c.loop-child.nodes.slots (count_at c.loop-child.pool) hands loose c.in-Branch.children c.loop-child.child-index (let wide : length c.in-Branch.children ≡ 32 = c.requires.shared.2.wide c.args.node (Branch c.in-Branch.count c.in-Branch.level c.in-Branch.children) c.in-Branch.ensures.was in omega (arith, wide)) (c.loop-child.invariant.shared hands loose s)

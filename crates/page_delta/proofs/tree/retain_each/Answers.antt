@@ -1,0 +1,26 @@
+use Rattle.std.proofs.Common.{◌∙◌}
+use Rattle.page_delta.proofs.Counting.{item-is}
+use Rattle.page_delta.proofs.Pools.{retained-none, retain-step, retain-pass, retain-room}
+use Rattle.page_delta.proofs.tree.retain_each.Goals as goal
+use Rattle.page_delta.proofs.tree.retain_each.Goals.{in-Some, in_default}
+
+pub loop-entry-init : goal.loop-entry-init
+loop-entry-init c = retained-none c.args.pool.now c.requires.counted
+
+pub retain-requires-clause-live : goal.retain-requires-clause-live
+retain-requires-clause-live c =
+    (retain-room c.args.pool.now c.loop-entry.pool c.args.entries.now c.loop-entry.entry-index c.in-Some.entry.slot c.loop-entry.invariant c.loop-entry-test.true (c.requires.live c.loop-entry.entry-index c.in-Some.entry (item-is c.args.entries.now c.loop-entry.entry-index c.entry-item.result c.loop-entry-test.true c.entry-item.is ∙ c.in-Some.is)) c.requires.counted (c.requires.room c.in-Some.entry.slot)).0
+
+pub retain-requires-clause-room : goal.retain-requires-clause-room
+retain-requires-clause-room c =
+    (retain-room c.args.pool.now c.loop-entry.pool c.args.entries.now c.loop-entry.entry-index c.in-Some.entry.slot c.loop-entry.invariant c.loop-entry-test.true (c.requires.live c.loop-entry.entry-index c.in-Some.entry (item-is c.args.entries.now c.loop-entry.entry-index c.entry-item.result c.loop-entry-test.true c.entry-item.is ∙ c.in-Some.is)) c.requires.counted (c.requires.room c.in-Some.entry.slot)).1
+
+pub loop-entry-preserved : goal.loop-entry-preserved
+loop-entry-preserved c =
+    elim c.match-entry.branch [
+      | in-Some w ↦
+          let room = retain-room c.args.pool.now c.loop-entry.pool c.args.entries.now c.loop-entry.entry-index w.in-Some.entry.slot c.loop-entry.invariant c.loop-entry-test.true (c.requires.live c.loop-entry.entry-index w.in-Some.entry (item-is c.args.entries.now c.loop-entry.entry-index c.entry-item.result c.loop-entry-test.true c.entry-item.is ∙ w.in-Some.is)) c.requires.counted (c.requires.room w.in-Some.entry.slot) in
+          rw w.pool-is (retain-step c.args.pool.now c.loop-entry.pool w.retain.new.self c.args.entries.now c.loop-entry.entry-index w.in-Some.entry c.loop-entry.invariant (item-is c.args.entries.now c.loop-entry.entry-index c.entry-item.result c.loop-entry-test.true c.entry-item.is ∙ w.in-Some.is) c.loop-entry-test.true room.0 w.retain.ensures)
+      | in_default w ↦
+          rw w.pool-is (retain-pass c.args.pool.now c.loop-entry.pool c.args.entries.now c.loop-entry.entry-index c.loop-entry.invariant (item-is c.args.entries.now c.loop-entry.entry-index c.entry-item.result c.loop-entry-test.true c.entry-item.is ∙ w.in_default.is) c.loop-entry-test.true)
+    ]

@@ -1,0 +1,24 @@
+use Rattle.std.proofs.Common.{◌-◌, set, refl, ap}
+use Rattle.page_pool.specs.Pool.{count_at}
+use Rattle.slab.specs.Slab.{Slab}
+use Rattle.page_delta.specs.Nodes.{node_at, recounted, count_in}
+use Rattle.page_delta.specs.declared.node.Node.{Node}
+use Rattle.page_delta.proofs.Looks.{child-live}
+use Rattle.page_delta.proofs.Owning.{some_left, shared-split, owned-split}
+use Rattle.page_delta.proofs.tree.split.Goals as goal
+
+pub copy-fresh-requires-clause-node : goal.copy-fresh-requires-clause-node
+copy-fresh-requires-clause-node c = child-live c.args.nodes.now.slots (count_at c.args.pool.now) c.requires.stands.hands c.requires.stands.loose c.args.parent c.args.digit c.args.child c.requires.stands.shared c.requires.child
+
+pub lower-requires-clause-some : goal.lower-requires-clause-some
+lower-requires-clause-some c =
+    let lowered = set c.link.new.nodes.slots c.args.child (recounted (node_at c.link.new.nodes.slots c.args.child) (count_in (node_at c.link.new.nodes.slots c.args.child) - 1)) in
+    some_left c.args.nodes.now.slots c.copy-fresh.new.nodes.slots c.link.new.nodes.slots lowered c.args.parent c.args.digit c.args.child c.copy-fresh.result (count_at c.args.pool.now) c.requires.stands.hands c.requires.stands.loose c.requires.stands.shared c.requires.parent c.requires.child c.requires.many c.requires.digit c.copy-fresh.ensures.fresh c.copy-fresh.ensures.copy c.copy-fresh.ensures.rest c.copy-fresh.ensures.looks c.copy-fresh.ensures.alike c.link.ensures.now c.link.ensures.rest refl
+
+pub returns-clause-shared : goal.returns-clause-shared
+returns-clause-shared c = λ hands loose s.
+    shared-split c.args.nodes.now.slots c.copy-fresh.new.nodes.slots c.link.new.nodes.slots c.lower.new.nodes.slots c.args.parent c.args.digit c.args.child c.copy-fresh.result (count_at c.args.pool.now) hands loose s c.requires.parent c.requires.child c.requires.many c.requires.digit c.copy-fresh.ensures.fresh c.copy-fresh.ensures.copy c.copy-fresh.ensures.rest c.copy-fresh.ensures.looks c.copy-fresh.ensures.alike c.link.ensures.now c.link.ensures.rest (ap (λ (n : Slab Node). n.slots) c.lower.ensures) (count_at c.copy-fresh.new.pool) hands loose (c.copy-fresh.ensures.shared hands loose s)
+
+pub returns-clause-owned : goal.returns-clause-owned
+returns-clause-owned c =
+    owned-split c.args.nodes.now.slots c.copy-fresh.new.nodes.slots c.link.new.nodes.slots c.lower.new.nodes.slots c.args.parent c.args.digit c.args.child c.copy-fresh.result (count_at c.args.pool.now) c.requires.stands.hands c.requires.stands.loose c.requires.stands.shared c.requires.parent c.requires.child c.requires.many c.requires.digit c.copy-fresh.ensures.fresh c.copy-fresh.ensures.copy c.copy-fresh.ensures.rest c.copy-fresh.ensures.looks c.copy-fresh.ensures.alike c.link.ensures.now c.link.ensures.rest (ap (λ (n : Slab Node). n.slots) c.lower.ensures)

@@ -1,0 +1,5 @@
+pub mod Totals
+pub mod Delta
+pub mod Nodes
+pub mod Shared
+pub mod Roots

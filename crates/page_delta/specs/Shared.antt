@@ -1,0 +1,86 @@
+-- What trees that share their nodes keep true. No public clause cites this module.
+use Rattle.std.specs.Prelude.{◌≡◌, ◌≢◌, ℕ, zero, suc, ◌+◌, ◌/◌, ◌%◌, ◌^◌, ◌<◌, ◌≤◌, List, Option, Some, IsSome, count_by, is_some}
+use Rattle.slab.specs.Slab.{Slab, slab_len}
+use Rattle.page_pool.specs.Pool.{Pool, count_at, bytes_at, IsLive as IsLiveSlot}
+use Rattle.page_delta.specs.Delta.{uses_in}
+use Rattle.page_delta.specs.Totals.{total}
+use Rattle.page_delta.specs.Nodes.{node_at, child_in, entry_in, count_in, level_in, width, names, leaf_of, look}
+use Rattle.page_delta.specs.declared.entry.Entry.{Entry}
+use Rattle.page_delta.specs.declared.node.Node.{Node}
+use Rattle.page_delta.specs.declared.node.Node.TheVariants.{Branch}
+
+abbrev pub slots_in : ℕ → Option Node → ℕ
+slots_in slot node = uses_in slot (leaf_of node)
+
+-- The level falls by one from a node to its children, from at most 3. A node's count, which is above 0, is how often `hands` and other nodes name it,
+-- and `counts` of a slot is how often `loose` and leaf nodes name it.
+pub record IsShared (nodes : List (Option Node)) (counts hands loose : ℕ → ℕ) : Type 0 where
+  pub steps : (key digit child : ℕ) → child_in (node_at nodes key) digit ≡ Some child → level_in (node_at nodes key) ≡ level_in (node_at nodes child) + 1
+  pub tall : (key count level : ℕ) (children : List (Option ℕ)) → node_at nodes key ≡ Some (Branch count level children) → 0 < level
+  pub wide : (key : ℕ) (node : Node) → node_at nodes key ≡ Some node → width node ≡ 32
+  pub flat : (key : ℕ) → level_in (node_at nodes key) ≤ 3
+  pub alive : (key : ℕ) → IsSome (node_at nodes key) → 0 < count_in (node_at nodes key)
+  pub counted : (key : ℕ) → count_in (node_at nodes key) ≡ hands key + total (names key) nodes
+  pub held : (slot : ℕ) → counts slot ≡ loose slot + total (slots_in slot) nodes
+
+-- each live slot is counted
+abbrev pub IsCounted : Pool → Type 0
+IsCounted pool = (slot : ℕ) → IsLiveSlot pool slot → 0 < count_at pool slot
+
+-- all that was there reads as before
+abbrev pub SameLooks : List (Option Node) → List (Option Node) → Type 0
+SameLooks old new = (level key page : ℕ) → IsSome (node_at old key) → look level new (Some key) page ≡ look level old (Some key) page
+
+-- what is counted was so before, and has its bytes
+abbrev pub KeepsBytes : Pool → Pool → Type 0
+KeepsBytes old new = (slot : ℕ) → 0 < count_at new slot → (0 < count_at old slot) × (bytes_at new slot ≡ bytes_at old slot)
+
+-- each child is there
+abbrev pub IsClosed : List (Option Node) → Type 0
+IsClosed nodes = (key digit child : ℕ) → child_in (node_at nodes key) digit ≡ Some child → IsSome (node_at nodes child)
+
+-- nodes and pool stand as trees that share their nodes, and are few enough that no count is too large
+pub record Stands (nodes : List (Option Node)) (pool : Pool) : Type 0 where
+  pub hands : ℕ → ℕ
+  pub loose : ℕ → ℕ
+  pub shared : IsShared nodes (count_at pool) hands loose
+  pub few_hands : (key : ℕ) → hands key ≤ 2 ^ 32
+  pub few_loose : (slot : ℕ) → loose slot ≤ 2 ^ 16
+  pub few : count_by is_some nodes ≤ 2 ^ 26
+  pub counted : IsCounted pool
+
+-- what was there is there, on its level
+abbrev pub KeepsLevels : List (Option Node) → List (Option Node) → Type 0
+KeepsLevels old new = (key : ℕ) → IsSome (node_at old key) → IsSome (node_at new key) × (level_in (node_at new key) ≡ level_in (node_at old key))
+
+-- what is still there was there, with the same places
+pub record Shrinks (old new : List (Option Node)) : Type 0 where
+  pub was : (key : ℕ) → IsSome (node_at new key) → IsSome (node_at old key)
+  pub level : (key : ℕ) → IsSome (node_at new key) → level_in (node_at new key) ≡ level_in (node_at old key)
+  pub child : (key digit : ℕ) → IsSome (node_at new key) → child_in (node_at new key) digit ≡ child_in (node_at old key) digit
+  pub entry : (key digit : ℕ) → IsSome (node_at new key) → entry_in (node_at new key) digit ≡ entry_in (node_at old key) digit
+
+-- so many values more, and no memory taken
+pub record Grows (old new : Slab Node) (more : ℕ) : Type 0 where
+  pub len : slab_len new ≤ slab_len old + more
+  pub capacity : new.capacity ≡ old.capacity
+
+-- the pages have the same digits from this level down
+abbrev pub Agrees : ℕ → ℕ → ℕ → Type 0
+Agrees zero p q = p % 32 ≡ q % 32
+Agrees (suc level) p q = ((p / 32 ^ suc level) % 32 ≡ (q / 32 ^ suc level) % 32) × Agrees level p q
+
+-- the tree of a node has an entry at a page, and all else as before
+pub record Differs (level : ℕ) (xs ys : List (Option Node)) (n p : ℕ) (e : Entry) : Type 0 where
+  pub there : (q : ℕ) → Agrees level p q → look level ys (Some n) q ≡ Some e
+  pub apart : (q : ℕ) → (Agrees level p q → ⊥) → look level ys (Some n) q ≡ look level xs (Some n) q
+  pub others : (m q : ℕ) → level_in (node_at xs m) ≡ level → IsSome (node_at xs m) → m ≢ n → look level ys (Some m) q ≡ look level xs (Some m) q
+
+-- a branch has this child at a digit, which only it names; nothing reads otherwise
+pub record Owned (xs ys : List (Option Node)) (parent d child : ℕ) : Type 0 where
+  pub child_is : child_in (node_at ys parent) d ≡ Some child
+  pub own : count_in (node_at ys child) ≡ 1
+  pub count : count_in (node_at ys parent) ≡ count_in (node_at xs parent)
+  pub levels : KeepsLevels xs ys
+  pub above : (m : ℕ) → level_in (node_at xs parent) ≤ level_in (node_at xs m) → m ≢ parent → node_at ys m ≡ node_at xs m
+  pub looks : SameLooks xs ys

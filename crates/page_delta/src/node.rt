@@ -1,0 +1,141 @@
+//! A node of a tree: it has 32 places.
+
+ghost use Rattle.std.specs.Prelude.{◌≡◌, ◌<◌, Some};
+ghost use Rattle.page_delta.specs.Nodes.{child_in, entry_in, count_in, level_in, recount, with_child, with_entry, empty_node};
+
+use crate::entry::Entry;
+
+/// A branch has nodes at its places, so many levels above the leaves, and a leaf has entries. Both are counted: how
+/// often an id or a node names them.
+#[derive(Drop)]
+pub(crate) enum Node {
+    Branch {
+        count: usize,
+        level: u32,
+        children: [Option<usize>; 32],
+    },
+    Leaf {
+        count: usize,
+        entries: [Option<Entry>; 32],
+    },
+}
+
+impl Node {
+    // A node with nothing in it, counted once.
+    pub(crate) fn empty(level: u32) -> Node
+        ensures { result ≡ empty_node level }
+    {
+        if level == 0 {
+            Node::Leaf {
+                count: 1,
+                entries: [None; 32],
+            }
+        } else {
+            Node::Branch {
+                count: 1,
+                level,
+                children: [None; 32],
+            }
+        }
+    }
+
+    // A node with the same places, counted once.
+    pub(crate) fn copied(&self) -> Node
+        ensures { result ≡ recount self.now 1 }
+    {
+        match self {
+            Node::Branch {
+                level,
+                children,
+                ..
+            } => Node::Branch {
+                count: 1,
+                level: *level,
+                children: *children,
+            },
+            Node::Leaf { entries, .. } => Node::Leaf {
+                count: 1,
+                entries: copy_of(entries),
+            },
+        }
+    }
+
+    pub(crate) fn count(&self) -> usize
+        ensures { result ≡ count_in (Some self.now) }
+    {
+        match self {
+            Node::Branch { count, .. } => *count,
+            Node::Leaf { count, .. } => *count,
+        }
+    }
+
+    pub(crate) fn set_count(&mut self, now: usize)
+        ensures { self.new ≡ recount self.old now }
+    {
+        match self {
+            Node::Branch { count, .. } => *count = now,
+            Node::Leaf { count, .. } => *count = now,
+        }
+    }
+
+    // How many levels the node is above the leaves.
+    pub(crate) fn level(&self) -> u32
+        ensures { result ≡ level_in (Some self.now) }
+    {
+        match self {
+            Node::Branch { level, .. } => *level,
+            Node::Leaf { .. } => 0,
+        }
+    }
+
+    pub(crate) fn child(&self, digit: u32) -> Option<usize>
+        requires { digit < 32 }
+        ensures { result ≡ child_in (Some self.now) digit }
+    {
+        match self {
+            Node::Branch { children, .. } => children[digit as usize],
+            Node::Leaf { .. } => None,
+        }
+    }
+
+    pub(crate) fn entry(&self, digit: u32) -> Option<Entry>
+        requires { digit < 32 }
+        ensures { result ≡ entry_in (Some self.now) digit }
+    {
+        match self {
+            Node::Branch { .. } => None,
+            Node::Leaf { entries, .. } => entries[digit as usize],
+        }
+    }
+
+    pub(crate) fn set_child(&mut self, digit: u32, child: usize)
+        requires { digit < 32 }
+        ensures { self.new ≡ with_child self.old digit child }
+    {
+        match self {
+            Node::Branch { children, .. } => children[digit as usize] = Some(child),
+            Node::Leaf { .. } => {}
+        }
+    }
+
+    pub(crate) fn set_entry(&mut self, digit: u32, entry: Entry)
+        requires { digit < 32 }
+        ensures { self.new ≡ with_entry self.old digit entry }
+    {
+        match self {
+            Node::Branch { .. } => {}
+            Node::Leaf { entries, .. } => entries[digit as usize] = Some(entry),
+        }
+    }
+}
+
+// The same entries.
+fn copy_of(entries: &[Option<Entry>; 32]) -> [Option<Entry>; 32]
+    ensures { result ≡ entries.now }
+{
+    let mut copy = [None; 32];
+    for place in 0..32 {
+        copy[place] = entries[place];
+    }
+    copy
+}

@@ -1,0 +1,245 @@
+//! Roots of trees, each under an id.
+
+ghost use Rattle.std.specs.Prelude.{length, slice_index, ◌≡◌, ◌≢◌, ℕ, ◌+◌, ◌^◌, ◌<◌, ◌≤◌, [], Some, None, IsSome, OnOk, OnErr, IfOk, ◌==◌, if◌then◌else◌};
+ghost use Rattle.slab.specs.Slab.{HasRoomFor, slab_len};
+ghost use Rattle.page_pool.specs.Pool.{count_at};
+ghost use Rattle.page_delta.specs.Delta.{uses, find, pages_in, pages_after};
+ghost use Rattle.page_delta.specs.Nodes.{node_at, count_in, look, pages_below};
+ghost use Rattle.page_delta.specs.Roots.{root_at, map_below, IsKept, IsHeld, AddsRoot, PutsAt, IsKeeping, HasPages, or_else};
+ghost use Rattle.page_delta.specs.Shared.{Grows, KeepsBytes, IsClosed};
+ghost use Rattle.page_delta.specs.declared.roots.Root.{Root as Held_root};
+
+use crate::entry::Entry;
+use crate::node::Node;
+use crate::tree::{copy, gap, insert, look, lower, put, raise, release};
+use byte_codec::NoMemory;
+use page_pool::PagePool;
+use slab::Slab;
+use std::alloc::Global;
+
+// So many nodes and ids at most: then no count reaches 2^32, since a node has 32 places.
+pub(crate) const MAX_NODES: usize = 0x0400_0000;
+
+pub(crate) const MAX_IDS: usize = 0x8000_0000;
+
+// The root of a map, and how many pages it has.
+#[derive(Clone, Copy, Drop)]
+pub(crate) struct Root {
+    pub(crate) node: usize,
+    pub(crate) pages: u32,
+}
+
+// Takes memory for so many nodes and an id. Nothing else changes.
+pub(crate) fn make_room(
+    nodes: &mut Slab<Node>,
+    ids: &mut Slab<Root>,
+    more: usize,
+) -> Result<(), NoMemory>
+    requires { more < 2 ^ 10 }
+    ensures nodes { nodes.new.slots ≡ nodes.old.slots }
+    ensures ids { ids.new.slots ≡ ids.old.slots }
+    ensures room { OnOk result (HasRoomFor nodes.new more) }
+    ensures room_id { OnOk result (HasRoomFor ids.new 1) }
+    ensures few { OnOk result (slab_len nodes.new + more ≤ 2 ^ 26) }
+    ensures few_ids { OnOk result (slab_len ids.new + 1 ≤ 2 ^ 31) }
+{
+    if nodes.len() >= MAX_NODES - more || ids.len() >= MAX_IDS {
+        return Err(NoMemory);
+    }
+    nodes.reserve(more)?;
+    ids.reserve(1)?;
+    Ok(())
+}
+
+// The root of an id, which no other id has: the one that it has, or a copy.
+fn own_root(nodes: &mut Slab<Node>, ids: &mut Slab<Root>, pool: &mut PagePool, id: usize) -> usize
+    requires kept { IsKept nodes.old.slots ids.old.slots }
+    requires held { (loose : ℕ → ℕ) × IsHeld nodes.old.slots pool.old loose × ((slot : ℕ) → loose slot ≤ 1) }
+    requires live { IsSome (root_at ids.old.slots id) }
+    requires room { HasRoomFor nodes.old 1 }
+    requires few { slab_len nodes.old + 1 ≤ 2 ^ 26 }
+    ensures kept { IsKept nodes.new.slots ids.new.slots }
+    ensures held { (loose : ℕ → ℕ) → IsHeld nodes.old.slots pool.old loose → IsHeld nodes.new.slots pool.new loose }
+    ensures own { count_in (node_at nodes.new.slots result) ≡ 1 }
+    ensures root { (root : Held_root) → root_at ids.new.slots id ≡ Some root → root.node ≡ result }
+    ensures live { IsSome (root_at ids.new.slots id) }
+    ensures maps { (other : ℕ) → map_below nodes.new.slots (root_at ids.new.slots other) ≡ map_below nodes.old.slots (root_at ids.old.slots other) }
+    ensures grows { Grows nodes.old nodes.new 1 }
+    ensures keeps { KeepsBytes pool.old pool.new }
+{
+    let root = ids[id].node;
+    if nodes[root].count() == 1 {
+        return root;
+    }
+    let own = copy(nodes, pool, root);
+    ids[id].node = own;
+    lower(nodes, root);
+    own
+}
+
+// An id for an empty map.
+pub(crate) fn new_root(nodes: &mut Slab<Node>, ids: &mut Slab<Root>) -> Result<u32, NoMemory>
+    requires { IsKept nodes.old.slots ids.old.slots }
+    ensures kept { IsKept nodes.new.slots ids.new.slots }
+    ensures added { IfOk result (λ id. AddsRoot nodes.old.slots nodes.new.slots ids.old.slots ids.new.slots id []) }
+    ensures err { OnErr result (nodes.new.slots ≡ nodes.old.slots) }
+    ensures err_ids { OnErr result (ids.new.slots ≡ ids.old.slots) }
+{
+    make_room(nodes, ids, 1)?;
+    let Ok(id) = u32::try_from(ids.vacant_key()) else {
+        return Err(NoMemory);
+    };
+    let node = put(nodes, Node::empty(3));
+    ids.insert_reserved(Root { node, pages: 0 });
+    Ok(id)
+}
+
+// Another id for the map of one.
+pub(crate) fn fork_root(
+    nodes: &mut Slab<Node>,
+    ids: &mut Slab<Root>,
+    id: u32,
+) -> Result<u32, NoMemory>
+    requires kept { IsKept nodes.old.slots ids.old.slots }
+    requires live { IsSome (root_at ids.old.slots id) }
+    ensures kept { IsKept nodes.new.slots ids.new.slots }
+    ensures added { IfOk result (λ fork. (root : Held_root) → root_at ids.old.slots id ≡ Some root → AddsRoot nodes.old.slots nodes.new.slots ids.old.slots ids.new.slots fork (pages_below nodes.old.slots root.node)) }
+    ensures err { OnErr result (nodes.new.slots ≡ nodes.old.slots) }
+    ensures err_ids { OnErr result (ids.new.slots ≡ ids.old.slots) }
+{
+    make_room(nodes, ids, 0)?;
+    let Ok(fork) = u32::try_from(ids.vacant_key()) else {
+        return Err(NoMemory);
+    };
+    let Root { node, pages } = ids[id as usize];
+    raise(nodes, node);
+    ids.insert_reserved(Root { node, pages });
+    Ok(fork)
+}
+
+// Puts an entry at a page of a map. There is room for four nodes, and the slot is counted for the entry.
+pub(crate) fn put_entry(
+    nodes: &mut Slab<Node>,
+    ids: &mut Slab<Root>,
+    pool: &mut PagePool,
+    id: u32,
+    page: u32,
+    entry: Entry,
+)
+    requires kept { IsKept nodes.old.slots ids.old.slots }
+    requires held { IsHeld nodes.old.slots pool.old (λ slot. uses slot (Some entry)) }
+    requires live { IsSome (root_at ids.old.slots id) }
+    requires page { page < 2 ^ 20 }
+    requires room { HasRoomFor nodes.old 4 }
+    requires few { slab_len nodes.old + 4 ≤ 2 ^ 26 }
+    ensures kept { IsKept nodes.new.slots ids.new.slots }
+    ensures held { IsHeld nodes.new.slots pool.new (λ slot. 0) }
+    ensures put { PutsAt nodes.old.slots nodes.new.slots ids.old.slots ids.new.slots id page entry }
+    ensures keeps { KeepsBytes pool.old pool.new }
+{
+    let root = own_root(nodes, ids, pool, id as usize);
+    let before = look(nodes, root, page);
+    insert(nodes, pool, root, page, entry);
+    match before {
+        Some(before) => pool.release(before.slot),
+        None => ids[id as usize].pages += 1,
+    }
+}
+
+// Takes an id away, and releases its tree.
+pub(crate) fn drop_root(nodes: &mut Slab<Node>, ids: &mut Slab<Root>, pool: &mut PagePool, id: u32)
+    requires kept { IsKept nodes.old.slots ids.old.slots }
+    requires held { IsHeld nodes.old.slots pool.old (λ slot. 0) }
+    requires live { IsSome (root_at ids.old.slots id) }
+    ensures kept { IsKept nodes.new.slots ids.new.slots }
+    ensures held { IsHeld nodes.new.slots pool.new (λ slot. 0) }
+    ensures gone { root_at ids.new.slots id ≡ None }
+    ensures others { (other : ℕ) → other ≢ id → map_below nodes.new.slots (root_at ids.new.slots other) ≡ map_below nodes.old.slots (root_at ids.old.slots other) }
+    ensures keeps { KeepsBytes pool.old pool.new }
+    ensures none { ((other : ℕ) → root_at ids.new.slots other ≡ None) → (slot : ℕ) → count_at pool.new slot ≡ 0 }
+{
+    let root = ids.remove(id as usize);
+    release(nodes, pool, root.node, 3);
+}
+
+// The pages of a tree whose stamp is above `b`, ascending.
+pub(crate) fn stamped(
+    alloc: Global,
+    nodes: &Slab<Node>,
+    root: usize,
+    b: u64,
+) -> Result<Vec<u32>, NoMemory>
+    requires root { IsSome (node_at nodes.now.slots root) }
+    requires closed { IsClosed nodes.now.slots }
+    ensures { IfOk result (λ pages. pages.items ≡ pages_after b (pages_below nodes.now.slots root)) }
+{
+    let mut pages = Vec::new(alloc);
+    let mut page = 0;
+    while page < 1_048_576 {
+        let gap = gap(nodes, root, page);
+        if gap > 0 {
+            page += gap;
+        } else {
+            if let Some(entry) = look(nodes, root, page) {
+                if entry.stamp > b {
+                    pages.push(page)?;
+                }
+            }
+            page += 1;
+        }
+    }
+    Ok(pages)
+}
+
+// Puts the entry of one map into another at the same page.
+pub(crate) fn keep_page(
+    nodes: &mut Slab<Node>,
+    ids: &mut Slab<Root>,
+    pool: &mut PagePool,
+    id: u32,
+    kept: u32,
+    page: u32,
+) -> Result<(), NoMemory>
+    requires kept { IsKept nodes.old.slots ids.old.slots }
+    requires held { IsHeld nodes.old.slots pool.old (λ slot. 0) }
+    requires live { IsSome (root_at ids.old.slots id) }
+    requires live_kept { IsSome (root_at ids.old.slots kept) }
+    requires page { page < 2 ^ 20 }
+    ensures kept { IsKept nodes.new.slots ids.new.slots }
+    ensures held { IsHeld nodes.new.slots pool.new (λ slot. 0) }
+    ensures live { IsSome (root_at ids.new.slots kept) }
+    ensures found { OnOk result ((q : ℕ) → find q (pages_in (map_below nodes.new.slots (root_at ids.new.slots kept))) ≡ (if q == page then or_else (find page (pages_in (map_below nodes.old.slots (root_at ids.old.slots id)))) (find q (pages_in (map_below nodes.old.slots (root_at ids.old.slots kept)))) else find q (pages_in (map_below nodes.old.slots (root_at ids.old.slots kept))))) }
+    ensures others { (other : ℕ) → other ≢ kept → map_below nodes.new.slots (root_at ids.new.slots other) ≡ map_below nodes.old.slots (root_at ids.old.slots other) }
+    ensures keeps { KeepsBytes pool.old pool.new }
+{
+    make_room(nodes, ids, 4)?;
+    if let Some(entry) = look(nodes, ids[id as usize].node, page) {
+        pool.retain(entry.slot);
+        put_entry(nodes, ids, pool, kept, page, entry);
+    }
+    Ok(())
+}
+
+// Puts the entries of one map at these pages into another.
+pub(crate) fn keep_pages(
+    nodes: &mut Slab<Node>,
+    ids: &mut Slab<Root>,
+    pool: &mut PagePool,
+    id: u32,
+    kept: u32,
+    pages: &[u32],
+) -> Result<(), NoMemory>
+    requires kept { IsKept nodes.old.slots ids.old.slots }
+    requires held { IsHeld nodes.old.slots pool.old (λ slot. 0) }
+    requires live { IsSome (root_at ids.old.slots id) }
+    requires live_kept { IsSome (root_at ids.old.slots kept) }
+    requires apart { id ≢ kept }
+    requires pages { (k : ℕ) → k < length pages.now → slice_index pages.now k < 2 ^ 20 }
+    ensures progress { IsKeeping nodes.old.slots nodes.new.slots ids.old.slots ids.new.slots pool.old pool.new kept }
+    ensures found { OnOk result (HasPages nodes.old.slots nodes.new.slots ids.old.slots ids.new.slots id kept pages.now) }
+{
+    for page in pages {
+        keep_page(nodes, ids, pool, id, kept, *page)?;
+    }
+    Ok(())
+}
