@@ -1,0 +1,5 @@
+pub mod Looping
+pub mod Counting
+pub mod MemoryLaws
+pub mod Bodies
+pub mod Wholes

@@ -1,0 +1,242 @@
+-- What is read of memories is what a mark may say of them, in its one spelling.
+use Rattle.std.proofs.Common.{◌≡◌, ◌≢◌, ℕ, ◌*◌, ◌^◌, ◌<◌, ◌≤◌, Bool, true, false, not, List, [], ◌∷◌, ◌++◌, length, map, get_or, Option, Some, None, refl, sym, ap, subst, ◌∙◌, append_assoc, arith, eq-eqb}
+use Rattle.std.specs.Prelude.{◌==◌, nat_le, slice_get, if◌then◌else◌, AllPairs}
+use Rattle.std.specs.List.{flat_map, AllByRecursion, AllZip, list_any}
+use Rattle.std.specs.Int.{w32, w64}
+use Rattle.std.proofs.lemmas.Bool.{leb-true, le-leb, eqb-true, eqb-false, ne_eqb}
+use Rattle.std.proofs.lemmas.List.{append-nil, length-append, length-map, nil_from_length, get_or_append_left}
+use Rattle.std.proofs.lemmas.List.Folds.{list_any_at, list_any_none}
+use Rattle.std.proofs.lemmas.List.Quantifiers.{all_pairs_push}
+use Rattle.std.proofs.Math.Seq.{get_or-append_seam}
+use Rattle.format_spec.specs.Bytes.{Bytes, be32, be64, part_count}
+use Rattle.format_spec.specs.Fields.{Reading, gives, ◌>>=◌, field, number, block, any, each}
+use Rattle.format_spec.specs.declared.limits.TheConstants.{CHUNK_PAGES, CHUNK_SIZE, PAGE_SIZE, MAX_LAYERS}
+use Rattle.format_spec.proofs.Forms.{number_law, wide32, wide64, block_law}
+use Rattle.format_spec.proofs.Readings.{IsReading, field_law, then_law, gives_law, reading_when, each_law, FitInTurn}
+use Rattle.store_spec.specs.Mark.{MarkMemory, mark_memory_text, hashes_text, FitsMemory}
+use Rattle.mark_file.specs.Reading.{most_layers, is_new, layer_after, hash_after, memory_of, memory_at, memory_after}
+
+-- ---- layers that are all different
+
+abbrev LayerFits : List ℕ → ℕ → Type 0
+LayerFits before n = (n < 2 ^ 64) × (is_new before n ≡ true)
+
+abbrev Different : List ℕ → Type 0
+Different xs = AllPairs (λ a b. a ≢ b) xs
+
+none_before : Different []
+none_before i j d lt within = absurd (omega (arith, within))
+
+is_not : (b : Bool) → not b ≡ true → b ≡ true → ⊥
+is_not true e h = absurd cc
+is_not false e h = absurd cc
+
+new_differs : (before : List ℕ) (x : ℕ) → is_new before x ≡ true → (k d : ℕ) → k < length before → get_or before k d ≢ x
+new_differs before x new k d lt same = is_not (list_any (λ m. m == x) before) new (list_any_at (λ m. m == x) before k d lt (eq-eqb (get_or before k d) x same))
+
+in_turn_different : (xs before : List ℕ) → Different before → FitInTurn LayerFits before xs → Different (before ++ xs)
+in_turn_different [] before so_far h = subst Different (sym (append-nil before)) so_far
+in_turn_different (x ∷ xs) before so_far h =
+    subst Different (append_assoc before (x ∷ []) xs)
+    (in_turn_different xs (before ++ x ∷ []) (all_pairs_push (λ a b. a ≢ b) before x so_far (new_differs before x h.0.1)) h.1)
+
+in_turn_small : (xs before : List ℕ) → FitInTurn LayerFits before xs → AllByRecursion (λ n. n < 2 ^ 64) xs
+in_turn_small [] before h = tt
+in_turn_small (x ∷ xs) before h = (h.0.0, in_turn_small xs (before ++ x ∷ []) h.1)
+
+differs_new : (before xs : List ℕ) (x : ℕ) → Different (before ++ x ∷ xs) → is_new before x ≡ true
+differs_new before xs x all = ap not (list_any_none (λ m. m == x) before each_other)
+  where
+    each_other : (k d : ℕ) → k < length before → (get_or before k d == x) ≡ false
+    each_other k d lt =
+        ne_eqb (get_or before k d) x
+        (λ same. all k (length before) d lt (omega (arith, length-append before (x ∷ xs))) (get_or_append_left before (x ∷ xs) d k lt ∙ same ∙ sym (get_or-append_seam before x xs d)))
+
+different_in_turn : (xs before : List ℕ) → Different (before ++ xs) → AllByRecursion (λ n. n < 2 ^ 64) xs → FitInTurn LayerFits before xs
+different_in_turn [] before all small = tt
+different_in_turn (x ∷ xs) before all small =
+    ((small.0, differs_new before xs x all), different_in_turn xs (before ++ x ∷ []) (subst Different (sym (append_assoc before (x ∷ []) xs)) all) small.1)
+
+-- ---- hashes
+
+abbrev HashFits : List Bytes → Bytes → Type 0
+HashFits before hash = (length hash ≡ 32) × (any hash ≡ true)
+
+each_hash : (hs before : List Bytes) → FitInTurn HashFits before hs → AllByRecursion (λ hash. length hash ≡ 32) hs
+each_hash [] before h = tt
+each_hash (x ∷ hs) before h = (h.0.0, each_hash hs (before ++ x ∷ []) h.1)
+
+hash_each : (hs before : List Bytes) → AllByRecursion (λ hash. length hash ≡ 32) hs → FitInTurn HashFits before hs
+hash_each [] before h = tt
+hash_each (x ∷ hs) before h = ((h.0, refl), hash_each hs (before ++ x ∷ []) h.1)
+
+-- ---- one memory
+
+abbrev pub FitsPages : ℕ → MarkMemory → Type 0
+FitsPages pages m = FitsMemory m ([], pages)
+
+same_memory : (m n : MarkMemory) → m.layers ≡ n.layers → m.sums ≡ n.sums → m ≡ n
+same_memory m n p q = λ i. record { layers = p i; sums = q i }
+
+module _ (pages : ℕ) where
+  abbrev read_end : List ℕ → List Bytes → Reading MarkMemory
+  read_end layers sums = gives (record { layers = layers; sums = sums })
+
+  abbrev read_sums : List ℕ → Reading MarkMemory
+  read_sums layers = each hash_after (part_count CHUNK_PAGES pages) [] >>= read_end layers
+
+  abbrev read_layers : ℕ → Reading MarkMemory
+  read_layers count = each layer_after count [] >>= read_sums
+
+  abbrev few : ℕ → Bool
+  few n = nat_le n (most_layers pages)
+
+  end_law : (layers : List ℕ) (sums : List Bytes) → IsReading (read_end layers sums) (λ m. []) (λ m. (m.sums ≡ sums) × (m.layers ≡ layers))
+  end_law layers sums =
+      let all : MarkMemory = record { layers = layers; sums = sums } in
+      reading_when (read_end layers sums) (λ m. []) (λ m. []) (λ m. m ≡ all) (λ m. (m.sums ≡ sums) × (m.layers ≡ layers)) (λ m. refl)
+      (λ m h. (ap (λ (x : MarkMemory). x.sums) h, ap (λ (x : MarkMemory). x.layers) h)) (λ m h. same_memory m all h.1 h.0) (gives_law all)
+
+  abbrev SumsFit : List Bytes → Type 0
+  SumsFit hs = (length hs ≡ part_count CHUNK_PAGES pages) × FitInTurn HashFits [] hs
+
+  sums_law : (layers : List ℕ) → IsReading (read_sums layers) (λ m. hashes_text m.sums ++ []) (λ m. (m.layers ≡ layers) × SumsFit m.sums)
+  sums_law layers = reading_when (read_sums layers) (λ m. hashes_text m.sums ++ []) (λ m. hashes_text m.sums ++ []) (λ m. SumsFit m.sums × (m.layers ≡ layers)) (λ m. (m.layers ≡ layers) × SumsFit m.sums) (λ m. refl)
+      (λ m h. (h.1, h.0)) (λ m h. (h.1, h.0))
+      (then_law (each hash_after (part_count CHUNK_PAGES pages) []) (read_end layers) (λ m. m.sums) hashes_text SumsFit (λ m. []) (λ m. m.layers ≡ layers)
+      (each_law hash_after (λ hash. hash) HashFits (λ before. field_law (block 32) (λ s. s) (λ s. length s ≡ 32) any (block_law 32)) (part_count CHUNK_PAGES pages)) (end_law layers))
+
+  abbrev LayersFit : List ℕ → Type 0
+  LayersFit ls = FitInTurn LayerFits [] ls
+
+  layers_law : (count : ℕ) → IsReading (read_layers count) (λ m. flat_map be64 m.layers ++ (hashes_text m.sums ++ [])) (λ m. (length m.layers ≡ count) × (LayersFit m.layers × SumsFit m.sums))
+  layers_law count = reading_when (read_layers count) (λ m. flat_map be64 m.layers ++ (hashes_text m.sums ++ [])) (λ m. flat_map be64 m.layers ++ (hashes_text m.sums ++ []))
+      (λ m. ((length m.layers ≡ count) × LayersFit m.layers) × SumsFit m.sums) (λ m. (length m.layers ≡ count) × (LayersFit m.layers × SumsFit m.sums)) (λ m. refl)
+      (λ m h. (h.0.0, (h.0.1, h.1))) (λ m h. ((h.0, h.1.0), h.1.1))
+      (then_law (each layer_after count []) read_sums (λ m. m.layers) (flat_map be64) (λ ls. (length ls ≡ count) × LayersFit ls) (λ m. hashes_text m.sums ++ []) (λ m. SumsFit m.sums)
+      (each_law layer_after be64 LayerFits (λ before. field_law (number w64) be64 (λ n. n < 2 ^ 64) (is_new before) (number_law w64 (2 ^ 64) wide64)) count) sums_law)
+
+  abbrev CountFits : ℕ → Type 0
+  CountFits n = (n < 2 ^ 32) × (few n ≡ true)
+
+  abbrev InTurn : MarkMemory → Type 0
+  InTurn m = CountFits (length m.layers) × (LayersFit m.layers × SumsFit m.sums)
+
+  at_most : (n : ℕ) → few n ≡ true → (n ≤ MAX_LAYERS) × (pages ≡ 0 → n ≡ 0)
+  at_most n e = go (pages == 0) refl (leb-true n (most_layers pages) e)
+    where
+      go : (b : Bool) → (pages == 0) ≡ b → n ≤ (if b then 0 else MAX_LAYERS) → (n ≤ MAX_LAYERS) × (pages ≡ 0 → n ≡ 0)
+      go true is le = (omega (arith, le), λ none. omega (arith, le))
+      go false is le = (le, λ none. absurd (eqb-false pages 0 is none))
+
+  are_few : (n : ℕ) → n ≤ MAX_LAYERS → (pages ≡ 0 → n ≡ 0) → few n ≡ true
+  are_few n le none = le-leb n (most_layers pages) (go (pages == 0) refl)
+    where
+      go : (b : Bool) → (pages == 0) ≡ b → n ≤ (if b then 0 else MAX_LAYERS)
+      go true is = let zero = none (eqb-true pages 0 is) in omega (arith, zero)
+      go false is = le
+
+  fits : (m : MarkMemory) → InTurn m → FitsPages pages m
+  fits m h =
+      let few_layers = at_most (length m.layers) h.0.1 in
+      record {
+        few = few_layers.0;
+        different = in_turn_different m.layers [] none_before h.1.0;
+        numbers = in_turn_small m.layers [] h.1.0;
+        none_if_empty = λ none. nil_from_length m.layers (few_layers.1 none);
+        each_chunk = h.1.1.0;
+        hashes = each_hash m.sums [] h.1.1.1;
+      }
+
+  in_turn : (m : MarkMemory) → FitsPages pages m → InTurn m
+  in_turn m f =
+      let le : length m.layers ≤ MAX_LAYERS = f.few in
+      ((omega (arith, le), are_few (length m.layers) le (λ none. ap length (f.none_if_empty none))), (different_in_turn m.layers [] f.different f.numbers, (f.each_chunk, hash_each m.sums [] f.hashes)))
+
+  regroup : (a b c : Bytes) → a ++ (b ++ (c ++ [])) ≡ (a ++ b) ++ c
+  regroup a b c = simp (append_assoc, append-nil)
+
+  pub memory_law : IsReading (memory_of pages) mark_memory_text (FitsPages pages)
+  unfolding memory_of
+  memory_law = reading_when (memory_of pages) (λ m. be32 (length m.layers) ++ (flat_map be64 m.layers ++ (hashes_text m.sums ++ []))) mark_memory_text InTurn (FitsPages pages)
+      (λ m. regroup (be32 (length m.layers)) (flat_map be64 m.layers) (hashes_text m.sums)) fits in_turn
+      (then_law (field (number w32) few) read_layers (λ m. length m.layers) be32 CountFits (λ m. flat_map be64 m.layers ++ (hashes_text m.sums ++ [])) (λ m. LayersFit m.layers × SumsFit m.sums)
+      (field_law (number w32) be32 (λ n. n < 2 ^ 32) few (number_law w32 (2 ^ 32) wide32)) layers_law)
+
+-- ---- all memories
+
+abbrev FitsNext : Option ℕ → MarkMemory → Type 0
+FitsNext None m = ⊥
+FitsNext (Some pages) m = FitsPages pages m
+
+next_law : (o : Option ℕ) → IsReading (memory_at o) mark_memory_text (FitsNext o)
+next_law None = record { again = λ x at rest fits. absurd fits; takes = λ c x d bytes e. absurd cc }
+next_law (Some pages) = record { again = (memory_law pages).again; takes = (memory_law pages).takes }
+
+abbrev FitsAt : List ℕ → List MarkMemory → MarkMemory → Type 0
+FitsAt pages before m = FitsNext (slice_get pages (length before)) m
+
+abbrev counts : List (Bytes × ℕ) → List ℕ
+counts fs = map (λ (f : Bytes × ℕ). f.1) fs
+
+there : (done fs : List (Bytes × ℕ)) (f : Bytes × ℕ) (n : ℕ) → n ≡ length done → slice_get (counts (done ++ f ∷ fs)) n ≡ Some f.1
+there [] fs f n is = rw is refl
+there (d ∷ done) fs f n is = rw is (there done fs f (length done) refl)
+
+for_file : (m : MarkMemory) (f : Bytes × ℕ) → FitsPages f.1 m → FitsMemory m f
+for_file m f h = record { few = h.few; different = h.different; numbers = h.numbers; none_if_empty = h.none_if_empty; each_chunk = h.each_chunk; hashes = h.hashes }
+
+for_pages : (m : MarkMemory) (f : Bytes × ℕ) → FitsMemory m f → FitsPages f.1 m
+for_pages m f h = record { few = h.few; different = h.different; numbers = h.numbers; none_if_empty = h.none_if_empty; each_chunk = h.each_chunk; hashes = h.hashes }
+
+fit_each : (fs done : List (Bytes × ℕ)) (ms before : List MarkMemory) → length before ≡ length done → length ms ≡ length fs → FitInTurn (FitsAt (counts (done ++ fs))) before ms → AllZip FitsMemory ms fs
+fit_each [] done [] before place count h = tt
+fit_each [] done (m ∷ ms) before place count h = absurd (omega (arith, count))
+fit_each (f ∷ fs) done [] before place count h = absurd (omega (arith, count))
+fit_each (f ∷ fs) done (m ∷ ms) before place count h = (
+  for_file m f (subst (λ (o : Option ℕ). FitsNext o m) (there done fs f (length before) place) h.0),
+  fit_each fs (done ++ f ∷ []) ms (before ++ m ∷ []) (omega (arith, length-append before (m ∷ []), length-append done (f ∷ []), place)) (omega (arith, count))
+      (subst (λ (x : List (Bytes × ℕ)). FitInTurn (FitsAt (counts x)) (before ++ m ∷ []) ms) (sym (append_assoc done (f ∷ []) fs)) h.1),
+)
+
+each_fits : (fs done : List (Bytes × ℕ)) (ms before : List MarkMemory) → length before ≡ length done → AllZip FitsMemory ms fs → (length ms ≡ length fs) × FitInTurn (FitsAt (counts (done ++ fs))) before ms
+each_fits [] done [] before place h = (refl, tt)
+each_fits [] done (m ∷ ms) before place h = absurd h
+each_fits (f ∷ fs) done [] before place h = absurd h
+each_fits (f ∷ fs) done (m ∷ ms) before place h =
+    let more = each_fits fs (done ++ f ∷ []) ms (before ++ m ∷ []) (omega (arith, length-append before (m ∷ []), length-append done (f ∷ []), place)) h.1 in (
+      omega (arith, more.0),
+      (
+        subst (λ (o : Option ℕ). FitsNext o m) (sym (there done fs f (length before) place)) (for_pages m f h.0),
+        subst (λ (x : List (Bytes × ℕ)). FitInTurn (FitsAt (counts x)) (before ++ m ∷ []) ms) (append_assoc done (f ∷ []) fs) more.1,
+      ),
+    )
+
+-- memories of these files
+pub memories_law : (fs : List (Bytes × ℕ)) → IsReading (each (memory_after (counts fs)) (length (counts fs)) []) (flat_map mark_memory_text) (λ ms. AllZip FitsMemory ms fs)
+memories_law fs = reading_when (each (memory_after (counts fs)) (length (counts fs)) []) (flat_map mark_memory_text) (flat_map mark_memory_text)
+    (λ ms. (length ms ≡ length (counts fs)) × FitInTurn (FitsAt (counts fs)) [] ms) (λ ms. AllZip FitsMemory ms fs) (λ ms. refl)
+    (λ ms h. fit_each fs [] ms [] refl (h.0 ∙ length-map fs (λ (f : Bytes × ℕ). f.1)) h.1)
+    (λ ms h. let e = each_fits fs [] ms [] refl h in (e.0 ∙ sym (length-map fs (λ (f : Bytes × ℕ). f.1)), e.1))
+    (each_law (memory_after (counts fs)) mark_memory_text (FitsAt (counts fs)) (λ before. next_law (slice_get (counts fs) (length before))) (length (counts fs)))
+
+-- ---- their hashes are as many as the manifest wants
+
+same_count : (pages : ℕ) → part_count CHUNK_PAGES pages ≡ part_count CHUNK_SIZE (pages * PAGE_SIZE)
+same_count pages = omega arith
+
+pub sums_fit : (ms : List MarkMemory) (fs : List (Bytes × ℕ)) → AllZip FitsMemory ms fs
+    → map (λ (list : List Bytes). length list) (map (λ (m : MarkMemory). m.sums) ms) ≡ map (λ (f : Bytes × ℕ). part_count CHUNK_SIZE (f.1 * PAGE_SIZE)) fs
+sums_fit [] [] h = refl
+sums_fit [] (f ∷ fs) h = absurd h
+sums_fit (m ∷ ms) [] h = absurd h
+sums_fit (m ∷ ms) (f ∷ fs) h =
+    let first : length m.sums ≡ part_count CHUNK_SIZE (f.1 * PAGE_SIZE) = h.0.each_chunk ∙ same_count f.1 in
+    let rest = sums_fit ms fs h.1 in
+    rw (first, rest) refl
+
+pub few_layers : (ms : List MarkMemory) (fs : List (Bytes × ℕ)) → AllZip FitsMemory ms fs → AllByRecursion (λ (m : MarkMemory). length m.layers < 2 ^ 32) ms
+few_layers [] [] h = tt
+few_layers [] (f ∷ fs) h = absurd h
+few_layers (m ∷ ms) [] h = absurd h
+few_layers (m ∷ ms) (f ∷ fs) h = let le : length m.layers ≤ MAX_LAYERS = h.0.few in (omega (arith, le), few_layers ms fs h.1)

@@ -1,0 +1,4 @@
+pub mod Fits
+pub mod Gives
+pub mod Reading
+pub mod Spells

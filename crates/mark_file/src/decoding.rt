@@ -1,0 +1,70 @@
+//! Marks read from their bytes, in one pass.
+
+ghost use Rattle.std.specs.Prelude.{◌≤◌, IfOk};
+ghost use Rattle.format_spec.specs.declared.limits.TheConstants.{MAX_HEIGHT as max_height};
+ghost use Rattle.mark_file.specs.Fits.{FitsText};
+ghost use Rattle.mark_file.specs.Spells.{Spells, Decodes, Reads, SpellsBody};
+
+use crate::ending::{chunk_hashes, ending, root_hash};
+use crate::error::{MarkError, Stop};
+use crate::fields::{VERSION, hashed_body, read_head, read_parts, same};
+use crate::mark::Mark;
+use crate::memories::{pages_of_memories, read_mems};
+use byte_codec::{Blob, Reader};
+use format_spec::MAX_HEIGHT;
+use std::alloc::Global;
+
+impl Mark {
+    /// The mark of this height that the bytes spell. Memory is taken for what was read, and not for what a count says.
+    ///
+    /// BadMark of this height exactly where they spell none: a field is cut or breaks its rule, the height in them is
+    /// another one or isn't from 1 to 2^62, the system text spells no state, a hash or the root isn't the true one, or
+    /// bytes follow. Memory where memory runs out.
+    pub fn decode(alloc: Global, height: u64, bytes: &[u8]) -> Result<Mark, MarkError>
+        ensures exact { Decodes height bytes.now result }
+        ensures fits { IfOk result FitsText }
+    {
+        match read_mark(alloc, height, bytes) {
+            Ok(mark) => Ok(mark),
+            Err(Stop::Broken) => Err(MarkError::BadMark(height)),
+            Err(Stop::Memory) => Err(MarkError::Memory),
+        }
+    }
+}
+
+fn read_mark(alloc: Global, height: u64, bytes: &[u8]) -> Result<Mark, Stop>
+    ensures { Reads (Spells height bytes.now) result }
+{
+    if height == 0 || height > MAX_HEIGHT {
+        return Err(Stop::Broken);
+    }
+    let body = hashed_body(bytes)?;
+    read_body(alloc, height, body)
+}
+
+// All but the hash over it.
+fn read_body(alloc: Global, height: u64, body: &[u8]) -> Result<Mark, Stop>
+    requires from_one { 1 ≤ height }
+    requires at_most { height ≤ max_height }
+    ensures { Reads (SpellsBody height body.now) result }
+{
+    let mut reader = Reader::new(body);
+    let system = read_head(&mut reader, height)?;
+    let sys = read_parts(alloc, system, height)?;
+    let pages = pages_of_memories(alloc, &sys)?;
+    let mems = read_mems(alloc, &mut reader, &pages)?;
+    let system_sums = chunk_hashes(alloc, system)?;
+    let root = root_hash(alloc, system, &sys, &mems)?;
+    let end = ending(alloc, &system_sums, &root)?;
+    if !same(reader.rest(), &end) {
+        return Err(Stop::Broken);
+    }
+    Ok(Mark {
+        height,
+        version: VERSION,
+        system: Blob::from_slice(alloc, system)?,
+        mems,
+        system_sums,
+        root,
+    })
+}

@@ -1,0 +1,67 @@
+//! What stands behind the memories, which the system text and the memories' hashes give: the hashes of the chunks of the
+//! system text, and the root hash.
+
+ghost use Rattle.std.specs.Prelude.{◌≡◌, ◌++◌, map, IfOk};
+ghost use Rattle.state_spec.specs.SystemText.{system_text};
+ghost use Rattle.state_spec.specs.Manifest.{chunk_hashes as hashes_of_chunks};
+ghost use Rattle.store_spec.specs.Mark.{hashes_text};
+ghost use Rattle.sys_state.specs.System.{part_of};
+ghost use Rattle.manifest.specs.Fits.{FitSums};
+ghost use Rattle.mark_file.specs.Spells.{root_from};
+
+use crate::encoding::put_hashes;
+use crate::mark::MarkMem;
+use byte_codec::NoMemory;
+use format_spec::CHUNK_SIZE;
+use hash_domain::{Hash32, chunk_hash};
+use manifest::Manifest;
+use std::alloc::Global;
+use sys_state::SysState;
+
+/// The hashes of the chunks of these bytes, each hashed by one call over all of it.
+pub(crate) fn chunk_hashes(alloc: Global, bytes: &[u8]) -> Result<Vec<Hash32>, NoMemory>
+    ensures { IfOk result (λ hashes. hashes.items ≡ hashes_of_chunks bytes.now) }
+{
+    let mut hashes = Vec::with_capacity(alloc, bytes.len().div_ceil(CHUNK_SIZE))?;
+    for chunk in bytes.chunks(CHUNK_SIZE) {
+        hashes.push(chunk_hash(chunk))?;
+    }
+    Ok(hashes)
+}
+
+/// The root hash of the manifest of these parts, where the chunks of the memories have the hashes in these lists.
+pub(crate) fn root_hash(
+    alloc: Global,
+    system: &[u8],
+    sys: &SysState,
+    mems: &[MarkMem],
+) -> Result<Hash32, NoMemory>
+    requires text { system.now ≡ system_text (part_of sys.now) }
+    requires fit { FitSums (part_of sys.now) (map (λ mem. mem.sums) mems.now) }
+    ensures { IfOk result (λ root. root ≡ root_from (part_of sys.now) mems.now) }
+{
+    let sums = sums_of(alloc, mems)?;
+    let manifest = Manifest::from_sums(alloc, system, sys, &sums)?;
+    let meta = manifest.meta(alloc)?;
+    Ok(meta.root())
+}
+
+fn sums_of(alloc: Global, mems: &[MarkMem]) -> Result<Vec<Vec<Hash32>>, NoMemory>
+    ensures { IfOk result (λ lists. map (λ list. list.items) lists.items ≡ map (λ mem. mem.sums) mems.now) }
+{
+    let mut lists = Vec::with_capacity(alloc, mems.len())?;
+    for mem in mems {
+        lists.push(Vec::from_slice(alloc, &mem.sums)?)?;
+    }
+    Ok(lists)
+}
+
+/// The bytes of both.
+pub(crate) fn ending(alloc: Global, sums: &[Hash32], root: &Hash32) -> Result<Vec<u8>, NoMemory>
+    ensures { IfOk result (λ text. text.items ≡ hashes_text sums.now ++ root.now) }
+{
+    let mut text = Vec::new(alloc);
+    put_hashes(&mut text, sums)?;
+    text.extend_from_slice(root.bytes())?;
+    Ok(text)
+}

@@ -1,0 +1,17 @@
+//! Marks: the file that publishes a checkpoint, written and read.
+#![tactic(auto)]
+
+mod decoding;
+mod encoding;
+mod ending;
+mod error;
+mod fields;
+mod laws;
+mod mark;
+mod memories;
+#[cfg(test)]
+mod tests;
+
+pub use error::MarkError;
+pub use laws::marks_can_be_written;
+pub use mark::{Mark, MarkMem};

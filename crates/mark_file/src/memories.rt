@@ -1,0 +1,78 @@
+//! The memories of a mark.
+
+ghost use Rattle.std.specs.Prelude.{◌≡◌, [], length, map, IfOk};
+ghost use Rattle.format_spec.specs.Fields.{each, field, block, any};
+ghost use Rattle.state_spec.specs.Files.{memories_in};
+ghost use Rattle.sys_state.specs.System.{part_of};
+ghost use Rattle.mark_file.specs.Reading.{layer_after, hash_after, memory_of, memory_after};
+ghost use Rattle.mark_file.specs.Gives.{Gives};
+
+use crate::error::Stop;
+use crate::fields::{read_hash, read_layer, read_layer_count};
+use crate::mark::MarkMem;
+use byte_codec::{NoMemory, Reader};
+use format_spec::CHUNK_PAGES;
+use hash_domain::Hash32;
+use std::alloc::Global;
+use sys_state::SysState;
+
+/// The pages of each memory, heap and stable memory of each canister in order of ids.
+pub(crate) fn pages_of_memories(alloc: Global, sys: &SysState) -> Result<Vec<u32>, NoMemory>
+    ensures { IfOk result (λ pages. pages.items ≡ map (λ memory. memory.1) (memories_in (part_of sys.now))) }
+{
+    let mut pages = Vec::new(alloc);
+    for i in 0..sys.canisters() {
+        let Some((_, canister)) = sys.canister_at(i) else {
+            unreachable!();
+        };
+        pages.push(canister.heap)?;
+        pages.push(canister.stable)?;
+    }
+    Ok(pages)
+}
+
+/// What a mark says of memories of so many pages.
+pub(crate) fn read_mems(
+    alloc: Global,
+    reader: &mut Reader,
+    pages: &[u32],
+) -> Result<Vec<MarkMem>, Stop>
+    ensures { Gives (λ mems. (mems.items, reader.new)) result (each (memory_after pages.now) (length pages.now) [] reader.old) }
+{
+    let mut mems = Vec::new(alloc);
+    for count in pages {
+        mems.push(read_mem(alloc, reader, *count)?)?;
+    }
+    Ok(mems)
+}
+
+// What it says of a memory of so many pages.
+#[tactic(auto, unfolding(crate::specs::Reading::memory_of))]
+fn read_mem(alloc: Global, reader: &mut Reader, pages: u32) -> Result<MarkMem, Stop>
+    ensures { Gives (λ mem. (mem, reader.new)) result (memory_of pages reader.old) }
+{
+    let count = read_layer_count(reader, pages)?;
+    let layers = read_layers(alloc, reader, count)?;
+    let sums = read_hashes(alloc, reader, pages.div_ceil(CHUNK_PAGES as u32))?;
+    Ok(MarkMem { layers, sums })
+}
+
+fn read_layers(alloc: Global, reader: &mut Reader, count: u32) -> Result<Vec<u64>, Stop>
+    ensures { Gives (λ layers. (layers.items, reader.new)) result (each layer_after count [] reader.old) }
+{
+    let mut layers = Vec::new(alloc);
+    for _ in 0..count {
+        layers.push(read_layer(reader, &layers)?)?;
+    }
+    Ok(layers)
+}
+
+fn read_hashes(alloc: Global, reader: &mut Reader, count: u32) -> Result<Vec<Hash32>, Stop>
+    ensures { Gives (λ hashes. (hashes.items, reader.new)) result (each hash_after count [] reader.old) }
+{
+    let mut hashes = Vec::new(alloc);
+    for _ in 0..count {
+        hashes.push(read_hash(reader)?)?;
+    }
+    Ok(hashes)
+}
