@@ -1,13 +1,12 @@
 -- What a change of the fields leaves of what a contract sees.
-use Rattle.std.proofs.Common.{◌≡◌, ◌≢◌, ◌⊎◌, inl, inr, ℕ, zero, suc, ◌+◌, ◌^◌, ◌<◌, ◌≤◌, List, [], ◌∷◌, ◌++◌, length, replicate, get_or, set, Option, Some, None, MatchOption, refl, sym, ap, subst, ◌∙◌, arith, length-set}
+use Rattle.std.proofs.Common.{◌≡◌, ◌≢◌, ◌⊎◌, inl, inr, ℕ, zero, suc, ◌+◌, ◌^◌, ◌<◌, ◌≤◌, List, [], ◌∷◌, length, replicate, get_or, set, Option, Some, None, MatchOption, refl, sym, ap, ◌∙◌, arith, length-set}
 use Rattle.std.proofs.lemmas.List.{get_or-set_same, get_or-set_other, get_or_default}
 use Rattle.std.proofs.lemmas.Grind.{get_or-set_at}
-use Rattle.slot_links.specs.Lists.{Lists, first_of_list, successor, Has, AreDistinct, IsIn, IsUnlinked, without, unlinked, with_members}
+use Rattle.slot_links.specs.Lists.{Lists, first_of_list, successor, Has, AreDistinct, IsIn, IsUnlinked, without, unlinked}
 use Rattle.slot_links.specs.Rings.{tabulate, follow, row_at, IsPath, AreRings, IsSound}
-use Rattle.slot_links.proofs.Paths.{follow-path, path-owner, path-start, leads-on}
-use Rattle.slot_links.proofs.Tables.{length-tabulate, get-tabulate, tabulate-congr, map-tabulate, set-tabulate, put, length-apart}
-use Rattle.slot_links.proofs.Joins.{IsHalfJoin, IsJoin, rings-join, path-back, path-front, path-end, joined-back, joined-front}
-use Rattle.slot_links.proofs.Cuts.{IsHalfCut, rings-cut, ring-forth}
+use Rattle.slot_links.proofs.Paths.{follow-path, path-owner, leads-on}
+use Rattle.slot_links.proofs.Tables.{length-tabulate, get-tabulate, tabulate-congr, map-tabulate, length-apart}
+use Rattle.slot_links.proofs.Cuts.{IsHalfCut, rings-cut}
 
 -- what a contract sees of these fields
 abbrev pub seen : List ℕ → ℕ → ℕ → Lists
@@ -90,13 +89,6 @@ module _ (next previous : List ℕ) (owner : List (Option ℕ)) (items lists x a
   pub seen-unlinked : seen (set (set next a b) x x) items lists ≡ unlinked (seen next items lists) x
   seen-unlinked = seen-is (set (set next a b) x x) (set (set previous b a) x x) (set owner x None) items lists (λ j. without x (row_at next items j)) rings-unlinked ∙ ap (λ (m : List (List ℕ)). let l : Lists = record { items = items; members = m } in l) (sym (map-tabulate (without x) lists (row_at next items)))
 
-half-join-set : (l : List ℕ) (x a t : ℕ) → a ≢ x → a < length l → x < length l → IsHalfJoin (λ n. get_or l n 0) (λ n. get_or (set (set l a x) x t) n 0) x a t
-half-join-set l x a t apart in_a in_x = record {
-  before = get_or-set_other (set l a x) x a t 0 apart ∙ get_or-set_same l a x 0 in_a;
-  self = get_or-set_same (set l a x) x t 0 (omega (arith, length-set l a x));
-  rest = λ n na ne. get_or-set_other (set l a x) x n t 0 ne ∙ get_or-set_other l a n x 0 na;
-}
-
 option_cases : (o : Option ℕ) → (o ≡ None) ⊎ ((k : ℕ) × (o ≡ Some k))
 option_cases None = inl refl
 option_cases (Some k) = inr (k, refl)
@@ -113,63 +105,6 @@ pub owner-linked : (next previous : List ℕ) (owner : List (Option ℕ)) (items
 owner-linked next previous owner items lists x k s is =
     let r = seen-in next items lists k x is in
     path-owner (λ n. get_or next n 0) (λ n. get_or owner n None) k (items + k) (row_at next items k) (items + k) x (s.rings.paths k r.0) r.1
-
--- putting an item between the nodes `a` and `t` of a list's ring
-module _ (next previous : List ℕ) (owner : List (Option ℕ)) (items lists x a t k : ℕ) (s : IsSound next previous owner items lists) (small : x < items) (in_k : k < lists) (free : IsUnlinked (seen next items lists) x) where
-  owns_none : get_or owner x None ≡ None
-  owns_none = owner-free next previous owner items lists x s small free
-
-  absent : Has x (row_at next items k) → ⊥
-  absent h = free k (in-seen next items lists k x in_k h)
-
-  join-set : a ≢ x → t ≢ x → a < items + lists → t < items + lists → IsJoin (λ n. get_or next n 0) (λ n. get_or previous n 0) (λ n. get_or owner n None) (λ n. get_or (set (set next a x) x t) n 0) (λ n. get_or (set (set previous t x) x a) n 0) (λ n. get_or (set owner x (Some k)) n None) x a t k
-  join-set apart far in_a in_t = record {
-    forth = half-join-set next x a t apart (omega (arith, s.next_len)) (omega (arith, s.next_len));
-    back = half-join-set previous x t a far (omega (arith, s.previous_len)) (omega (arith, s.previous_len));
-    owner_self = get_or-set_same owner x (Some k) None (omega (arith, s.owner_len));
-    owner_rest = λ n ne. get_or-set_other owner x n (Some k) None ne;
-  }
-
-  abbrev pub AreJoined : List ℕ → Type 0
-  AreJoined now = AreRings (λ n. get_or (set (set next a x) x t) n 0) (λ n. get_or (set (set previous t x) x a) n 0) (λ n. get_or (set owner x (Some k)) n None) items lists (put (row_at next items) k now)
-
-  pub rings-back : t ≡ items + k → a ≡ get_or previous t a → AreJoined (row_at next items k ++ x ∷ [])
-  rings-back is_t read_a =
-      let in_t : t < items + lists = omega arith in
-      let is_a : a ≡ get_or previous t 0 = read-is previous t a (omega (arith, s.previous_len)) read_a in
-      let in_a : a < items + lists = subst (λ m. m < items + lists) (sym is_a) (s.rings.back t in_t).0 in
-      let end : get_or next a 0 ≡ t = ap (λ m. get_or next m 0) is_a ∙ (s.rings.back t in_t).1 in
-      let old = s.rings.paths k in_k in
-      let forth = ring-forth (λ n. get_or next n 0) (λ n. get_or previous n 0) (λ n. get_or owner n None) items lists (row_at next items) s.rings k in_k in
-      let mine : get_or owner a None ≡ Some k = ap (λ m. get_or owner m None) (is_a ∙ ap (λ m. get_or previous m 0) is_t) ∙ path-end (λ n. get_or next n 0) (λ n. get_or previous n 0) (λ n. get_or owner n None) k (items + k) (row_at next items k) (items + k) old forth in
-      let apart : a ≢ x = λ e. (let bad : Some k ≡ None = sym mine ∙ ap (λ m. get_or owner m None) e ∙ owns_none in cc) in
-      let join = join-set apart (λ e. omega arith) in_a in_t in
-      rings-join (λ n. get_or next n 0) (λ n. get_or previous n 0) (λ n. get_or owner n None) (λ n. get_or (set (set next a x) x t) n 0) (λ n. get_or (set (set previous t x) x a) n 0) (λ n. get_or (set owner x (Some k)) n None) items lists x a t k (row_at next items) (row_at next items k ++ x ∷ []) join s.rings small owns_none in_k in_a end mine
-      (joined-back x (row_at next items k) absent (s.rings.apart k in_k))
-      (path-back (λ n. get_or next n 0) (λ n. get_or previous n 0) (λ n. get_or owner n None) (λ n. get_or (set (set next a x) x t) n 0) (λ n. get_or (set (set previous t x) x a) n 0) (λ n. get_or (set owner x (Some k)) n None) items lists x a t k (row_at next items) (items + k) (row_at next items k) (items + k) join (is_a ∙ ap (λ m. get_or previous m 0) is_t) (sym is_t) (end ∙ is_t) owns_none (λ h. let low = s.rings.among k in_k (items + k) h in omega arith) forth old)
-
-  pub rings-front : a ≡ items + k → t ≡ get_or next a t → AreJoined (x ∷ row_at next items k)
-  rings-front is_a read_t =
-      let in_a : a < items + lists = omega arith in
-      let in_x : x < items + lists = omega arith in
-      let is_t : t ≡ get_or next a 0 = read-is next a t (omega (arith, s.next_len)) read_t in
-      let in_t : t < items + lists = subst (λ m. m < items + lists) (sym is_t) (s.rings.forth a in_a).0 in
-      let old = s.rings.paths k in_k in
-      let mine : get_or owner a None ≡ Some k = ap (λ m. get_or owner m None) is_a ∙ path-start (λ n. get_or next n 0) (λ n. get_or owner n None) k (items + k) (row_at next items k) (items + k) old in
-      let apart : a ≢ x = λ e. omega arith in
-      let far : t ≢ x = λ e. apart (sym (s.rings.forth a in_a).1 ∙ ap (λ m. get_or previous m 0) (sym is_t ∙ e ∙ sym (s.rings.alone x small owns_none)) ∙ (s.rings.forth x in_x).1) in
-      let join = join-set apart far in_a in_t in
-      rings-join (λ n. get_or next n 0) (λ n. get_or previous n 0) (λ n. get_or owner n None) (λ n. get_or (set (set next a x) x t) n 0) (λ n. get_or (set (set previous t x) x a) n 0) (λ n. get_or (set owner x (Some k)) n None) items lists x a t k (row_at next items) (x ∷ row_at next items k) join s.rings small owns_none in_k in_a (sym is_t) mine
-      (joined-front x (row_at next items k) absent (s.rings.apart k in_k))
-      (subst (λ m. IsPath (λ n. get_or (set (set next a x) x t) n 0) (λ n. get_or (set owner x (Some k)) n None) k m (x ∷ row_at next items k) (items + k)) is_a
-      (path-front (λ n. get_or next n 0) (λ n. get_or previous n 0) (λ n. get_or owner n None) (λ n. get_or (set (set next a x) x t) n 0) (λ n. get_or (set (set previous t x) x a) n 0) (λ n. get_or (set owner x (Some k)) n None) items lists x a t k (row_at next items) (row_at next items k) (items + k) join (sym is_t) owns_none (λ h. let low = s.rings.among k in_k a h in omega arith) (subst (λ m. IsPath (λ n. get_or next n 0) (λ n. get_or owner n None) k m (row_at next items k) (items + k)) (sym is_a) old)))
-
-  pub sound-joined : (now : List ℕ) → AreJoined now → IsSound (set (set next a x) x t) (set (set previous t x) x a) (set owner x (Some k)) items lists
-  sound-joined now rings = sound (set (set next a x) x t) (set (set previous t x) x a) (set owner x (Some k)) items lists (put (row_at next items) k now)
-      (simp length-set s.next_len) (simp length-set s.previous_len) (simp length-set s.owner_len) s.small rings
-
-  pub seen-joined : (now : List ℕ) → AreJoined now → seen (set (set next a x) x t) items lists ≡ with_members (seen next items lists) k now
-  seen-joined now rings = seen-is (set (set next a x) x t) (set (set previous t x) x a) (set owner x (Some k)) items lists (put (row_at next items) k now) rings ∙ ap (λ (m : List (List ℕ)). let l : Lists = record { items = items; members = m } in l) (sym (set-tabulate lists (row_at next items) k now))
 
 -- the items of a list, as a contract sees them
 pub seen-members : (next : List ℕ) (items lists k : ℕ) → k < lists → get_or (seen next items lists).members k [] ≡ row_at next items k

@@ -1,36 +1,21 @@
-use Rattle.std.proofs.Common.{◌+◌, ◌++◌, ◌∷◌, [], List, ℕ, ◌∙◌, refl, sym, ap, arith}
-use Rattle.slot_links.specs.Lists.{with_members}
-use Rattle.slot_links.proofs.Sound.{seen, seen-count, seen-members, rings-back, sound-joined, seen-joined, prior-within}
+use Rattle.std.proofs.Common.{arith}
+use Rattle.slot_links.proofs.Puts.{in-lists, last-within, put-back}
 use Rattle.slot_links.proofs.links.Links.push_back.Goals as goal
-use Rattle.slot_links.specs.Rings.{row_at}
 
 pub overflow_add-end : goal.overflow_add-end
-overflow_add-end c =
-    let below = (seen-count c.self.inside.next.items c.self.inside.items c.self.inside.lists c.args.list (rw (← c.self.view_is) at c.requires.list)) in
-    omega arith
+overflow_add-end c = omega (arith, in-lists c.self.inside _ c.self.view_is c.self.invariant c.args.list c.args.item c.requires.list c.requires.item c.requires.unlinked)
 
 pub index-before-requires : goal.index-before-requires
-index-before-requires c =
-    let below = (seen-count c.self.inside.next.items c.self.inside.items c.self.inside.lists c.args.list (rw (← c.self.view_is) at c.requires.list)) in
-    omega arith
+index-before-requires c = omega (arith, in-lists c.self.inside _ c.self.view_is c.self.invariant c.args.list c.args.item c.requires.list c.requires.item c.requires.unlinked)
 
 pub index_mut-requires : goal.index_mut-requires
-index_mut-requires c =
-    let below = (seen-count c.self.inside.next.items c.self.inside.items c.self.inside.lists c.args.list (rw (← c.self.view_is) at c.requires.list)) in
-    let within = prior-within c.self.inside.next.items c.self.inside.previous.items c.self.inside.owner.items c.self.inside.items c.self.inside.lists (c.self.inside.items + c.args.list) c.index-before.result.now c.self.invariant (omega arith) c.index-before.ensures in
-    omega arith
+index_mut-requires c = let within = last-within c.self.inside _ c.self.view_is c.self.invariant c.args.list c.args.item c.requires.list c.requires.item c.requires.unlinked c.index-before.result.now c.index-before.ensures in omega arith
 
 pub index_mut-requires-3 : goal.index_mut-requires-3
-index_mut-requires-3 c =
-    let below = (seen-count c.self.inside.next.items c.self.inside.items c.self.inside.lists c.args.list (rw (← c.self.view_is) at c.requires.list)) in
-    omega arith
+index_mut-requires-3 c = omega (arith, in-lists c.self.inside _ c.self.view_is c.self.invariant c.args.list c.args.item c.requires.list c.requires.item c.requires.unlinked)
 
 pub invariant_of-self : goal.invariant_of-self
-invariant_of-self c =
-    sound-joined c.self.inside.next.items c.self.inside.previous.items c.self.inside.owner.items c.self.inside.items c.self.inside.lists c.args.item c.index-before.result.now (c.self.inside.items + c.args.list) c.args.list c.self.invariant (rw (← c.self.view_is) at c.requires.item) (seen-count c.self.inside.next.items c.self.inside.items c.self.inside.lists c.args.list (rw (← c.self.view_is) at c.requires.list)) (rw (← c.self.view_is) at c.requires.unlinked) ((row_at c.self.inside.next.items c.self.inside.items c.args.list) ++ c.args.item ∷ []) (rings-back c.self.inside.next.items c.self.inside.previous.items c.self.inside.owner.items c.self.inside.items c.self.inside.lists c.args.item c.index-before.result.now (c.self.inside.items + c.args.list) c.args.list c.self.invariant (rw (← c.self.view_is) at c.requires.item) (seen-count c.self.inside.next.items c.self.inside.items c.self.inside.lists c.args.list (rw (← c.self.view_is) at c.requires.list)) (rw (← c.self.view_is) at c.requires.unlinked) refl c.index-before.ensures)
+invariant_of-self c = (put-back c.self.inside _ c.self.view_is c.self.invariant c.args.list c.args.item c.requires.list c.requires.item c.requires.unlinked c.index-before.result.now c.index-before.ensures).0
 
 pub returns : goal.returns
-returns c =
-    rw (← c.self.view_is)
-    (seen-joined c.self.inside.next.items c.self.inside.previous.items c.self.inside.owner.items c.self.inside.items c.self.inside.lists c.args.item c.index-before.result.now (c.self.inside.items + c.args.list) c.args.list c.self.invariant (rw (← c.self.view_is) at c.requires.item) (seen-count c.self.inside.next.items c.self.inside.items c.self.inside.lists c.args.list (rw (← c.self.view_is) at c.requires.list)) (rw (← c.self.view_is) at c.requires.unlinked) ((row_at c.self.inside.next.items c.self.inside.items c.args.list) ++ c.args.item ∷ []) (rings-back c.self.inside.next.items c.self.inside.previous.items c.self.inside.owner.items c.self.inside.items c.self.inside.lists c.args.item c.index-before.result.now (c.self.inside.items + c.args.list) c.args.list c.self.invariant (rw (← c.self.view_is) at c.requires.item) (seen-count c.self.inside.next.items c.self.inside.items c.self.inside.lists c.args.list (rw (← c.self.view_is) at c.requires.list)) (rw (← c.self.view_is) at c.requires.unlinked) refl c.index-before.ensures)
-    ∙ ap (λ (row : List ℕ). with_members (seen c.self.inside.next.items c.self.inside.items c.self.inside.lists) c.args.list (row ++ c.args.item ∷ [])) (sym (seen-members c.self.inside.next.items c.self.inside.items c.self.inside.lists c.args.list (seen-count c.self.inside.next.items c.self.inside.items c.self.inside.lists c.args.list (rw (← c.self.view_is) at c.requires.list)))))
+returns c = (put-back c.self.inside _ c.self.view_is c.self.invariant c.args.list c.args.item c.requires.list c.requires.item c.requires.unlinked c.index-before.result.now c.index-before.ensures).1
