@@ -31,6 +31,9 @@ module _ (pool mid now : Pool) (slot n : ℕ) (bytes : List ℕ) (room : mid ≡
   now_there : (k : ℕ) → k ≢ slot → page_at now k ≡ page_at pool k
   now_there k ne = ap (λ (p : Pool). page_at p k) put ∙ get_or-set_other mid.slots slot k (Some (record { count = 1; bytes = bytes })) None ne ∙ mid_at k
 
+  pub slot-free : count_at pool slot ≡ 0
+  slot-free = ap count_of (sym (mid_at slot) ∙ free)
+
   pub new-bytes : bytes_at now slot ≡ bytes
   new-bytes = ap bytes_in now_here
 

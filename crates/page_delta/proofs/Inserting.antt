@@ -6,11 +6,12 @@ use Rattle.page_pool.specs.Pool.{Pool, count_at}
 use Rattle.page_delta.specs.Totals.{total}
 use Rattle.page_delta.specs.Delta.{uses}
 use Rattle.page_delta.specs.Nodes.{node_at, child_in, entry_in, count_in, level_in, names, look, with_entry}
-use Rattle.page_delta.specs.Shared.{IsShared, IsCounted, Stands, KeepsLevels, Owned, Differs}
+use Rattle.page_delta.specs.Shared.{IsShared, IsPlaced, StandsAt, KeepsPlaces, IsCounted, Stands, KeepsLevels, Owned, Differs}
 use Rattle.page_delta.specs.declared.entry.Entry.{Entry}
 use Rattle.page_delta.specs.declared.node.Node.{Node}
 use Rattle.page_delta.specs.declared.node.Node.TheVariants.{Branch, Leaf}
 use Rattle.page_delta.proofs.Sharing.{some-live, shared-entry, not-some, named}
+use Rattle.page_delta.proofs.Places.{places-trans, placed-next, placed-entry}
 use Rattle.page_delta.proofs.Looks.{differs-leaf, differs-above}
 
 -- a node on a level above the leaves is there
@@ -157,6 +158,13 @@ module _ (x0 x1 x2 x3 x4 : List (Option Node)) (root upper lower leaf page : ℕ
 
   pub inserted-levels : KeepsLevels x0 x4
   inserted-levels m live = let third = live3 m live in (live4 m third.0, level_same4 m ∙ third.1)
+
+  places3 : KeepsPlaces x0 x3
+  places3 = places-trans x0 x1 x3 a.places (places-trans x1 x2 x3 b.places c.places)
+
+  pub inserted-placed : IsPlaced x0 → StandsAt x0 entry.slot (page % 32) → IsPlaced x4
+  inserted-placed placed at =
+      placed-entry x3 x4 leaf is_leaf.0 (page % 32) entry is_leaf.1 is_leaf.2 leaf_now rest in_places (placed-next x0 x3 placed places3) (places3 entry.slot (page % 32) at)
 
   place_before : get_or is_leaf.1 (page % 32) None ≡ look 3 x0 (Some root) page
   place_before =

@@ -4,6 +4,7 @@ pub mod Looks
 pub mod Counting
 pub mod Pools
 pub mod Copies
+pub mod Places
 pub mod Owning
 pub mod Inserting
 pub mod Releasing

@@ -9,6 +9,7 @@ use Rattle.page_delta.specs.declared.node.Node.{Node}
 use Rattle.page_delta.specs.declared.node.Node.TheVariants.{Branch, Leaf}
 use Rattle.page_delta.proofs.Sharing.{some-none, some-live, not-some, one, one-same, one-other, shared-recounted, shared-as, shared-insert, shared-link, level-recounted}
 use Rattle.page_delta.proofs.Looks.{child-live, looks-recounted, looks-insert, looks-link}
+use Rattle.page_delta.proofs.Places.{places-trans, places-put, places-copied, places-recounted}
 use Rattle.page_delta.proofs.Counting.{recounted-at, recounted-same, count-recounted, recounted-live}
 
 empty-place : {X : Type 0} (n d : ℕ) → get_or (replicate {A = Option X} n None) d None ≡ None
@@ -111,6 +112,7 @@ module _ (xs mid ys : List (Option Node)) (parent d fresh level : ℕ) (node : N
         looks = λ l m q live.
             looks-link mid ys parent branch.0 branch.1 d fresh branch.2 mid_parent now_parent rest_link (omega arith) (λ k p. look-empty k p ∙ sym (ap (λ (o : Option ℕ). look k mid o p) none_here)) l m q
             ∙ looks-insert xs mid counts hands loose fresh s gone rest l m q live;
+        places = places-trans xs mid ys (places-put xs mid fresh node empty.entry here rest) (places-put mid ys parent (Branch branch.0 branch.1 (set branch.2 d (Some fresh))) (λ e. refl) now_parent rest_link);
       }
 
 names-place : (m : ℕ) (os : List (Option ℕ)) → 0 < total (once m) os → (d : ℕ) × (get_or os d None ≡ Some m)
@@ -253,4 +255,10 @@ module _ (xs mid ys zs : List (Option Node)) (parent d child fresh : ℕ) (count
         looks-recounted ys zs (λ i. cond (eqb i child) (count_in (node_at ys child) - 1) (count_in (node_at ys i))) zs_at l m q (level_ys m (level_mid m live).0).0
         ∙ looks-link mid ys parent branch_s.0 branch_s.1 d fresh branch_s.2 mid_branch ys_branch rest_link in_kids (λ k p. alike k p ∙ sym (looks_mid k child p live_child) ∙ sym (ap (λ (o : Option ℕ). look k mid o p) child_here)) l m q
         ∙ looks_mid l m q live;
+    places =
+        places-trans xs mid zs
+        (places-copied xs mid (λ m. count_in (node_at xs m) + names m (node_at xs child)) fresh child copied rest)
+        (places-trans mid ys zs
+        (places-put mid ys parent (Branch branch_s.0 branch_s.1 (set branch_s.2 d (Some fresh))) (λ e. refl) ys_branch rest_link)
+        (places-recounted ys zs (λ m. cond (eqb m child) (count_in (node_at ys child) - 1) (count_in (node_at ys m))) zs_at));
   }

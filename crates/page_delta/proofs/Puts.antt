@@ -4,7 +4,7 @@ use Rattle.std.proofs.lemmas.Bool.{cases_eq, cases_lt}
 use Rattle.page_delta.specs.Totals.{total}
 use Rattle.page_delta.specs.Delta.{Pages, find}
 use Rattle.page_delta.specs.Nodes.{node_at, count_in, level_in, look, pages_below}
-use Rattle.page_delta.specs.Shared.{IsShared, KeepsLevels, Differs}
+use Rattle.page_delta.specs.Shared.{IsShared, IsPlaced, KeepsLevels, Differs}
 use Rattle.page_delta.specs.Roots.{root_at, map_below, roots, IsKept}
 use Rattle.page_delta.specs.declared.entry.Entry.{Entry}
 use Rattle.page_delta.specs.declared.node.Node.{Node}
@@ -71,8 +71,8 @@ module _ (xs ys : List (Option Node)) (ids : List (Option Root)) (id page : ℕ)
           (level_of other root' old, k.sizes other root' old ∙ ap (λ (p : Pages). length p) (sym (put-other other root' ne old)))
     ]
 
-    pub kept-placed : (counts loose : ℕ → ℕ) → IsShared ys counts (λ key. total (roots key) ids) loose → count_by is_some ys ≤ 2 ^ 26 → IsKept ys (set ids id (Some (record { node = root.node; pages = pages })))
-    kept-placed counts loose s few = record {
+    pub kept-placed : (counts loose : ℕ → ℕ) → IsShared ys counts (λ key. total (roots key) ids) loose → IsPlaced ys → count_by is_some ys ≤ 2 ^ 26 → IsKept ys (set ids id (Some (record { node = root.node; pages = pages })))
+    kept-placed counts loose s one_place few = record {
       shared = (
           let self = shared-self ys counts (λ key. total (roots key) ids) loose s in
           record {
@@ -84,6 +84,7 @@ module _ (xs ys : List (Option Node)) (ids : List (Option Root)) (id page : ℕ)
             counted = λ m. let t = replaced-total ids id root (record { node = root.node; pages = pages }) is m in let c = self.counted m in omega arith;
             held = self.held;
           });
+      placed = one_place;
       tops = λ other root' e. (fields other root' e).0;
       sizes = λ other root' e. (fields other root' e).1;
       few_nodes = few;

@@ -4,7 +4,7 @@ use Rattle.std.proofs.lemmas.Bool.{cases_eq, eq-eqb}
 use Rattle.page_delta.specs.Totals.{total}
 use Rattle.page_delta.specs.Delta.{Pages}
 use Rattle.page_delta.specs.Nodes.{node_at, child_in, count_in, level_in, names, recounted, look, pairs_from, consed, pages_below}
-use Rattle.page_delta.specs.Shared.{slots_in, IsShared, SameLooks, Shrinks}
+use Rattle.page_delta.specs.Shared.{slots_in, IsShared, KeepsPlaces, SameLooks, Shrinks}
 use Rattle.page_delta.specs.Roots.{root_at, map_below, roots, IsKept, AddsRoot}
 use Rattle.page_delta.specs.declared.entry.Entry.{Entry}
 use Rattle.page_delta.specs.declared.node.Node.{Node}
@@ -13,6 +13,7 @@ use Rattle.page_delta.proofs.Sums.{total-has, total-moved, total-same, total-non
 use Rattle.page_delta.proofs.Sharing.{some-none, not-some, cases-option, some-live, one, one-same, one-other, shared-as, shared-insert, shared-recounted, slots-recounted, level-recounted}
 use Rattle.page_delta.proofs.Looks.{looks-recounted}
 use Rattle.page_delta.proofs.Counting.{recounted-at, recounted-same, len-recounted, other-test}
+use Rattle.page_delta.proofs.Places.{placed-next, places-put, places-recounted, places-shrink}
 use Rattle.page_delta.proofs.Owning.{IsEmpty, names-child}
 use Rattle.page_delta.proofs.Inserting.{high-live, counted-live}
 use Rattle.page_delta.proofs.Releasing.{looks-shrink}
@@ -58,9 +59,10 @@ module _ (ids ids' : List (Option Root)) (id : ℕ) (root : Root) (gone : root_a
           (levels other r old ∙ k.tops other r old, k.sizes other r old ∙ ap (λ (p : Pages). length p) (sym (map_same other r old)))
     ]
 
-    pub kept-added : (counts loose : ℕ → ℕ) → IsShared ys counts (λ key. total (roots key) ids + one root.node key) loose → count_by is_some ys ≤ 2 ^ 26 → count_by is_some ids + 1 ≤ 2 ^ 31 → IsKept ys ids'
-    kept-added counts loose s few few_ids = record {
+    pub kept-added : (counts loose : ℕ → ℕ) → IsShared ys counts (λ key. total (roots key) ids + one root.node key) loose → KeepsPlaces xs ys → count_by is_some ys ≤ 2 ^ 26 → count_by is_some ids + 1 ≤ 2 ^ 31 → IsKept ys ids'
+    kept-added counts loose s places few few_ids = record {
       shared = shared-self ys counts (λ key. total (roots key) ids') loose (shared-as ys counts (λ key. total (roots key) ids + one root.node key) (λ key. total (roots key) ids') loose loose s (λ m. sym (added-total m)) (λ slot. refl));
+      placed = placed-next xs ys k.placed places;
       tops = λ other r e. (fields other r e).0;
       sizes = λ other r e. (fields other r e).1;
       few_nodes = few;
@@ -98,6 +100,9 @@ module _ (xs ys : List (Option Node)) (key : ℕ) (node : Node) (empty : IsEmpty
       let a : slots_in slot (node_at xs key) ≡ 0 = ap (slots_in slot) gone in
       let b : slots_in slot (node_at ys key) ≡ 0 = ap (slots_in slot) here ∙ empty.slots_none slot in
       omega arith
+
+  pub places-empty : KeepsPlaces xs ys
+  places-empty = places-put xs ys key node empty.entry here rest
 
   pub level-rest : (m : ℕ) → IsSome (node_at xs m) → level_in (node_at ys m) ≡ level_in (node_at xs m)
   level-rest m live = ap level_in (rest m (λ e. not-some (node_at xs m) (ap (λ i. node_at xs i) e ∙ gone) live))
@@ -139,6 +144,9 @@ module _ (xs : List (Option Node)) (key : ℕ) (live : IsSome (node_at xs key)) 
 
   pub looks-raise : SameLooks xs raised
   looks-raise = looks-recounted xs raised raised_now raised_at
+
+  pub places-raise : KeepsPlaces xs raised
+  places-raise = places-recounted xs raised raised_now raised_at
 
   pub len-raise : count_by is_some raised ≡ count_by is_some xs
   len-raise = len-recounted xs raised raised_now raised_at
@@ -189,7 +197,7 @@ module _ (ids ids' : List (Option Root)) (id : ℕ) (root : Root) (was : root_at
         )
 
     pub kept-dropped : count_by is_some ys ≤ 2 ^ 26 → IsKept ys ids'
-    kept-dropped few = kept-next xs ys ids ids' counts loose k s follows few (let len = dropped-len in omega (arith, k.few_ids))
+    kept-dropped few = kept-next xs ys ids ids' counts loose k s follows (placed-next xs ys k.placed (places-shrink xs ys shrinks)) few (let len = dropped-len in omega (arith, k.few_ids))
 
     pub maps-dropped : (other : ℕ) → other ≢ id → map_below ys (root_at ids' other) ≡ map_below xs (root_at ids other)
     maps-dropped other ne = elim (cases-option (root_at ids' other)) [

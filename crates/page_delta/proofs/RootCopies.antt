@@ -3,7 +3,7 @@ use Rattle.std.proofs.Common.{◌≡◌, ◌≢◌, inl, inr, ℕ, ◌+◌, ◌^
 use Rattle.page_pool.specs.Pool.{Pool}
 use Rattle.page_delta.specs.Totals.{total}
 use Rattle.page_delta.specs.Nodes.{node_at, count_in, level_in, names, recounted, look}
-use Rattle.page_delta.specs.Shared.{IsShared, SameLooks, Stands}
+use Rattle.page_delta.specs.Shared.{IsShared, KeepsPlaces, SameLooks, Stands}
 use Rattle.page_delta.specs.Roots.{root_at, map_below, roots, IsKept, IsHeld}
 use Rattle.page_delta.specs.declared.node.Node.{Node}
 use Rattle.page_delta.specs.declared.roots.Root.{Root}
@@ -12,6 +12,7 @@ use Rattle.page_delta.proofs.Sharing.{not-some, one, one-same, one-other, shared
 use Rattle.page_delta.proofs.Looks.{looks-recounted}
 use Rattle.page_delta.proofs.Counting.{count-recounted, recounted-live}
 use Rattle.page_delta.proofs.Copies.{names-width}
+use Rattle.page_delta.proofs.Places.{places-trans, placed-next, places-copied, places-recounted}
 use Rattle.page_delta.proofs.Releasing.{lowered, lowered_now, lowered_at, shared-lower, len-lower}
 use Rattle.page_delta.proofs.Rooted.{Follows, kept-live, kept-next, shared-with, follows-replaced, maps-replaced, replaced-total, replaced-len}
 use Rattle.std.proofs.lemmas.Bool.{cases_eq}
@@ -113,9 +114,15 @@ module _ (xs mid : List (Option Node)) (ids : List (Option Root)) (id own : ℕ)
         looks = λ q. looks_zs 3 root.node q (live_mid root.node here) ∙ looks 3 root.node q here;
       }
 
+  pub places-own : KeepsPlaces xs (lowered mid before.node (live_mid before.node live))
+  places-own =
+      places-trans xs mid zs
+      (places-copied xs mid (λ m. count_in (node_at xs m) + names m (node_at xs before.node)) own before.node copied rest)
+      (places-recounted mid zs (lowered_now mid before.node (live_mid before.node live)) zs_at)
+
   pub kept-own : (counts loose : ℕ → ℕ) → IsShared mid counts (λ m. total (roots m) ids + one own m) loose → count_by is_some mid ≤ 2 ^ 26 → IsKept zs (set ids id (Some (record { node = own; pages = again.pages })))
   kept-own counts loose t few =
-      kept-next xs zs ids (set ids id (Some now)) counts loose k (shared-own counts loose t) (follows-replaced xs zs ids id before now is k mine same_rest) (let len = len-lower mid before.node (live_mid before.node live) in omega arith) (let len = replaced-len ids id before now is in omega (arith, k.few_ids))
+      kept-next xs zs ids (set ids id (Some now)) counts loose k (shared-own counts loose t) (follows-replaced xs zs ids id before now is k mine same_rest) (placed-next xs zs k.placed places-own) (let len = len-lower mid before.node (live_mid before.node live) in omega arith) (let len = replaced-len ids id before now is in omega (arith, k.few_ids))
 
   pub maps-own : (other : ℕ) → map_below zs (root_at (set ids id (Some (record { node = own; pages = again.pages }))) other) ≡ map_below xs (root_at ids other)
   maps-own = maps-replaced xs zs ids id before now is k mine same_rest

@@ -5,7 +5,7 @@ use Rattle.page_pool.specs.Pool.{Pool, count_at, IsLive}
 use Rattle.page_delta.specs.Totals.{total}
 use Rattle.page_delta.specs.Delta.{Pages, find, pages_in, uses}
 use Rattle.page_delta.specs.Nodes.{node_at, count_in, look, pages_below}
-use Rattle.page_delta.specs.Shared.{IsShared, IsCounted, KeepsLevels, Differs}
+use Rattle.page_delta.specs.Shared.{IsShared, IsPlaced, IsCounted, KeepsLevels, Differs}
 use Rattle.page_delta.specs.Roots.{root_at, map_below, roots, IsKept, IsHeld, PutsAt}
 use Rattle.page_delta.specs.declared.entry.Entry.{Entry}
 use Rattle.page_delta.specs.declared.node.Node.{Node}
@@ -40,8 +40,8 @@ module _ (n0 n1 n2 : List (Option Node)) (ids0 ids1 : List (Option Root)) (id pa
       ∙ ap (λ (m : Option Pages). cond (eqb q page) (Some entry) (find q (pages_in m))) (sym (ap (map_below n1) is) ∙ maps id)
 
   module _ (pages : ℕ) (size : pages ≡ length (pages_below n2 r.node)) where
-    pub kept-put : IsKept n2 (set ids1 id (Some (record { node = r.node; pages = pages })))
-    kept-put = kept-placed n1 n2 ids1 id page r entry k is own_r d_r levels low pages size counts loose s few
+    pub kept-put : IsPlaced n2 → IsKept n2 (set ids1 id (Some (record { node = r.node; pages = pages })))
+    kept-put placed = kept-placed n1 n2 ids1 id page r entry k is own_r d_r levels low pages size counts loose s placed few
 
     pub puts-at : PutsAt n0 n2 ids0 (set ids1 id (Some (record { node = r.node; pages = pages }))) id page entry
     puts-at =
@@ -59,8 +59,8 @@ module _ (n0 n1 n2 : List (Option Node)) (ids0 ids1 : List (Option Root)) (id pa
     same_size : r.pages ≡ length (pages_below n2 r.node)
     same_size = let len = length_r in let one_is : one_of (look 3 n1 (Some root) page) ≡ 1 = ap one_of was in omega arith
 
-    pub kept-same : IsKept n2 ids1
-    kept-same = subst (λ (i : List (Option Root)). IsKept n2 i) set_back (kept-put r.pages same_size)
+    pub kept-same : IsPlaced n2 → IsKept n2 ids1
+    kept-same placed = subst (λ (i : List (Option Root)). IsKept n2 i) set_back (kept-put r.pages same_size placed)
 
     pub puts-same : PutsAt n0 n2 ids0 ids1 id page entry
     puts-same = subst (λ (i : List (Option Root)). PutsAt n0 n2 ids0 i id page entry) set_back (puts-at r.pages same_size)

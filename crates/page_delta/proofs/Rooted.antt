@@ -6,7 +6,7 @@ use Rattle.page_pool.specs.Pool.{Pool, count_at}
 use Rattle.page_delta.specs.Totals.{total}
 use Rattle.page_delta.specs.Delta.{Pages}
 use Rattle.page_delta.specs.Nodes.{node_at, level_in, look, consed, pairs_from, pages_below}
-use Rattle.page_delta.specs.Shared.{slots_in, IsShared, IsClosed, IsCounted}
+use Rattle.page_delta.specs.Shared.{slots_in, IsShared, IsPlaced, IsClosed, IsCounted}
 use Rattle.page_delta.specs.Roots.{root_at, map_below, roots, IsKept, IsHeld}
 use Rattle.page_delta.specs.declared.entry.Entry.{Entry}
 use Rattle.page_delta.specs.declared.node.Node.{Node}
@@ -56,9 +56,10 @@ pub record Follows (xs ys : List (Option Node)) (before now : Root) : Type 0 whe
   pub top : level_in (node_at ys now.node) ≡ 3
   pub looks : (q : ℕ) → look 3 ys (Some now.node) q ≡ look 3 xs (Some before.node) q
 
-pub kept-next : (xs ys : List (Option Node)) (ids ids' : List (Option Root)) (counts loose : ℕ → ℕ) → IsKept xs ids → IsShared ys counts (λ key. total (roots key) ids') loose → ((id : ℕ) (now : Root) → root_at ids' id ≡ Some now → (before : Root) × (root_at ids id ≡ Some before) × Follows xs ys before now) → count_by is_some ys ≤ 2 ^ 26 → count_by is_some ids' ≤ 2 ^ 31 → IsKept ys ids'
-kept-next xs ys ids ids' counts loose k s follows few few_ids = record {
+pub kept-next : (xs ys : List (Option Node)) (ids ids' : List (Option Root)) (counts loose : ℕ → ℕ) → IsKept xs ids → IsShared ys counts (λ key. total (roots key) ids') loose → ((id : ℕ) (now : Root) → root_at ids' id ≡ Some now → (before : Root) × (root_at ids id ≡ Some before) × Follows xs ys before now) → IsPlaced ys → count_by is_some ys ≤ 2 ^ 26 → count_by is_some ids' ≤ 2 ^ 31 → IsKept ys ids'
+kept-next xs ys ids ids' counts loose k s follows placed few few_ids = record {
   shared = shared-self ys counts (λ key. total (roots key) ids') loose s;
+  placed = placed;
   tops = λ id root e. (follows id root e).2.top;
   sizes = λ id root e.
       let f = follows id root e in

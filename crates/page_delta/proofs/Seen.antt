@@ -13,6 +13,7 @@ use Rattle.page_delta.specs.declared.roots.Root.{Root}
 use Rattle.page_delta.proofs.Sums.{total-has}
 use Rattle.page_delta.proofs.Sharing.{some-none, cases-option, some-live}
 use Rattle.page_delta.proofs.Copies.{entry-used}
+use Rattle.page_delta.proofs.Places.{once-placed, places-nodes}
 use Rattle.page_delta.proofs.Lookups.{find-below, find-past, below-rises}
 use Rattle.page_delta.proofs.Pools.{live-of-count}
 use Rattle.page_delta.proofs.Reached.{reached}
@@ -49,7 +50,7 @@ live-seen nodes ids id live = subst (λ (o : Option Pages). IsSome o) (sym (map-
 
 pub held-seen : (nodes : List (Option Node)) (ids : List (Option Root)) (pool : Pool) → Holds pool (seen nodes ids) → IsHeld nodes pool (λ slot. 0)
 held-seen nodes ids pool h = record {
-  counts = λ slot. let a = h.counts slot in let b = total-leaves slot nodes in omega arith;
+  counts = λ slot. let a = h.counts slot in let b = total-leaves slot nodes in let same = places-nodes slot (map leaf_of nodes) (h.once slot) in omega arith;
   counted = h.live;
 }
 
@@ -62,7 +63,7 @@ seen-adds n n' ids ids' id pages a = record {
 }
 
 -- what a tree has at a page stands in a node
-at-leaf : (nodes : List (Option Node)) (level : ℕ) (o : Option ℕ) (q : ℕ) (e : Entry) → look level nodes o q ≡ Some e → (k : ℕ) × (entry_in (node_at nodes k) (q % 32) ≡ Some e)
+pub at-leaf : (nodes : List (Option Node)) (level : ℕ) (o : Option ℕ) (q : ℕ) (e : Entry) → look level nodes o q ≡ Some e → (k : ℕ) × (entry_in (node_at nodes k) (q % 32) ≡ Some e)
 at-leaf nodes level None q e is = absurd (some-none e (sym is))
 at-leaf nodes zero (Some k) q e is = (k, is)
 at-leaf nodes (suc level) (Some k) q e is = at-leaf nodes level (child_in (node_at nodes k) ((q / 32 ^ suc level) % 32)) q e is
@@ -80,9 +81,13 @@ find-held nodes ids pool loose (Some r) q e h is = elim (cases_lt q (2 ^ 20)) [
   | inr high ↦ absurd (some-none e (sym is ∙ find-past nodes r.node q (omega arith)))
 ]
 
+seen-once : (nodes : List (Option Node)) (ids : List (Option Root)) → IsKept nodes ids → (slot node : ℕ) → uses_in slot (get_or (map leaf_of nodes) node None) ≤ 1
+seen-once nodes ids k slot node = let once = once-placed nodes k.placed slot node in let same = ap (uses_in slot) (get-map leaf_of refl nodes node) in omega arith
+
 pub seen-held : (nodes : List (Option Node)) (ids : List (Option Root)) (pool : Pool) → IsKept nodes ids → IsHeld nodes pool (λ slot. 0) → Holds pool (seen nodes ids)
 seen-held nodes ids pool k h = record {
-  counts = λ slot. let a = h.counts slot in let b = total-leaves slot nodes in omega arith;
+  counts = λ slot. let a = h.counts slot in let b = total-leaves slot nodes in let same = places-nodes slot (map leaf_of nodes) (seen-once nodes ids k slot) in omega arith;
+  once = seen-once nodes ids k;
   live = h.counted;
   found = λ id page entry is.
       live-of-count pool entry.slot (find-held nodes ids pool (λ slot. 0) (root_at ids id) page entry h (ap (λ (m : Option Pages). find page (pages_in m)) (sym (map-seen nodes ids id)) ∙ is));

@@ -1,5 +1,6 @@
 -- What a contract sees of `Deltas`.
-use Rattle.std.specs.Prelude.{⊤, ◌≡◌, ◌≢◌, ℕ, ◌+◌, ◌<◌, ◌≤◌, ◌==◌, nat_lt, List, [], ◌∷◌, Option, Some, None, IsSome, slice_index_or, if◌then◌else◌}
+use Rattle.std.specs.Prelude.{⊤, ◌≡◌, ◌≢◌, ℕ, ◌+◌, ◌<◌, ◌≤◌, ◌==◌, nat_lt, List, [], ◌∷◌, Bool, false, Option, Some, None, IsSome, slice_index_or, count_by, if◌then◌else◌}
+use Rattle.std.specs.List.{list_any}
 use Rattle.page_pool.specs.Pool.{Pool, count_at, bytes_at, IsLive as IsLiveSlot}
 use Rattle.page_delta.specs.declared.entry.Entry.{Entry}
 use Rattle.page_delta.specs.Totals.{total}
@@ -57,6 +58,19 @@ abbrev pub uses_in : ℕ → Option (List (Option Entry)) → ℕ
 uses_in slot None = 0
 uses_in slot (Some places) = total (uses slot) places
 
+abbrev pub has_slot : ℕ → Option Entry → Bool
+has_slot slot None = false
+has_slot slot (Some entry) = entry.slot == slot
+
+-- a node holds a slot: one of its places has it
+abbrev pub is_holder : ℕ → Option (List (Option Entry)) → Bool
+is_holder slot None = false
+is_holder slot (Some places) = list_any (has_slot slot) places
+
+-- the number of nodes that hold a slot
+abbrev pub holders : ℕ → Deltas → ℕ
+holders slot deltas = count_by (is_holder slot) deltas.leaves
+
 -- the pages rise, from this one on
 abbrev pub RiseFrom : ℕ → Pages → Type 0
 RiseFrom least [] = ⊤
@@ -70,9 +84,11 @@ pub record Has (deltas : Deltas) (slot : ℕ) : Type 0 where
   pub found : find page (pages_of deltas id) ≡ Some entry
   pub is : entry.slot ≡ slot
 
--- the live slots are those that the maps have, each with as many counts as the nodes hold it
+-- The live slots are those that the maps have. A slot's count is the number of nodes that hold it, and a node holds it at
+-- one place.
 pub record Holds (pool : Pool) (deltas : Deltas) : Type 0 where
-  pub counts : (slot : ℕ) → count_at pool slot ≡ total (uses_in slot) deltas.leaves
+  pub counts : (slot : ℕ) → count_at pool slot ≡ holders slot deltas
+  pub once : (slot node : ℕ) → uses_in slot (slice_index_or deltas.leaves node None) ≤ 1
   pub live : (slot : ℕ) → IsLiveSlot pool slot → 0 < count_at pool slot
   pub found : (id page : ℕ) (entry : Entry) → find page (pages_of deltas id) ≡ Some entry → IsLiveSlot pool entry.slot
   pub used : (slot : ℕ) → IsLiveSlot pool slot → Has deltas slot

@@ -7,7 +7,7 @@ use Rattle.page_delta.specs.declared.node.Node.{Node}
 use Rattle.page_delta.specs.Totals.{total}
 use Rattle.page_delta.specs.Delta.{Pages, find, pages_in}
 use Rattle.page_delta.specs.Nodes.{node_at, level_in, pages_below}
-use Rattle.page_delta.specs.Shared.{slots_in, IsShared, IsCounted, KeepsBytes}
+use Rattle.page_delta.specs.Shared.{slots_in, IsShared, IsPlaced, IsCounted, KeepsBytes}
 
 -- the root at an id
 abbrev pub root_at : List (Option Root) → ℕ → Option Root
@@ -23,10 +23,11 @@ abbrev pub roots : ℕ → Option Root → ℕ
 roots key None = 0
 roots key (Some root) = if root.node == key then 1 else 0
 
--- Each node is counted as often as nodes and ids name it. A root is three levels above the leaves, and its pages are
--- counted. Nodes and ids are few enough that no count reaches 2^32.
+-- Each node is counted as often as nodes and ids name it, and each slot has one place. A root is three levels above the
+-- leaves, and its pages are counted. Nodes and ids are few enough that no count reaches 2^32.
 pub record IsKept (nodes : List (Option Node)) (ids : List (Option Root)) : Type 0 where
   pub shared : IsShared nodes (λ slot. total (slots_in slot) nodes) (λ key. total (roots key) ids) (λ slot. 0)
+  pub placed : IsPlaced nodes
   pub tops : (id : ℕ) (root : Root) → root_at ids id ≡ Some root → level_in (node_at nodes root.node) ≡ 3
   pub sizes : (id : ℕ) (root : Root) → root_at ids id ≡ Some root → root.pages ≡ length (pages_below nodes root.node)
   pub few_nodes : count_by is_some nodes ≤ 2 ^ 26

@@ -23,6 +23,19 @@ pub record IsShared (nodes : List (Option Node)) (counts hands loose : ℕ → �
   pub counted : (key : ℕ) → count_in (node_at nodes key) ≡ hands key + total (names key) nodes
   pub held : (slot : ℕ) → counts slot ≡ loose slot + total (slots_in slot) nodes
 
+-- no leaf has the slot at another place
+abbrev pub StandsAt : List (Option Node) → ℕ → ℕ → Type 0
+StandsAt nodes slot place =
+    (key digit : ℕ) (entry : Entry) → entry_in (node_at nodes key) digit ≡ Some entry → entry.slot ≡ slot → digit ≡ place
+
+-- each slot has a place, the same in all leaves that have the slot
+abbrev pub IsPlaced : List (Option Node) → Type 0
+IsPlaced nodes = (slot : ℕ) → (place : ℕ) × StandsAt nodes slot place
+
+-- no slot comes to another place
+abbrev pub KeepsPlaces : List (Option Node) → List (Option Node) → Type 0
+KeepsPlaces old new = (slot place : ℕ) → StandsAt old slot place → StandsAt new slot place
+
 -- each live slot is counted
 abbrev pub IsCounted : Pool → Type 0
 IsCounted pool = (slot : ℕ) → IsLiveSlot pool slot → 0 < count_at pool slot
@@ -84,3 +97,4 @@ pub record Owned (xs ys : List (Option Node)) (parent d child : ℕ) : Type 0 wh
   pub levels : KeepsLevels xs ys
   pub above : (m : ℕ) → level_in (node_at xs parent) ≤ level_in (node_at xs m) → m ≢ parent → node_at ys m ≡ node_at xs m
   pub looks : SameLooks xs ys
+  pub places : KeepsPlaces xs ys

@@ -1,12 +1,12 @@
 //! Roots of trees, each under an id.
 
-ghost use Rattle.std.specs.Prelude.{length, slice_index, ◌≡◌, ◌≢◌, ℕ, ◌+◌, ◌^◌, ◌<◌, ◌≤◌, [], Some, None, IsSome, OnOk, OnErr, IfOk, ◌==◌, if◌then◌else◌};
+ghost use Rattle.std.specs.Prelude.{length, slice_index, ◌≡◌, ◌≢◌, ℕ, ◌+◌, ◌%◌, ◌^◌, ◌<◌, ◌≤◌, [], Some, None, IsSome, OnOk, OnErr, IfOk, ◌==◌, if◌then◌else◌};
 ghost use Rattle.slab.specs.Slab.{HasRoomFor, slab_len};
 ghost use Rattle.page_pool.specs.Pool.{count_at};
 ghost use Rattle.page_delta.specs.Delta.{uses, find, pages_in, pages_after};
 ghost use Rattle.page_delta.specs.Nodes.{node_at, count_in, look, pages_below};
 ghost use Rattle.page_delta.specs.Roots.{root_at, map_below, IsKept, IsHeld, AddsRoot, PutsAt, IsKeeping, HasPages, or_else};
-ghost use Rattle.page_delta.specs.Shared.{Grows, KeepsBytes, IsClosed};
+ghost use Rattle.page_delta.specs.Shared.{Grows, KeepsBytes, KeepsPlaces, StandsAt, IsClosed};
 ghost use Rattle.page_delta.specs.declared.roots.Root.{Root as Held_root};
 
 use crate::entry::Entry;
@@ -64,6 +64,7 @@ fn own_root(nodes: &mut Slab<Node>, ids: &mut Slab<Root>, pool: &mut PagePool, i
     ensures root { (root : Held_root) → root_at ids.new.slots id ≡ Some root → root.node ≡ result }
     ensures live { IsSome (root_at ids.new.slots id) }
     ensures maps { (other : ℕ) → map_below nodes.new.slots (root_at ids.new.slots other) ≡ map_below nodes.old.slots (root_at ids.old.slots other) }
+    ensures places { KeepsPlaces nodes.old.slots nodes.new.slots }
     ensures grows { Grows nodes.old nodes.new 1 }
     ensures keeps { KeepsBytes pool.old pool.new }
 {
@@ -117,7 +118,8 @@ pub(crate) fn fork_root(
     Ok(fork)
 }
 
-// Puts an entry at a page of a map. There is room for four nodes, and the slot is counted for the entry.
+// Puts an entry at a page of a map. There is room for four nodes, the slot is counted for the entry, and no leaf has it at
+// another place.
 pub(crate) fn put_entry(
     nodes: &mut Slab<Node>,
     ids: &mut Slab<Root>,
@@ -130,6 +132,7 @@ pub(crate) fn put_entry(
     requires held { IsHeld nodes.old.slots pool.old (λ slot. uses slot (Some entry)) }
     requires live { IsSome (root_at ids.old.slots id) }
     requires page { page < 2 ^ 20 }
+    requires placed { StandsAt nodes.old.slots entry.slot (page % 32) }
     requires room { HasRoomFor nodes.old 4 }
     requires few { slab_len nodes.old + 4 ≤ 2 ^ 26 }
     ensures kept { IsKept nodes.new.slots ids.new.slots }

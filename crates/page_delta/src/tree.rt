@@ -1,6 +1,6 @@
 //! Trees of nodes, which share their parts.
 
-ghost use Rattle.std.specs.Prelude.{◌≡◌, ◌≢◌, ℕ, ◌+◌, ◌-◌, ◌^◌, ◌<◌, ◌≤◌, List, length, Some, None, IsSome, slice_index_or};
+ghost use Rattle.std.specs.Prelude.{◌≡◌, ◌≢◌, ℕ, ◌+◌, ◌-◌, ◌%◌, ◌^◌, ◌<◌, ◌≤◌, List, length, Some, None, IsSome, slice_index_or};
 ghost use Rattle.slab.specs.Slab.{HasRoomFor, slab_len};
 ghost use Rattle.page_pool.specs.Pool.{count_at, IsLive};
 ghost use Rattle.page_delta.specs.declared.entry.Entry.{Entry as Held};
@@ -8,7 +8,7 @@ ghost use Rattle.page_delta.specs.declared.node.Node.{Node as Held_node};
 ghost use Rattle.page_delta.specs.Totals.{total};
 ghost use Rattle.page_delta.specs.Delta.{uses};
 ghost use Rattle.page_delta.specs.Nodes.{node_at, child_in, entry_in, width, count_in, level_in, recounted, with_child, with_entry, once, names, with_node, look};
-ghost use Rattle.page_delta.specs.Shared.{slots_in, IsShared, IsCounted, IsClosed, Stands, SameLooks, KeepsBytes, KeepsLevels, Shrinks, Grows, Differs, Owned};
+ghost use Rattle.page_delta.specs.Shared.{slots_in, IsShared, StandsAt, IsPlaced, IsCounted, IsClosed, Stands, SameLooks, KeepsBytes, KeepsLevels, Shrinks, Grows, Differs, Owned};
 
 use crate::entry::Entry;
 use crate::node::Node;
@@ -248,6 +248,7 @@ pub(crate) fn insert(
     requires few { slab_len nodes.old + 3 ≤ 2 ^ 26 }
     ensures shared { (hands loose : ℕ → ℕ) → IsShared nodes.old.slots (count_at pool.old) hands (λ slot. loose slot + uses slot (Some entry)) → IsShared nodes.new.slots (count_at pool.new) hands (λ slot. loose slot + uses slot (look 3 nodes.old.slots (Some root) page)) }
     ensures differs { Differs 3 nodes.old.slots nodes.new.slots root page entry }
+    ensures placed { IsPlaced nodes.old.slots → StandsAt nodes.old.slots entry.slot (page % 32) → IsPlaced nodes.new.slots }
     ensures levels { KeepsLevels nodes.old.slots nodes.new.slots }
     ensures grows { Grows nodes.old nodes.new 3 }
     ensures counted { IsCounted pool.new }

@@ -8,7 +8,7 @@ use Rattle.page_delta.specs.declared.node.Node.{Node}
 use Rattle.page_delta.specs.declared.roots.Root.{Root}
 use Rattle.page_delta.proofs.Rooted.{kept-live, pages-same}
 use Rattle.page_delta.proofs.RootCopies.{same-root, few-kept}
-use Rattle.page_delta.proofs.RootCalls.{added-at, kept-added, adds-root, raised, shared-raise, looks-raise, len-raise, level-raise, held-raise}
+use Rattle.page_delta.proofs.RootCalls.{added-at, kept-added, adds-root, raised, shared-raise, looks-raise, places-raise, len-raise, level-raise, held-raise}
 use Rattle.page_delta.proofs.roots.fork_root.Goals as goal
 
 pub raise-requires-clause-room : goal.raise-requires-clause-room
@@ -28,7 +28,7 @@ returns-clause-kept c =
     let none : ℕ → ℕ = λ slot. 0 in
     let now0 = ap (λ (n : Slab Node). n.slots) c.raise.ensures in
     let now = rw c.make_room.ensures.nodes at now0 in
-    rw now (kept-added c.args.ids.now.slots c.insert_reserved.new.self.slots c.in-Ok.fork root a.gone a.here a.rest c.args.nodes.now.slots (raised c.args.nodes.now.slots c.index.result.now.node live) (pages_below c.args.nodes.now.slots c.index.result.now.node) c.requires.kept (looks-raise c.args.nodes.now.slots c.index.result.now.node live) (λ other r e. level-raise c.args.nodes.now.slots c.index.result.now.node live r.node) (level-raise c.args.nodes.now.slots c.index.result.now.node live c.index.result.now.node ∙ c.requires.kept.tops c.args.id c.index.result.now here0) (pages-same c.args.nodes.now.slots (raised c.args.nodes.now.slots c.index.result.now.node live) c.index.result.now.node c.index.result.now.node (λ q. looks-raise c.args.nodes.now.slots c.index.result.now.node live 3 c.index.result.now.node q live)) (c.requires.kept.sizes c.args.id c.index.result.now here0) counts none (shared-raise c.args.nodes.now.slots c.index.result.now.node live counts hands none c.requires.kept.shared) (let len = len-raise c.args.nodes.now.slots c.index.result.now.node live in omega (arith, len, c.requires.kept.few_nodes)) (rw c.make_room.ensures.ids at c.in_ok-make_room.ensures.few_ids))
+    rw now (kept-added c.args.ids.now.slots c.insert_reserved.new.self.slots c.in-Ok.fork root a.gone a.here a.rest c.args.nodes.now.slots (raised c.args.nodes.now.slots c.index.result.now.node live) (pages_below c.args.nodes.now.slots c.index.result.now.node) c.requires.kept (looks-raise c.args.nodes.now.slots c.index.result.now.node live) (λ other r e. level-raise c.args.nodes.now.slots c.index.result.now.node live r.node) (level-raise c.args.nodes.now.slots c.index.result.now.node live c.index.result.now.node ∙ c.requires.kept.tops c.args.id c.index.result.now here0) (pages-same c.args.nodes.now.slots (raised c.args.nodes.now.slots c.index.result.now.node live) c.index.result.now.node c.index.result.now.node (λ q. looks-raise c.args.nodes.now.slots c.index.result.now.node live 3 c.index.result.now.node q live)) (c.requires.kept.sizes c.args.id c.index.result.now here0) counts none (shared-raise c.args.nodes.now.slots c.index.result.now.node live counts hands none c.requires.kept.shared) (places-raise c.args.nodes.now.slots c.index.result.now.node live) (let len = len-raise c.args.nodes.now.slots c.index.result.now.node live in omega (arith, len, c.requires.kept.few_nodes)) (rw c.make_room.ensures.ids at c.in_ok-make_room.ensures.few_ids))
 
 pub returns-clause-added : goal.returns-clause-added
 returns-clause-added c = λ r is.

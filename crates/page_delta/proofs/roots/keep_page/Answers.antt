@@ -1,4 +1,4 @@
-use Rattle.std.proofs.Common.{◌∙◌, List, Option, Some, sym, ap, arith}
+use Rattle.std.proofs.Common.{◌%◌, ◌∙◌, List, Option, Some, sym, ap, arith}
 use Rattle.page_delta.specs.Delta.{Pages, find, pages_in}
 use Rattle.page_delta.specs.Roots.{map_below, root_at}
 use Rattle.page_delta.specs.Nodes.{look}
@@ -6,6 +6,8 @@ use Rattle.page_delta.specs.declared.node.Node.{Node}
 use Rattle.page_delta.proofs.Copies.{few-slots}
 use Rattle.page_delta.proofs.Pools.{live-of-count, keeps-trans}
 use Rattle.page_delta.proofs.Lookups.{find-below}
+use Rattle.page_delta.proofs.Places.{stands-found}
+use Rattle.page_delta.proofs.Seen.{at-leaf}
 use Rattle.page_delta.proofs.Rooted.{kept-closed}
 use Rattle.page_delta.proofs.RootCopies.{stands-kept}
 use Rattle.page_delta.proofs.Keeping.{found-at, held-more, put-found-at, pass-found-at}
@@ -31,6 +33,12 @@ put_entry-requires-clause-held c =
     let seen = c.look.ensures ∙ ap (λ (n : List (Option Node)). look 3 n (Some c.index.result.now.node) c.args.page) c.make_room.ensures.nodes in
     let pos = (found-at c.args.nodes.now.slots c.args.ids.now.slots c.args.pool.now c.args.id c.args.page c.index.result.now c.in-Some.entry row c.requires.page (sym seen ∙ c.in-Some.is) c.requires.held).1 in
     rw c.make_room.ensures.nodes (held-more c.args.nodes.now.slots c.args.pool.now c.retain.new.self c.in-Some.entry c.requires.held pos c.retain.ensures).0
+
+pub put_entry-requires-clause-placed : goal.put_entry-requires-clause-placed
+put_entry-requires-clause-placed c =
+    let seen = c.look.ensures ∙ ap (λ (n : List (Option Node)). look 3 n (Some c.index.result.now.node) c.args.page) c.make_room.ensures.nodes in
+    let at = at-leaf c.args.nodes.now.slots 3 (Some c.index.result.now.node) c.args.page c.in-Some.entry (sym seen ∙ c.in-Some.is) in
+    rw c.make_room.ensures.nodes (stands-found c.args.nodes.now.slots at.0 (c.args.page % 32) c.in-Some.entry c.requires.kept.placed at.1)
 
 pub returns-in-Some-clause-keeps : goal.returns-in-Some-clause-keeps
 returns-in-Some-clause-keeps c =

@@ -5,7 +5,7 @@ use Rattle.page_delta.specs.Shared.{slots_in}
 use Rattle.page_delta.proofs.Looks.{looks-insert}
 use Rattle.page_delta.proofs.Owning.{IsEmpty, is_empty}
 use Rattle.page_delta.proofs.Rooted.{kept-live}
-use Rattle.page_delta.proofs.RootCalls.{added-at, kept-added, adds-root, shared-empty, looks-empty, level-empty, held-empty, level-rest, pages-none}
+use Rattle.page_delta.proofs.RootCalls.{added-at, kept-added, adds-root, shared-empty, looks-empty, level-empty, held-empty, places-empty, level-rest, pages-none}
 use Rattle.page_delta.proofs.roots.new_root.Goals as goal
 
 pub returns-clause-kept : goal.returns-clause-kept
@@ -20,7 +20,7 @@ returns-clause-kept c =
     let none : ℕ → ℕ = λ slot. 0 in
     let looks = looks-insert c.args.nodes.now.slots c.put-node.new.nodes.slots counts hands none c.put-node.result c.requires.shared fresh rest in
     let ids_same = c.make_room.ensures.ids in
-    kept-added c.args.ids.now.slots c.insert_reserved.new.self.slots c.in-Ok.id (record { node = c.put-node.result; pages = 0 }) a.gone a.here a.rest c.args.nodes.now.slots c.put-node.new.nodes.slots [] c.requires looks (λ other r e. level-rest c.args.nodes.now.slots c.put-node.new.nodes.slots c.put-node.result c.empty.result empty fresh c.put-node.ensures.here rest r.node (kept-live c.args.nodes.now.slots c.args.ids.now.slots other r c.requires e)) (level-empty c.args.nodes.now.slots c.put-node.new.nodes.slots c.put-node.result c.empty.result empty fresh c.put-node.ensures.here rest) (pages-none c.put-node.new.nodes.slots c.put-node.result (looks-empty c.args.nodes.now.slots c.put-node.new.nodes.slots c.put-node.result c.empty.result empty fresh c.put-node.ensures.here rest)) refl counts none (shared-empty c.args.nodes.now.slots c.put-node.new.nodes.slots c.put-node.result c.empty.result empty fresh c.put-node.ensures.here rest counts hands none c.requires.shared) (omega (arith, c.put-node.ensures.len, c.in_ok-make_room.ensures.few)) (rw c.make_room.ensures.ids at c.in_ok-make_room.ensures.few_ids)
+    kept-added c.args.ids.now.slots c.insert_reserved.new.self.slots c.in-Ok.id (record { node = c.put-node.result; pages = 0 }) a.gone a.here a.rest c.args.nodes.now.slots c.put-node.new.nodes.slots [] c.requires looks (λ other r e. level-rest c.args.nodes.now.slots c.put-node.new.nodes.slots c.put-node.result c.empty.result empty fresh c.put-node.ensures.here rest r.node (kept-live c.args.nodes.now.slots c.args.ids.now.slots other r c.requires e)) (level-empty c.args.nodes.now.slots c.put-node.new.nodes.slots c.put-node.result c.empty.result empty fresh c.put-node.ensures.here rest) (pages-none c.put-node.new.nodes.slots c.put-node.result (looks-empty c.args.nodes.now.slots c.put-node.new.nodes.slots c.put-node.result c.empty.result empty fresh c.put-node.ensures.here rest)) refl counts none (shared-empty c.args.nodes.now.slots c.put-node.new.nodes.slots c.put-node.result c.empty.result empty fresh c.put-node.ensures.here rest counts hands none c.requires.shared) (places-empty c.args.nodes.now.slots c.put-node.new.nodes.slots c.put-node.result c.empty.result empty fresh c.put-node.ensures.here rest) (omega (arith, c.put-node.ensures.len, c.in_ok-make_room.ensures.few)) (rw c.make_room.ensures.ids at c.in_ok-make_room.ensures.few_ids)
 
 pub returns-clause-added : goal.returns-clause-added
 returns-clause-added c =

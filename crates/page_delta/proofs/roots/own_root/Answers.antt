@@ -6,7 +6,7 @@ use Rattle.page_delta.specs.Roots.{roots}
 use Rattle.page_delta.specs.Nodes.{count_in, node_at}
 use Rattle.page_delta.specs.declared.node.Node.{Node}
 use Rattle.page_delta.proofs.Rooted.{kept-live, shared-with, held-of}
-use Rattle.page_delta.proofs.RootCopies.{stands-kept, root-counted, root-some, shared-own, kept-own, maps-own}
+use Rattle.page_delta.proofs.RootCopies.{stands-kept, root-counted, root-some, shared-own, kept-own, maps-own, places-own}
 use Rattle.page_delta.proofs.roots.own_root.Goals as goal
 
 pub index-requires-2 : goal.index-requires-2
@@ -33,3 +33,7 @@ returns-clause-held c = λ loose h.
 pub returns-clause-maps : goal.returns-clause-maps
 returns-clause-maps c =
     rw (ap (λ (n : Slab Node). n.slots) c.lower.ensures) (maps-own c.args.nodes.now.slots c.copy-own.new.nodes.slots c.args.ids.now.slots c.args.id c.copy-own.result c.index.result.now c.index_mut.result.now c.requires.kept c.index.ensures c.index_mut.ensures.value (let pos = root-counted c.args.nodes.now.slots c.args.ids.now.slots c.args.id c.index.result.now c.requires.kept c.index.ensures in let is : count_in (node_at c.args.nodes.now.slots c.index.result.now.node) ≡ c.count.result = ap count_in c.index-2.ensures ∙ sym c.count.ensures in omega (arith, c.if-count-eq1.false)) c.copy-own.ensures.fresh c.copy-own.ensures.copy c.copy-own.ensures.rest c.copy-own.ensures.looks c.copy-own.ensures.alike)
+
+pub returns-clause-places : goal.returns-clause-places
+returns-clause-places c =
+    rw (ap (λ (n : Slab Node). n.slots) c.lower.ensures) (places-own c.args.nodes.now.slots c.copy-own.new.nodes.slots c.args.ids.now.slots c.args.id c.copy-own.result c.index.result.now c.index_mut.result.now c.requires.kept c.index.ensures c.index_mut.ensures.value (let pos = root-counted c.args.nodes.now.slots c.args.ids.now.slots c.args.id c.index.result.now c.requires.kept c.index.ensures in let is : count_in (node_at c.args.nodes.now.slots c.index.result.now.node) ≡ c.count.result = ap count_in c.index-2.ensures ∙ sym c.count.ensures in omega (arith, c.if-count-eq1.false)) c.copy-own.ensures.fresh c.copy-own.ensures.copy c.copy-own.ensures.rest c.copy-own.ensures.looks c.copy-own.ensures.alike)

@@ -1,4 +1,4 @@
-use Rattle.std.proofs.Common.{◌+◌, ◌∙◌, ℕ, Option, Some, sym, subst, arith}
+use Rattle.std.proofs.Common.{◌+◌, ◌%◌, ◌∙◌, ℕ, Option, Some, sym, subst, arith}
 use Rattle.page_pool.specs.Pool.{count_at}
 use Rattle.page_delta.specs.Totals.{total}
 use Rattle.page_delta.specs.Delta.{uses}
@@ -43,7 +43,7 @@ returns-in-Some-clause-kept c =
     let s1 = shared-with c.own_root-root.new.nodes.slots c.own_root-root.new.ids.slots c.own_root-root.new.pool (λ slot. 0 + uses slot (Some c.args.entry)) c.own_root-root.ensures.kept (record { counts = λ slot. (let n = h1.counts slot in omega arith); counted = h1.counted }) in
     let s2 = c.insert.ensures.shared hands (λ slot. 0) s1 in
     let r = the-root c.own_root-root.new.ids.slots c.args.id c.own_root-root.ensures.live in
-    kept-same c.args.nodes.now.slots c.own_root-root.new.nodes.slots c.insert.new.nodes.slots c.args.ids.now.slots c.own_root-root.new.ids.slots c.args.id c.args.page c.own_root-root.result c.args.entry r.0 c.own_root-root.ensures.kept r.1 (c.own_root-root.ensures.root r.0 r.1) c.own_root-root.ensures.own c.own_root-root.ensures.maps c.insert.ensures.differs c.insert.ensures.levels c.requires.page (count_at c.insert.new.pool) (λ slot. 0 + uses slot (look 3 c.own_root-root.new.nodes.slots (Some c.own_root-root.result) c.args.page)) s2 (omega (arith, c.insert.ensures.grows.len, c.own_root-root.ensures.grows.len, c.requires.few)) c.in-Some.before (sym c.look-before.ensures ∙ c.in-Some.is)
+    kept-same c.args.nodes.now.slots c.own_root-root.new.nodes.slots c.insert.new.nodes.slots c.args.ids.now.slots c.own_root-root.new.ids.slots c.args.id c.args.page c.own_root-root.result c.args.entry r.0 c.own_root-root.ensures.kept r.1 (c.own_root-root.ensures.root r.0 r.1) c.own_root-root.ensures.own c.own_root-root.ensures.maps c.insert.ensures.differs c.insert.ensures.levels c.requires.page (count_at c.insert.new.pool) (λ slot. 0 + uses slot (look 3 c.own_root-root.new.nodes.slots (Some c.own_root-root.result) c.args.page)) s2 (omega (arith, c.insert.ensures.grows.len, c.own_root-root.ensures.grows.len, c.requires.few)) c.in-Some.before (sym c.look-before.ensures ∙ c.in-Some.is) (c.insert.ensures.placed c.own_root-root.ensures.kept.placed (c.own_root-root.ensures.places c.args.entry.slot (c.args.page % 32) c.requires.placed))
 
 pub returns-in-Some-clause-put : goal.returns-in-Some-clause-put
 returns-in-Some-clause-put c =
@@ -79,7 +79,7 @@ returns-in-None-clause-kept c =
     let h1 = c.own_root-root.ensures.held (λ slot. uses slot (Some c.args.entry)) c.requires.held in
     let s1 = shared-with c.own_root-root.new.nodes.slots c.own_root-root.new.ids.slots c.own_root-root.new.pool (λ slot. 0 + uses slot (Some c.args.entry)) c.own_root-root.ensures.kept (record { counts = λ slot. (let n = h1.counts slot in omega arith); counted = h1.counted }) in
     let s2 = c.insert.ensures.shared hands (λ slot. 0) s1 in
-    kept-put c.args.nodes.now.slots c.own_root-root.new.nodes.slots c.insert.new.nodes.slots c.args.ids.now.slots c.own_root-root.new.ids.slots c.args.id c.args.page c.own_root-root.result c.args.entry c.index_mut.result.now c.own_root-root.ensures.kept c.index_mut.ensures.value (c.own_root-root.ensures.root c.index_mut.result.now c.index_mut.ensures.value) c.own_root-root.ensures.own c.own_root-root.ensures.maps c.insert.ensures.differs c.insert.ensures.levels c.requires.page (count_at c.insert.new.pool) (λ slot. 0 + uses slot (look 3 c.own_root-root.new.nodes.slots (Some c.own_root-root.result) c.args.page)) s2 (omega (arith, c.insert.ensures.grows.len, c.own_root-root.ensures.grows.len, c.requires.few)) (c.index_mut.result.now.pages + 1) (more_size c.args.nodes.now.slots c.own_root-root.new.nodes.slots c.insert.new.nodes.slots c.args.ids.now.slots c.own_root-root.new.ids.slots c.args.id c.args.page c.own_root-root.result c.args.entry c.index_mut.result.now c.own_root-root.ensures.kept c.index_mut.ensures.value (c.own_root-root.ensures.root c.index_mut.result.now c.index_mut.ensures.value) c.own_root-root.ensures.own c.own_root-root.ensures.maps c.insert.ensures.differs c.insert.ensures.levels c.requires.page (count_at c.insert.new.pool) (λ slot. 0 + uses slot (look 3 c.own_root-root.new.nodes.slots (Some c.own_root-root.result) c.args.page)) s2 (omega (arith, c.insert.ensures.grows.len, c.own_root-root.ensures.grows.len, c.requires.few)) (sym c.look-before.ensures ∙ c.in-None.is))
+    kept-put c.args.nodes.now.slots c.own_root-root.new.nodes.slots c.insert.new.nodes.slots c.args.ids.now.slots c.own_root-root.new.ids.slots c.args.id c.args.page c.own_root-root.result c.args.entry c.index_mut.result.now c.own_root-root.ensures.kept c.index_mut.ensures.value (c.own_root-root.ensures.root c.index_mut.result.now c.index_mut.ensures.value) c.own_root-root.ensures.own c.own_root-root.ensures.maps c.insert.ensures.differs c.insert.ensures.levels c.requires.page (count_at c.insert.new.pool) (λ slot. 0 + uses slot (look 3 c.own_root-root.new.nodes.slots (Some c.own_root-root.result) c.args.page)) s2 (omega (arith, c.insert.ensures.grows.len, c.own_root-root.ensures.grows.len, c.requires.few)) (c.index_mut.result.now.pages + 1) (more_size c.args.nodes.now.slots c.own_root-root.new.nodes.slots c.insert.new.nodes.slots c.args.ids.now.slots c.own_root-root.new.ids.slots c.args.id c.args.page c.own_root-root.result c.args.entry c.index_mut.result.now c.own_root-root.ensures.kept c.index_mut.ensures.value (c.own_root-root.ensures.root c.index_mut.result.now c.index_mut.ensures.value) c.own_root-root.ensures.own c.own_root-root.ensures.maps c.insert.ensures.differs c.insert.ensures.levels c.requires.page (count_at c.insert.new.pool) (λ slot. 0 + uses slot (look 3 c.own_root-root.new.nodes.slots (Some c.own_root-root.result) c.args.page)) s2 (omega (arith, c.insert.ensures.grows.len, c.own_root-root.ensures.grows.len, c.requires.few)) (sym c.look-before.ensures ∙ c.in-None.is)) (c.insert.ensures.placed c.own_root-root.ensures.kept.placed (c.own_root-root.ensures.places c.args.entry.slot (c.args.page % 32) c.requires.placed))
 
 pub returns-in-None-clause-put : goal.returns-in-None-clause-put
 returns-in-None-clause-put c =

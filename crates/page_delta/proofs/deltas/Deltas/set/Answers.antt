@@ -1,8 +1,9 @@
-use Rattle.std.proofs.Common.{◌-◌, refl, sym, subst}
+use Rattle.std.proofs.Common.{◌-◌, ◌%◌, refl, sym, subst}
 use Rattle.page_delta.specs.Delta.{Holds}
 use Rattle.page_delta.specs.declared.entry.Entry.{Entry}
 use Rattle.page_delta.proofs.Seen.{held-seen, seen-held, seen-unchanged}
-use Rattle.page_delta.proofs.Calls.{held-new, sets}
+use Rattle.page_delta.proofs.Calls.{slot-free, held-new, sets}
+use Rattle.page_delta.proofs.Places.{stands-free}
 use Rattle.page_delta.proofs.deltas.Deltas.set.Goals as goal
 
 pub put_entry-requires-clause-held : goal.put_entry-requires-clause-held
@@ -10,6 +11,12 @@ put_entry-requires-clause-held c =
     let h0 = held-seen c.self.inside.nodes.slots c.self.inside.ids.slots c.args.pool.now (subst (λ d. Holds c.args.pool.now d) (sym c.self.view_is) c.requires.holds) in
     let entry : Entry = record { slot = c.put-slot.result; stamp = c.args.stamp } in
     rw c.make_room.ensures.nodes (held-new c.args.pool.now c.reserve.new.self c.put-slot.new.self c.put-slot.result (1 - c.args.pool.now.spare) c.args.bytes.now c.in_ok-reserve.ensures.ok c.put-slot.ensures.free c.put-slot.ensures.within c.put-slot.ensures.put c.self.inside.nodes.slots entry refl h0)
+
+pub put_entry-requires-clause-placed : goal.put_entry-requires-clause-placed
+put_entry-requires-clause-placed c =
+    let h0 = held-seen c.self.inside.nodes.slots c.self.inside.ids.slots c.args.pool.now (subst (λ d. Holds c.args.pool.now d) (sym c.self.view_is) c.requires.holds) in
+    let free = slot-free c.args.pool.now c.reserve.new.self c.put-slot.new.self c.put-slot.result (1 - c.args.pool.now.spare) c.args.bytes.now c.in_ok-reserve.ensures.ok c.put-slot.ensures.free c.put-slot.ensures.within c.put-slot.ensures.put in
+    rw c.make_room.ensures.nodes (stands-free c.self.inside.nodes.slots c.args.pool.now (λ s. 0) c.put-slot.result (c.args.page % 32) h0 free)
 
 pub returns-clause-set : goal.returns-clause-set
 returns-clause-set c =
