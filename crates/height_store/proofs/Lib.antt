@@ -1,0 +1,15 @@
+pub mod Carried
+pub mod FilesFound
+pub mod Gaining
+pub mod Heights
+pub mod HeightsFound
+pub mod Losing
+pub mod Marking
+pub mod MarksRead
+pub mod Namings
+pub mod Numbers
+pub mod Parts
+pub mod Since
+pub mod StacksFound
+pub mod Strays
+pub mod Swept

@@ -1,0 +1,124 @@
+-- Reading marks one by one.
+use Rattle.std.proofs.Common.{◌≡◌, ◌⊎◌, ℕ, ◌+◌, ◌<◌, ◌≤◌, suc, List, [], ◌∷◌, ◌++◌, length, take, drop, map, get_or, Result, Ok, Err, refl, sym, ◌∙◌, ap, subst, arith, inl, inr, ⊎_elim, length-append, drop-cons}
+use Rattle.std.specs.Prelude.{sum_by, IsErrOf}
+use Rattle.height_store.specs.declared.error.StoreError.{StoreError}
+use Rattle.height_store.specs.declared.error.StoreError.TheVariants.{BadMark}
+use Rattle.std.specs.List.{AllByRecursion}
+use Rattle.std.proofs.lemmas.List.{length-take, length-map, map-append, take-append-drop, take_more, take_all}
+use Rattle.std.proofs.lemmas.List.Sums.{sum_by-append}
+use Rattle.format_spec.specs.declared.limits.TheConstants.{MAX_PUBLISHED}
+use Rattle.format_spec.specs.Bytes.{Bytes}
+use Rattle.state_spec.specs.State.{SystemPart, IsSystem}
+use Rattle.state_spec.specs.SystemText.{read_system}
+use Rattle.state_spec.proofs.BothWays.{system_again}
+use Rattle.store_spec.specs.Mark.{Mark, IsMark, mark_text}
+use Rattle.sys_state.specs.System.{part_of}
+use Rattle.disk_model.specs.declared.name.Kind.TheVariants as kind
+use Rattle.disk_model.specs.Files.{Files, IsListing}
+use Rattle.disk_model.specs.View.{DiskView}
+use Rattle.disk_model.specs.Looking.{OnlyLooks, looks_then}
+use Rattle.height_store.specs.Bad.{SpellsMark, HasGoodMark, AreGoodMarks, IsFirstBadMark}
+use Rattle.height_store.specs.Opened.{ReadMark, parts_of}
+use Rattle.height_store.proofs.FilesFound.{all_push, error_inside}
+use Rattle.sys_state.specs.declared.error.SysError.{SysError}
+use Rattle.sys_state.specs.declared.error.SysError.TheVariants as errors
+use Rattle.sys_state.specs.Reading.{Fails}
+
+same_part : (x y : SystemPart) → ◌≡◌ {A = Result SystemPart ℕ} (Ok x) (Ok y) → x ≡ y
+same_part x y e = cc
+
+-- a mark's system text is read again
+pub system_read : (m : Mark) (s : SystemPart) (text : Bytes) → IsMark m s → text ≡ m.system → read_system 1 text ≡ Ok s
+system_read m s text good is =
+    ap (read_system 1) (is ∙ good.system_spelled) ∙ system_again 1 s (subst (λ (v : ℕ). IsSystem v s) good.version good.system_good)
+
+-- the parts that were read are those that the mark is of
+pub part_read : (m : Mark) (s t : SystemPart) (text : Bytes) → IsMark m s → text ≡ m.system → read_system 1 text ≡ Ok t → IsMark m t
+part_read m s t text good is read = subst (IsMark m) (same_part s t (sym (system_read m s text good is) ∙ read)) good
+
+not_both : (read : Result SystemPart ℕ) (s : SystemPart) (place : ℕ) → read ≡ Ok s → read ≡ Err place → ⊥
+not_both read s place ok err = let e : ◌≡◌ {A = Result SystemPart ℕ} (Ok s) (Err place) = sym ok ∙ err in cc
+
+-- where a mark's system text isn't read, memory ran out
+pub fails_for_memory : (e : SysError) (m : Mark) (s : SystemPart) (text : Bytes) → IsMark m s → text ≡ m.system → Fails e (read_system 1 text) → (e ≡ errors.Memory → ⊥) → ⊥
+fails_for_memory errors.Exists m s text good is fails other = fails
+fails_for_memory errors.ManyCanisters m s text good is fails other = fails
+fails_for_memory errors.NoCanister m s text good is fails other = fails
+fails_for_memory errors.MemoryFull m s text good is fails other = fails
+fails_for_memory errors.StateFull m s text good is fails other = fails
+fails_for_memory errors.Reserved m s text good is fails other = fails
+fails_for_memory errors.PathConflict m s text good is fails other = fails
+fails_for_memory errors.TreeFull m s text good is fails other = fails
+fails_for_memory errors.NoPath m s text good is fails other = fails
+fails_for_memory (errors.BadSystem place) m s text good is fails other = not_both (read_system 1 text) s place (system_read m s text good is) fails
+fails_for_memory errors.Memory m s text good is fails other = other refl
+
+pub filled_length : (n : ℕ) (into rest : Bytes) → length into ≡ n → length (take n (into ++ rest)) ≡ n
+filled_length n into rest is = omega (arith, is, length-take n (into ++ rest), length-append into rest)
+
+-- ---- errors
+
+pub same_height : {T : Type 0} (a b : ℕ) → ◌≡◌ {A = Result T StoreError} (Err (BadMark a)) (Err (BadMark b)) → a ≡ b
+same_height a b e = cc
+
+-- an error that is handed on
+pub handed_on : {T : Type 0} (U : Type 0) (result : Result T StoreError) (x e kind : StoreError) → result ≡ Err x → x ≡ e → IsErrOf result kind → IsErrOf {T = U} (Err e) kind
+handed_on U result x e kind is from err = ap {B = Result U StoreError} (λ (d : StoreError). Err d) (sym from ∙ error_inside x kind (sym is ∙ err))
+
+-- ---- the walk
+
+-- these marks are those of the first heights, and spelled there
+pub record AreRead (files : Files) (heights : List ℕ) (i : ℕ) (ms : List ReadMark) : Type 0 where
+  pub few : length ms ≤ MAX_PUBLISHED
+  pub in_order : map (λ m. m.mark.height) ms ≡ take i heights
+  pub spelled : AllByRecursion (λ m. SpellsMark files m.mark.height m.mark (part_of m.system)) ms
+
+good_heights : (files : Files) (ms : List ReadMark) → AllByRecursion (λ m. SpellsMark files m.mark.height m.mark (part_of m.system)) ms → AllByRecursion (HasGoodMark files) (map (λ m. m.mark.height) ms)
+good_heights files [] all = tt
+good_heights files (m ∷ ms) all = ((m.mark, part_of m.system, all.0), good_heights files ms all.1)
+
+good_parts : (files : Files) (ms : List ReadMark) → AllByRecursion (λ m. SpellsMark files m.mark.height m.mark (part_of m.system)) ms → AllByRecursion (λ m. SpellsMark files m.0.height m.0 m.1) (map parts_of ms)
+good_parts files [] all = tt
+good_parts files (m ∷ ms) all = (all.0, good_parts files ms all.1)
+
+heights_of_parts : (ms : List ReadMark) → map (λ m. m.0.height) (map parts_of ms) ≡ map (λ m. m.mark.height) ms
+heights_of_parts [] = refl
+heights_of_parts (m ∷ ms) = ap (λ (l : List ℕ). m.mark.height ∷ l) (heights_of_parts ms)
+
+pub are_good : (files : Files) (heights : List ℕ) (i : ℕ) (ms : List ReadMark) → length heights ≤ i → IsListing kind.Mark files heights → AreRead files heights i ms → AreGoodMarks files (map parts_of ms)
+are_good files heights i ms all listed read = record {
+  listed = subst (IsListing kind.Mark files) (sym (heights_of_parts ms ∙ read.in_order ∙ take_all i heights all)) listed;
+  few = omega (arith, length-map ms parts_of, read.few);
+  spelled = good_parts files ms read.spelled;
+}
+
+pub first_bad : (files : Files) (heights : List ℕ) (i : ℕ) (ms : List ReadMark) → i < length heights → IsListing kind.Mark files heights → AreRead files heights i ms → (length ms ≡ MAX_PUBLISHED) ⊎ (HasGoodMark files (get_or heights i 0) → ⊥) → IsFirstBadMark files (get_or heights i 0)
+first_bad files heights i ms lt listed read bad = record {
+  before = take i heights;
+  after = drop (suc i) heights;
+  listed = subst (IsListing kind.Mark files) (sym (take-append-drop i heights) ∙ ap (λ (l : List ℕ). take i heights ++ l) (drop-cons heights i 0 lt)) listed;
+  good = subst (AllByRecursion (HasGoodMark files)) read.in_order (good_heights files ms read.spelled);
+  few = omega (arith, same, read.few);
+  bad = ⊎_elim (λ many. inl (sym same ∙ many)) (λ none. inr none) bad;
+}
+  where
+    same : length ms ≡ length (take i heights)
+    same = sym (length-map ms (λ (m : ReadMark). m.mark.height)) ∙ ap (λ (l : List ℕ). length l) read.in_order
+
+pub heights_more : (heights : List ℕ) (i : ℕ) (ms now : List ReadMark) (m : ReadMark) → i < length heights → now ≡ ms ++ m ∷ [] → m.mark.height ≡ get_or heights i 0 → map (λ m. m.mark.height) ms ≡ take i heights → map (λ m. m.mark.height) now ≡ take (i + 1) heights
+heights_more heights i ms now m lt is at was =
+    ap (map (λ (m : ReadMark). m.mark.height)) is ∙ map-append (λ (m : ReadMark). m.mark.height) ms (m ∷ [])
+    ∙ ap (λ (l : List ℕ). l ++ m.mark.height ∷ []) was ∙ ap (λ (h : ℕ). take i heights ++ h ∷ []) at ∙ sym (take_more heights i 0 lt)
+
+pub spelled_more : (files mid : Files) (ms now : List ReadMark) (m : ReadMark) (height : ℕ) → now ≡ ms ++ m ∷ [] → mid ≡ files → m.mark.height ≡ height → SpellsMark mid height m.mark (part_of m.system)
+    → AllByRecursion (λ m. SpellsMark files m.mark.height m.mark (part_of m.system)) ms → AllByRecursion (λ m. SpellsMark files m.mark.height m.mark (part_of m.system)) now
+spelled_more files mid ms now m height is same at one all =
+    subst (AllByRecursion (λ (m : ReadMark). SpellsMark files m.mark.height m.mark (part_of m.system))) (sym is)
+    (all_push (λ (m : ReadMark). SpellsMark files m.mark.height m.mark (part_of m.system)) ms m all (subst (λ (h : ℕ). SpellsMark files h m.mark (part_of m.system)) (sym at) (subst (λ (f : Files). SpellsMark f height m.mark (part_of m.system)) same one)))
+
+pub looks_longer : (ms now : List ReadMark) (m : ReadMark) (old mid new : DiskView) → now ≡ ms ++ m ∷ [] → OnlyLooks (sum_by (λ m. length (mark_text m.mark)) ms) old mid → OnlyLooks (length (mark_text m.mark)) mid new → OnlyLooks (sum_by (λ m. length (mark_text m.mark)) now) old new
+looks_longer ms now m old mid new is first second =
+    subst (λ (n : ℕ). OnlyLooks n old new) (sym (ap (sum_by text_length) is ∙ sum_by-append text_length ms (m ∷ []) ∙ omega arith)) (looks_then _ _ old mid new first second)
+  where
+    text_length : ReadMark → ℕ
+    text_length m = length (mark_text m.mark)

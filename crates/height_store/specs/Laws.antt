@@ -1,0 +1,110 @@
+-- What follows from how a store and its disk belong together.
+use Rattle.std.specs.Prelude.{◌≡◌, ℕ, ◌≤◌, Bool, true, false, List, [], ◌∷◌, Result, refl}
+use Rattle.std.specs.List.{AllByRecursion, AllZip}
+use Rattle.std.proofs.Common.{◌∙◌, subst}
+use Rattle.format_spec.specs.declared.limits.TheConstants.{MAX_PUBLISHED}
+use Rattle.state_spec.specs.State.{SystemPart}
+use Rattle.sys_state.specs.System.{part_of}
+use Rattle.store_spec.specs.Image.{Published, StandsFor, OpensAt}
+use Rattle.store_spec.specs.Mark.{Mark}
+use Rattle.disk_model.specs.declared.disk.DiskError.{DiskError}
+use Rattle.disk_model.specs.declared.name.Kind.TheVariants as kind
+use Rattle.disk_model.specs.declared.name.Name.{Name}
+use Rattle.disk_model.specs.declared.name.Name.TheVariants as name
+use Rattle.disk_model.specs.Files.{Files, IsListing}
+use Rattle.disk_model.specs.State.{DiskState, IsSettled}
+use Rattle.disk_model.specs.Call.{Call, is_given}
+use Rattle.disk_model.specs.View.{DiskView, EachImage, LeavesOnly, Does}
+use Rattle.disk_model.specs.Moments.{weaker}
+use Rattle.disk_model.specs.Frame.{DependsOnly, Spares, TouchesOnly, touches_call, touches_keep_images}
+use Rattle.disk_model.specs.Laws.{IsSound, image_of_settled}
+use Rattle.page_file.specs.Files.{NumberedFile}
+use Rattle.height_store.specs.Entry.{needed_firm}
+use Rattle.height_store.specs.Standing.{heights_shown, marks_open}
+use Rattle.height_store.specs.Store.{Store, StoredHeight, IsHeight, IsStore, heights_in, mark_names, is_named, is_needed}
+use Rattle.height_store.specs.Kept.{IsOver, IsMadeOf, ShowsHeight, ShowsHeights, KeepsHeights, StandsForSome}
+use Rattle.height_store.specs.Shown.{or_left, or_right, listing_apart, stacks_apart, heights_given, same_heights, same_count}
+
+-- Files that have the marks and page files of some heights stand for them.
+pub shown_stands : (files : Files) (hs : List StoredHeight) (ps : List Published) → ShowsHeights files hs ps → StandsFor files ps
+shown_stands files hs ps shows = record {
+  marks = subst (IsListing kind.Mark files) (same_heights files hs ps shows.each) shows.listed;
+  few = subst (λ (count : ℕ). count ≤ MAX_PUBLISHED) (same_count files hs ps shows.each) shows.few;
+  each = heights_given files hs ps shows.each;
+}
+
+-- What files give of a height is the same of all files that have its page files.
+pub made_apart : (f g : Files) (m : Mark) (s : SystemPart) (stacks : List (List NumberedFile)) (p : Published) → ((n : ℕ) → mark_names m n ≡ true → g (name.Page n) ≡ f (name.Page n)) → IsMadeOf f m s stacks p → IsMadeOf g m s stacks p
+made_apart f g m s stacks p same made = record {
+  good = made.good;
+  height = made.height;
+  layers = made.layers;
+  there = stacks_apart f g stacks m.memories made.layers made.good.numbers same made.there;
+  same_state = made.same_state;
+  same_layers = made.same_layers;
+  true_sums = made.true_sums;
+}
+
+module _ (f g : Files) (marks : (n : ℕ) → g (name.Mark n) ≡ f (name.Mark n)) where
+  heights_apart : (hs : List StoredHeight) (ps : List Published) → ((n : ℕ) → is_named hs n ≡ true → g (name.Page n) ≡ f (name.Page n)) → AllZip (ShowsHeight f) hs ps → AllZip (ShowsHeight g) hs ps
+  heights_apart [] [] pages each = tt
+  heights_apart [] (p ∷ ps) pages each = absurd each
+  heights_apart (h ∷ hs) [] pages each = absurd each
+  heights_apart (h ∷ hs) (p ∷ ps) pages each = (
+    record {
+      good = each.0.good;
+      mark = marks h.mark.height ∙ each.0.mark;
+      made = made_apart f g h.mark (part_of h.system) h.stacks p (λ n named. pages n (or_left (mark_names h.mark n) (is_named hs n) named)) each.0.made;
+    },
+    heights_apart hs ps (λ n named. pages n (or_right (mark_names h.mark n) (is_named hs n) named)) each.1,
+  )
+
+-- That speaks of the marks and of the page files that they name alone.
+pub shown_depends : (hs : List StoredHeight) (ps : List Published) → DependsOnly (is_needed hs) (λ files. ShowsHeights files hs ps)
+shown_depends hs ps = record {
+  carries = λ f g same shows. record {
+    listed = listing_apart f g (heights_in hs) (λ n. same (name.Mark n) refl) shows.listed;
+    few = shows.few;
+    each = heights_apart f g (λ n. same (name.Mark n) refl) hs ps (λ n named. same (name.Page n) named) shows.each;
+  };
+}
+
+-- Where nothing is pending and no file is loose that the heights need, each image has what the disk reads.
+pub settled_keeps : (hs : List StoredHeight) (s : DiskState) (ps : List Published) → IsSettled s → ((q : Name) → is_needed hs q ≡ true → s.loose q ≡ false) → ShowsHeights s.files hs ps → KeepsHeights hs s ps
+settled_keeps hs s ps settled firm shows = record {
+  images = λ image now. (shown_depends hs ps).carries s.files image (λ q needed. (image_of_settled s image settled now).firm q (firm q needed)) shows;
+  firm = firm;
+}
+
+-- Where the heights are kept, each image stands for them.
+pub kept_stands : (hs : List StoredHeight) (s : DiskState) (ps : List Published) → KeepsHeights hs s ps → EachImage s (λ image. StandsFor image ps)
+kept_stands hs s ps keeps = λ image now. shown_stands image hs ps (keeps.images image now)
+
+-- They stay so through calls that touch other names alone,
+pub kept_apart : (given : Name → Bool) (old new : DiskView) (hs : List StoredHeight) (ps : List Published) → ((q : Name) → is_needed hs q ≡ true → given q ≡ false) → TouchesOnly given old new → KeepsHeights hs old.state ps → KeepsHeights hs new.state ps
+kept_apart given old new hs ps apart touches keeps = record {
+  images = (touches_keep_images given (is_needed hs) (λ files. ShowsHeights files hs ps) old new (shown_depends hs ps) apart touches keeps.images).now;
+  firm = λ q needed. touches.firm q (apart q needed) (keeps.firm q needed);
+}
+
+-- and so through each call that is given no name which the heights need, whatever the call answers.
+pub kept_through : {T : Type 0} (call : Call) (result : Result T DiskError) (old new : DiskView) (hs : List StoredHeight) (ps : List Published) → IsSound old.state → Spares call (is_needed hs) → Does call result old new → KeepsHeights hs old.state ps → KeepsHeights hs new.state ps
+kept_through call result old new hs ps sound spares does keeps = kept_apart (is_given call) old new hs ps spares (touches_call call result old new (is_given call) (λ q apart. apart) sound does) keeps
+
+-- Meanwhile each image stands for them.
+pub stands_apart : (given : Name → Bool) (old new : DiskView) (hs : List StoredHeight) (ps : List Published) → ((q : Name) → is_needed hs q ≡ true → given q ≡ false) → TouchesOnly given old new → KeepsHeights hs old.state ps → LeavesOnly old new (λ image. StandsFor image ps)
+stands_apart given old new hs ps apart touches keeps =
+    weaker old new (λ image. ShowsHeights image hs ps) (λ image. StandsFor image ps) (λ image shows. shown_stands image hs ps shows)
+    (touches_keep_images given (is_needed hs) (λ files. ShowsHeights files hs ps) old new (shown_depends hs ps) apart touches keeps.images)
+
+-- The heights that a store's files stand for are those of its marks.
+pub stands_shown : (store : Store) (files : Files) (ps : List Published) → AllByRecursion IsHeight store.heights → IsOver store files → StandsFor files ps → ShowsHeights files store.heights ps
+stands_shown store files ps good over stands = heights_shown files store.heights ps good over.listed over.marks over.stacks stands
+
+-- A store over files opens.
+pub over_opens : (store : Store) (files : Files) → IsStore store → AllByRecursion IsHeight store.heights → IsOver store files → (ps : List Published) × OpensAt files ps
+over_opens store files store_good good over = marks_open files store.heights good store_good.few over.listed over.marks over.stacks
+
+-- Where every image stands for some heights, no file that a store needs is loose.
+pub entry_firm : (store : Store) (s : DiskState) → AllByRecursion IsHeight store.heights → IsSound s → EachImage s StandsForSome → IsOver store s.files → (q : Name) → is_needed store.heights q ≡ true → s.loose q ≡ false
+entry_firm store s good sound each over q needed = needed_firm store.heights s good over.marks sound each q needed

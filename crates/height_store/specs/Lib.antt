@@ -1,0 +1,13 @@
+pub mod Bad
+pub mod Entry
+pub mod Errors
+pub mod Found
+pub mod Kept
+pub mod Laws
+pub mod Naming
+pub mod Opened
+pub mod Refused
+pub mod Shown
+pub mod Standing
+pub mod Store
+pub mod Written

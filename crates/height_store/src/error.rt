@@ -1,0 +1,74 @@
+//! Why a call on the store failed.
+
+ghost use Rattle.std.specs.Prelude.{◌≡◌};
+ghost use Rattle.height_store.specs.declared.error.StoreError.TheVariants.{Memory};
+ghost use Rattle.height_store.specs.Errors.{disk_error, page_error};
+
+use byte_codec::NoMemory;
+use disk_model::DiskError;
+use page_file::PageError;
+use std::alloc::{AllocError, AllocFailed};
+
+/// Why a call on the store failed.
+#[derive(Clone, Copy, Debug, PartialEq, Eq)]
+pub enum StoreError {
+    /// The mark of this height is none, or there are sixteen before it.
+    BadMark(u64),
+    /// The page file of this number, which a mark names, is absent or none, or has more memory pages than the memory.
+    BadPage(u64),
+    /// The height is not published.
+    NoHeight,
+    /// The height is the newest published one.
+    LastHeight,
+    /// The disk failed, and has counted that.
+    Fault,
+    /// Memory ran out.
+    Memory,
+}
+
+impl From<DiskError> for StoreError {
+    ghost from_gives = { λ e made. made ≡ disk_error e };
+
+    fn from(error: DiskError) -> StoreError {
+        match error {
+            DiskError::Fault => StoreError::Fault,
+            DiskError::Memory => StoreError::Memory,
+        }
+    }
+}
+
+impl From<PageError> for StoreError {
+    ghost from_gives = { λ e made. made ≡ page_error e };
+
+    fn from(error: PageError) -> StoreError {
+        match error {
+            PageError::BadPage(number) => StoreError::BadPage(number),
+            PageError::Fault => StoreError::Fault,
+            PageError::Memory => StoreError::Memory,
+        }
+    }
+}
+
+impl From<NoMemory> for StoreError {
+    ghost from_gives = { λ _ made. made ≡ Memory };
+
+    fn from(_error: NoMemory) -> StoreError {
+        StoreError::Memory
+    }
+}
+
+impl From<AllocError> for StoreError {
+    ghost from_gives = { λ _ made. made ≡ Memory };
+
+    fn from(_error: AllocError) -> StoreError {
+        StoreError::Memory
+    }
+}
+
+impl<T: Drop> From<AllocFailed<T>> for StoreError {
+    ghost from_gives = { λ _ made. made ≡ Memory };
+
+    fn from(_error: AllocFailed<T>) -> StoreError {
+        StoreError::Memory
+    }
+}

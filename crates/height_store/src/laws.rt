@@ -1,0 +1,52 @@
+//! What is so of every store and every disk, by the definitions alone.
+
+ghost use Rattle.std.specs.Prelude.{◌≡◌, ◌⊎◌, ℕ, Bool, true, false, List};
+ghost use Rattle.std.specs.List.{AllByRecursion};
+ghost use Rattle.store_spec.specs.Image.{Published, StandsFor, Opens};
+ghost use Rattle.disk_model.specs.declared.name.Name.{Name};
+ghost use Rattle.disk_model.specs.Files.{Files};
+ghost use Rattle.disk_model.specs.State.{DiskState, IsSettled};
+ghost use Rattle.disk_model.specs.Call.{Call};
+ghost use Rattle.disk_model.specs.View.{DiskView, EachImage, LeavesOnly, Done, Failed};
+ghost use Rattle.disk_model.specs.Frame.{Spares, TouchesOnly};
+ghost use Rattle.disk_model.specs.Laws.{IsSound};
+ghost use Rattle.height_store.specs.Bad.{IsFirstBadMark, IsFirstBadPage};
+ghost use Rattle.height_store.specs.Kept.{IsOver, ShowsHeights, KeepsHeights};
+ghost use Rattle.height_store.specs.Store.{Store, StoredHeight, IsHeight, IsStore, is_needed};
+
+/// Where a disk keeps heights, a crash leaves files that stand for them.
+/// It keeps those that its files show, where no rename or removal is pending and no file that they need is loose.
+pub fn kept_heights_stand()
+    ensures stands { (hs : List StoredHeight) (s : DiskState) (ps : List Published) → KeepsHeights hs s ps
+        → EachImage s (λ image. StandsFor image ps) }
+    ensures settled { (hs : List StoredHeight) (s : DiskState) (ps : List Published) → IsSettled s
+        → ((q : Name) → is_needed hs q ≡ true → s.loose q ≡ false) → ShowsHeights s.files hs ps → KeepsHeights hs s ps }
+{}
+
+/// A disk goes on to keep heights through each call that is given none of the files which they need, whether it is done
+/// or fails, and through any run of such calls. Each image meanwhile stands for them.
+pub fn heights_kept_through_calls()
+    ensures call { (call : Call) (old new : DiskView) (hs : List StoredHeight) (ps : List Published) → IsSound old.state
+        → Spares call (is_needed hs) → (Done call old new ⊎ Failed call old new)
+        → KeepsHeights hs old.state ps → KeepsHeights hs new.state ps }
+    ensures calls { (given : Name → Bool) (old new : DiskView) (hs : List StoredHeight) (ps : List Published)
+        → ((q : Name) → is_needed hs q ≡ true → given q ≡ false) → TouchesOnly given old new
+        → KeepsHeights hs old.state ps → KeepsHeights hs new.state ps }
+    ensures meanwhile { (given : Name → Bool) (old new : DiskView) (hs : List StoredHeight) (ps : List Published)
+        → ((q : Name) → is_needed hs q ≡ true → given q ≡ false) → TouchesOnly given old new
+        → KeepsHeights hs old.state ps → LeavesOnly old new (λ image. StandsFor image ps) }
+{}
+
+/// The files of a store open, and the heights that they stand for are those of its marks.
+pub fn stores_open()
+    ensures opens { (store : Store) (files : Files) → IsStore store → AllByRecursion IsHeight store.heights
+        → IsOver store files → Opens files }
+    ensures shown { (store : Store) (files : Files) (ps : List Published) → AllByRecursion IsHeight store.heights
+        → IsOver store files → StandsFor files ps → ShowsHeights files store.heights ps }
+{}
+
+/// Files with a bad mark, or whose marks name a bad page file, do not open: opening refuses no disk that opens.
+pub fn bad_disks_do_not_open()
+    ensures mark { (files : Files) (height : ℕ) → IsFirstBadMark files height → Opens files → ⊥ }
+    ensures page { (files : Files) (number : ℕ) → IsFirstBadPage files number → Opens files → ⊥ }
+{}

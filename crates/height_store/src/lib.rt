@@ -1,0 +1,21 @@
+//! The published heights of a disk: opened, published by one rename, purged, and read page by page.
+#![tactic(auto)]
+
+mod error;
+mod laws;
+mod marks;
+mod opening;
+mod pages;
+mod paging;
+mod publishing;
+mod store;
+mod sweeping;
+
+pub use error::StoreError;
+pub use laws::{
+    bad_disks_do_not_open, heights_kept_through_calls, kept_heights_stand, stores_open,
+};
+pub use store::{HeightStore, PublishedHeight};
+
+#[cfg(test)]
+mod tests;

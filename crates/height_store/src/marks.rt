@@ -1,0 +1,140 @@
+//! Reading the marks of a disk.
+
+ghost use Rattle.std.specs.Prelude.{◌≡◌, ◌≤◌, ◌⊎◌, ℕ, map, sum_by, length, option_map, IsTrue, IfOk, IfErr, IfSome, IsErrOf};
+ghost use Rattle.format_spec.specs.declared.limits.TheConstants.{MAX_PUBLISHED};
+ghost use Rattle.state_spec.specs.State.{SystemPart};
+ghost use Rattle.sys_state.specs.System.{part_of};
+ghost use Rattle.store_spec.specs.Mark.{Mark as Marked, IsMark, IsMarkText, mark_text};
+ghost use Rattle.disk_model.specs.declared.name.Kind.TheVariants as kind;
+ghost use Rattle.disk_model.specs.declared.name.Name.TheVariants as name;
+ghost use Rattle.disk_model.specs.Files.{IsListing};
+ghost use Rattle.disk_model.specs.Looking.{OnlyLooks};
+ghost use Rattle.height_store.specs.Bad.{AreGoodMarks, IsFirstBadMark, HasGoodMark, SpellsMark};
+ghost use Rattle.height_store.specs.Errors.{HasCause, NoBadFile, NoBadHeight};
+ghost use Rattle.height_store.specs.Opened.{parts_of};
+
+use crate::error::StoreError;
+use byte_codec::NoMemory;
+use disk_model::{Disk, Name};
+use format_spec::MAX_PUBLISHED;
+use mark_file::{Mark, MarkError};
+use std::alloc::Global;
+use std::marker::Model;
+use sys_state::{SysError, SysState};
+
+/// A mark that was read, and what its system text spells.
+#[derive(Drop)]
+pub struct OpenedMark {
+    pub(crate) mark: Mark,
+    pub(crate) sys: SysState,
+}
+
+// Contracts see the two.
+impl Model for OpenedMark {
+    ghost use Rattle.height_store.specs.Opened.{ReadMark, IsReadMark};
+
+    ghost Value = { ReadMark };
+
+    ghost view = { λ m. record { mark = m.mark; system = m.sys } };
+
+    ghost invariant = { λ m. IsReadMark (record { mark = m.mark; system = m.sys }) };
+}
+
+/// Reads the marks of these heights, which are all that the disk has, in order.
+/// BadMark for the first that is none for its height or is the seventeenth.
+pub(crate) fn read_marks<D: Disk>(
+    alloc: Global,
+    disk: &mut D,
+    heights: &[u64],
+) -> Result<Vec<OpenedMark>, StoreError>
+    requires listed { IsTrue D.tells → IsListing kind.Mark (D.view disk.old).state.files heights.now }
+
+    ensures good { IsTrue D.tells → IfOk result (λ marks. AreGoodMarks (D.view disk.old).state.files (map parts_of marks.items)) }
+    ensures heights { IfOk result (λ marks. map (λ m. m.mark.height) marks.items ≡ heights.now) }
+    ensures few { IfOk result (λ marks. length marks.items ≤ MAX_PUBLISHED) }
+    ensures bad_mark { IsTrue D.tells → (height : ℕ) → IsErrOf result (StoreError.BadMark height) → IsFirstBadMark (D.view disk.old).state.files height }
+    ensures looks { IsTrue D.tells → IfOk result (λ marks. OnlyLooks (sum_by (λ m. length (mark_text m.mark)) marks.items) (D.view disk.old) (D.view disk.new)) }
+    ensures only_looks { IsTrue D.tells → (most : ℕ) × OnlyLooks most (D.view disk.old) (D.view disk.new) }
+    ensures cause { HasCause (D.faults disk.old) (D.faults disk.new) result }
+    ensures no_bad_page { (number : ℕ) → IsErrOf result (StoreError.BadPage number) → ⊥ }
+    ensures no_bad_height { NoBadHeight result }
+{
+    let mut marks = Vec::new(alloc);
+    for height in heights {
+        if marks.len() == MAX_PUBLISHED {
+            return Err(StoreError::BadMark(*height));
+        }
+        marks.push(read_mark(alloc, disk, *height)?)?;
+    }
+    Ok(marks)
+}
+
+// Reads the mark of this height. BadMark where there is none.
+fn read_mark<D: Disk>(alloc: Global, disk: &mut D, height: u64) -> Result<OpenedMark, StoreError>
+    ensures spelled { IsTrue D.tells → IfOk result (λ m. SpellsMark (D.view disk.old).state.files height m.mark (part_of m.system)) }
+    ensures height { IfOk result (λ m. m.mark.height ≡ height) }
+    ensures bad { IsTrue D.tells → (n : ℕ) → IsErrOf result (StoreError.BadMark n) → HasGoodMark (D.view disk.old).state.files height → ⊥ }
+    ensures number { (n : ℕ) → IsErrOf result (StoreError.BadMark n) → n ≡ height }
+    ensures looks { IsTrue D.tells → IfOk result (λ m. OnlyLooks (length (mark_text m.mark)) (D.view disk.old) (D.view disk.new)) }
+    ensures only_looks { IsTrue D.tells → (most : ℕ) × OnlyLooks most (D.view disk.old) (D.view disk.new) }
+    ensures cause { HasCause (D.faults disk.old) (D.faults disk.new) result }
+    ensures no_bad_page { (number : ℕ) → IsErrOf result (StoreError.BadPage number) → ⊥ }
+    ensures no_bad_height { NoBadHeight result }
+{
+    match read_text(alloc, disk, height)? {
+        Some(text) => spelled_mark(alloc, height, &text),
+        None => Err(StoreError::BadMark(height)),
+    }
+}
+
+// The bytes of the mark of this height. `None` where there are none.
+fn read_text<D: Disk>(
+    alloc: Global,
+    disk: &mut D,
+    height: u64,
+) -> Result<Option<Vec<u8>>, StoreError>
+    ensures text { IsTrue D.tells → IfOk result (λ text. option_map (λ bytes. bytes.items) text ≡ (D.view disk.old).state.files (name.Mark height)) }
+    ensures looks { IsTrue D.tells → IfOk result (λ text. IfSome text (λ bytes. OnlyLooks (length bytes.items) (D.view disk.old) (D.view disk.new))) }
+    ensures only_looks { IsTrue D.tells → (most : ℕ) × OnlyLooks most (D.view disk.old) (D.view disk.new) }
+    ensures cause { HasCause (D.faults disk.old) (D.faults disk.new) result }
+    ensures no_bad_file { NoBadFile result }
+    ensures no_bad_height { NoBadHeight result }
+{
+    let name = Name::Mark(height);
+    match disk.size(alloc, name)? {
+        Some(size) => {
+            let mut text = vec![in alloc; 0; size as usize]?;
+            disk.read(alloc, name, 0, &mut text)?;
+            Ok(Some(text))
+        }
+        None => Ok(None),
+    }
+}
+
+// The mark of this height that the bytes spell, with what its system text spells. BadMark where they spell none.
+fn spelled_mark(alloc: Global, height: u64, text: &[u8]) -> Result<OpenedMark, StoreError>
+    ensures spelled { IfOk result (λ m. IsMarkText height text.now m.mark (part_of m.system)) }
+    ensures bad { (n : ℕ) → IsErrOf result (StoreError.BadMark n) → (m : Marked) (s : SystemPart) → IsMarkText height text.now m s → ⊥ }
+    ensures others { IfErr result (λ e. (e ≡ StoreError.BadMark height) ⊎ (e ≡ StoreError.Memory)) }
+{
+    match Mark::decode(alloc, height, text) {
+        Ok(mark) => Ok(with_system(alloc, mark)?),
+        Err(MarkError::BadMark(_)) => Err(StoreError::BadMark(height)),
+        Err(MarkError::Memory) => Err(StoreError::Memory),
+    }
+}
+
+// This mark of a state, with what its system text spells.
+fn with_system(alloc: Global, mark: Mark) -> Result<OpenedMark, NoMemory>
+    requires { (s : SystemPart) × IsMark mark s }
+    ensures mark { IfOk result (λ m. m.mark ≡ mark) }
+    ensures good { IfOk result (λ m. IsMark mark (part_of m.system)) }
+{
+    match SysState::decode(alloc, mark.system.bytes(), mark.height) {
+        Ok(sys) => Ok(OpenedMark { mark, sys }),
+        Err(error) => match error {
+            SysError::Memory => Err(NoMemory),
+            _ => unreachable!(),
+        },
+    }
+}

@@ -1,0 +1,175 @@
+//! Opening a disk.
+
+ghost use Rattle.std.specs.Prelude.{◌≡◌, ℕ, List, None, is_some, nat_eq, true, IsTrue, OnOk, OnErr, IfOk, IfErr, IsErrOf};
+ghost use Rattle.std.specs.List.{list_any, AllByRecursion};
+ghost use Rattle.std.specs.List.Sorted.{IsStrictlyIncreasing};
+ghost use Rattle.store_spec.specs.Image.{Published, StandsFor, Opens};
+ghost use Rattle.disk_model.specs.declared.name.Kind.TheVariants as kind;
+ghost use Rattle.disk_model.specs.declared.name.Name.{Name};
+ghost use Rattle.disk_model.specs.declared.name.Name.TheVariants as name;
+ghost use Rattle.disk_model.specs.Files.{IsListing};
+ghost use Rattle.disk_model.specs.Frame.{TouchesOnly};
+ghost use Rattle.disk_model.specs.Looking.{OnlyLooks};
+ghost use Rattle.disk_model.specs.State.{IsSettled, IsImageNow};
+ghost use Rattle.disk_model.specs.View.{EachImage, LeavesOnly};
+ghost use Rattle.height_store.specs.Bad.{IsFirstBadMark, IsFirstBadPage};
+ghost use Rattle.height_store.specs.Errors.{HasCause, NoBadFile, NoBadHeight, IsBadFile};
+ghost use Rattle.height_store.specs.Found.{IsFound, is_stray};
+ghost use Rattle.height_store.specs.Kept.{IsOver, KeepsHeights, StandsForSome, StandsAsBefore};
+ghost use Rattle.height_store.specs.Opened.{ReadsAtMost};
+ghost use Rattle.height_store.specs.Store.{IsHeight, numbers_of, is_named};
+
+use crate::error::StoreError;
+use crate::marks::read_marks;
+use crate::pages::{heights_of, open_pages};
+use crate::store::HeightStore;
+use crate::sweeping::sweep;
+use byte_codec::NoMemory;
+use disk_model::{Disk, Kind};
+use page_file::PageFile;
+use std::alloc::Global;
+
+impl HeightStore {
+    /// Opens a disk: settles it, reads its marks by height and the indices of the page files that they name by number,
+    /// and removes every page file that no mark names, every draft and every stage file. No page is read.
+    ///
+    /// BadMark for the first mark by height that is none for its height or is the seventeenth; where all marks are good,
+    /// BadPage for the first page file by number that a mark names and that is absent, is none or has more memory pages than
+    /// the memory. Nothing is removed then. Fault where the disk failed, Memory where memory ran out.
+    ///
+    /// Where every image on entry stands for some heights, every image since stands for heights that one on entry stands for;
+    /// and after Ok every image stands for the heights that the disk reads.
+    pub fn open<D: Disk>(alloc: Global, disk: &mut D) -> Result<HeightStore, StoreError>
+        ensures over { IsTrue D.tells → IfOk result (λ store. IsOver store (D.view disk.new).state.files) }
+        ensures settled { IsTrue D.tells → OnOk result (IsSettled (D.view disk.new).state) }
+        ensures bad_mark { IsTrue D.tells → (height : ℕ) → IsErrOf result (StoreError.BadMark height) → IsFirstBadMark (D.view disk.old).state.files height }
+        ensures bad_page { IsTrue D.tells → (number : ℕ) → IsErrOf result (StoreError.BadPage number) → IsFirstBadPage (D.view disk.old).state.files number }
+        ensures bad_keeps { IsTrue D.tells → IsBadFile result → LeavesOnly (D.view disk.old) (D.view disk.new) (IsImageNow (D.view disk.old).state) }
+        ensures stands { IsTrue D.tells → (ps : List Published)
+            → EachImage (D.view disk.old).state StandsForSome → StandsFor (D.view disk.old).state.files ps
+            → IfOk result (λ store. KeepsHeights store.heights (D.view disk.new).state ps) }
+        ensures images { IsTrue D.tells
+            → EachImage (D.view disk.old).state StandsForSome
+            → LeavesOnly (D.view disk.old) (D.view disk.new) (StandsAsBefore (D.view disk.old).state) }
+        ensures opens { IsTrue D.tells → OnOk result (Opens (D.view disk.old).state.files) }
+        ensures marks { IsTrue D.tells → OnOk result ((n : ℕ) → (D.view disk.new).state.files (name.Mark n) ≡ (D.view disk.old).state.files (name.Mark n)) }
+        ensures pages { IsTrue D.tells → IfOk result (λ store. (n : ℕ) → is_some ((D.view disk.new).state.files (name.Page n)) ≡ is_named store.heights n) }
+        ensures no_stage { IsTrue D.tells → OnOk result ((n : ℕ) → (D.view disk.new).state.files (name.Stage n) ≡ None) }
+        ensures named { IfOk result (λ store. (n : ℕ) → list_any (nat_eq n) store.named ≡ is_named store.heights n) }
+        ensures next { IfOk result (λ store. (store.given ≡ 0) × (store.next ≡ 0)) }
+        ensures read { IsTrue D.tells → IfOk result (λ store. ReadsAtMost (D.view disk.old).state.files store (D.view disk.old).bytes_read (D.view disk.new).bytes_read) }
+        ensures appended { IsTrue D.tells → OnOk result ((D.view disk.new).appended ≡ (D.view disk.old).appended) }
+        ensures cause { HasCause (D.faults disk.old) (D.faults disk.new) result }
+        ensures no_bad_height { NoBadHeight result }
+    {
+        disk.settle(alloc)?;
+        let lists = list_all(alloc, disk)?;
+        let store = read_store(alloc, disk, &lists.marks)?;
+        sweep_strays(alloc, disk, &lists, store.named())?;
+        Ok(store)
+    }
+}
+
+// The numbers of all files, by kind.
+#[derive(Drop)]
+struct Lists {
+    marks: Vec<u64>,
+    pages: Vec<u64>,
+    drafts: Vec<u64>,
+    stages: Vec<u64>,
+}
+
+// Lists all files.
+fn list_all<D: Disk>(alloc: Global, disk: &mut D) -> Result<Lists, StoreError>
+    ensures marks { IsTrue D.tells → IfOk result (λ lists. IsListing kind.Mark (D.view disk.old).state.files lists.marks.items) }
+    ensures pages { IsTrue D.tells → IfOk result (λ lists. IsListing kind.Page (D.view disk.old).state.files lists.pages.items) }
+    ensures drafts { IsTrue D.tells → IfOk result (λ lists. IsListing kind.Draft (D.view disk.old).state.files lists.drafts.items) }
+    ensures stages { IsTrue D.tells → IfOk result (λ lists. IsListing kind.Stage (D.view disk.old).state.files lists.stages.items) }
+    ensures looks { IsTrue D.tells → OnlyLooks 0 (D.view disk.old) (D.view disk.new) }
+    ensures cause { HasCause (D.faults disk.old) (D.faults disk.new) result }
+    ensures no_bad_file { NoBadFile result }
+    ensures no_bad_height { NoBadHeight result }
+{
+    Ok(Lists {
+        marks: disk.list(alloc, Kind::Mark)?,
+        pages: disk.list(alloc, Kind::Page)?,
+        drafts: disk.list(alloc, Kind::Draft)?,
+        stages: disk.list(alloc, Kind::Stage)?,
+    })
+}
+
+// Reads the marks of these heights, which are all that the disk has, and opens the page files that they name. No number was given yet.
+fn read_store<D: Disk>(
+    alloc: Global,
+    disk: &mut D,
+    heights: &[u64],
+) -> Result<HeightStore, StoreError>
+    requires listed { IsTrue D.tells → IsListing kind.Mark (D.view disk.old).state.files heights.now }
+
+    ensures found { IsTrue D.tells → IfOk result (λ store. IsFound store (D.view disk.old).state.files) }
+    ensures good { IfOk result (λ store. AllByRecursion IsHeight store.heights) }
+    ensures bad_mark { IsTrue D.tells → (height : ℕ) → IsErrOf result (StoreError.BadMark height) → IsFirstBadMark (D.view disk.old).state.files height }
+    ensures bad_page { IsTrue D.tells → (number : ℕ) → IsErrOf result (StoreError.BadPage number) → IsFirstBadPage (D.view disk.old).state.files number }
+    ensures named { IfOk result (λ store. (n : ℕ) → list_any (nat_eq n) store.named ≡ is_named store.heights n) }
+    ensures next { IfOk result (λ store. (store.given ≡ 0) × (store.next ≡ 0)) }
+    ensures opens { IsTrue D.tells → OnOk result (Opens (D.view disk.old).state.files) }
+    ensures read { IsTrue D.tells → IfOk result (λ store. ReadsAtMost (D.view disk.old).state.files store (D.view disk.old).bytes_read (D.view disk.new).bytes_read) }
+    ensures only_looks { IsTrue D.tells → (most : ℕ) × OnlyLooks most (D.view disk.old) (D.view disk.new) }
+    ensures cause { HasCause (D.faults disk.old) (D.faults disk.new) result }
+    ensures no_bad_height { NoBadHeight result }
+{
+    check_order(heights)?;
+    let marks = read_marks(alloc, disk, heights)?;
+    let files = open_pages(alloc, disk, &marks)?;
+    let named = numbers(alloc, &files)?;
+    let heights = heights_of(alloc, marks, &files)?;
+    Ok(HeightStore::new(heights, named))
+}
+
+// The numbers of page files.
+fn numbers(alloc: Global, files: &[PageFile]) -> Result<Vec<u64>, NoMemory>
+    ensures { IfOk result (λ numbers. numbers.items ≡ numbers_of files.now) }
+{
+    let numbers = files.iter().map(|file| file.number()).collect(alloc)?;
+    Ok(numbers)
+}
+
+// BadMark for the first height that isn't above the one before it: no disk that tells its files lists one.
+fn check_order(heights: &[u64]) -> Result<(), StoreError>
+    ensures ascends { OnOk result (IsStrictlyIncreasing heights.now) }
+    ensures only { OnErr result (IsStrictlyIncreasing heights.now → ⊥) }
+    ensures bad_mark { IfErr result (λ e. (height : ℕ) × (e ≡ StoreError.BadMark height)) }
+{
+    for i in 1..heights.len() {
+        if heights[i] <= heights[i - 1] {
+            return Err(StoreError::BadMark(heights[i]));
+        }
+    }
+    Ok(())
+}
+
+// Removes all files but the marks and the page files of these numbers, which ascend. The lists have all files that there are.
+fn sweep_strays<D: Disk>(
+    alloc: Global,
+    disk: &mut D,
+    lists: &Lists,
+    named: &[u64],
+) -> Result<(), StoreError>
+    requires pages { IsTrue D.tells → IsListing kind.Page (D.view disk.old).state.files lists.now.pages.items }
+    requires drafts { IsTrue D.tells → IsListing kind.Draft (D.view disk.old).state.files lists.now.drafts.items }
+    requires stages { IsTrue D.tells → IsListing kind.Stage (D.view disk.old).state.files lists.now.stages.items }
+    requires ascends { IsStrictlyIncreasing named.now }
+
+    ensures gone { IsTrue D.tells → OnOk result ((q : Name) → is_stray named.now q ≡ true → (D.view disk.new).state.files q ≡ None) }
+    ensures touches { IsTrue D.tells → TouchesOnly (is_stray named.now) (D.view disk.old) (D.view disk.new) }
+    ensures settled { IsTrue D.tells → OnOk result (IsSettled (D.view disk.old).state → IsSettled (D.view disk.new).state) }
+    ensures appended { IsTrue D.tells → OnOk result ((D.view disk.new).appended ≡ (D.view disk.old).appended) }
+    ensures read { IsTrue D.tells → (D.view disk.new).bytes_read ≡ (D.view disk.old).bytes_read }
+    ensures cause { HasCause (D.faults disk.old) (D.faults disk.new) result }
+    ensures no_bad_file { NoBadFile result }
+    ensures no_bad_height { NoBadHeight result }
+{
+    sweep(alloc, disk, Kind::Page, &lists.pages, named)?;
+    sweep(alloc, disk, Kind::Draft, &lists.drafts, &[])?;
+    sweep(alloc, disk, Kind::Stage, &lists.stages, &[])
+}

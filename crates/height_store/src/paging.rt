@@ -1,0 +1,57 @@
+//! Reading pages of published heights.
+
+ghost use Rattle.std.specs.Prelude.{◌≡◌, ◌↔◌, ◌<◌, List, Err, Some, reverse, slice_get, is_some, false, IsTrue, OnOk, IfSome, IsSomeAnd};
+ghost use Rattle.format_spec.specs.declared.limits.TheConstants.{PAGE_SIZE};
+ghost use Rattle.state_spec.specs.Files.{memories_in};
+ghost use Rattle.sys_state.specs.System.{part_of};
+ghost use Rattle.store_spec.specs.Image.{Layer, page_from};
+ghost use Rattle.disk_model.specs.Looking.{OnlyLooks};
+ghost use Rattle.page_file.specs.Files.{NumberedFile};
+ghost use Rattle.layer_stack.specs.Stacks.{AreLayers};
+ghost use Rattle.height_store.specs.Errors.{HasCause, NoBadFile};
+ghost use Rattle.height_store.specs.Kept.{IsOver};
+ghost use Rattle.height_store.specs.Store.{StoredHeight, height_at};
+
+use crate::error::StoreError;
+use crate::store::HeightStore;
+use disk_model::Disk;
+use page_file::PageBytes;
+use std::alloc::Global;
+
+impl HeightStore {
+    /// Reads a page of the memory at a place of a published height, in the order of files: that of the newest page file that
+    /// has it, else zeros. The page is one of the memory's.
+    ///
+    /// NoHeight exactly where the height is not published, Fault where the disk failed, Memory where memory ran out; `into` has
+    /// any bytes then.
+    pub fn page_of<D: Disk>(
+        &self,
+        alloc: Global,
+        height: u64,
+        file: u32,
+        page: u32,
+        disk: &mut D,
+        into: &mut PageBytes,
+    ) -> Result<(), StoreError>
+        requires over { IsTrue D.tells → IsOver self.now (D.view disk.old).state.files }
+        requires within { IfSome (height_at self.now.heights height) (λ h. IsSomeAnd (slice_get (memories_in (part_of h.system)) file) (λ m. page < m.1)) }
+
+        ensures no_height { (result ≡ Err StoreError.NoHeight) ↔ (is_some (height_at self.now.heights height) ≡ false) }
+        ensures page { IsTrue D.tells → (h : StoredHeight) (stack : List NumberedFile) (layers : List Layer)
+            → height_at self.now.heights height ≡ Some h → slice_get h.stacks file ≡ Some stack
+            → AreLayers (D.view disk.old).state.files stack layers
+            → OnOk result (into.new ≡ page_from (reverse layers) page) }
+        ensures looks { IsTrue D.tells → OnlyLooks PAGE_SIZE (D.view disk.old) (D.view disk.new) }
+        ensures cause { HasCause (D.faults disk.old) (D.faults disk.new) result }
+        ensures no_bad_file { NoBadFile result }
+        ensures last_height { result ≡ Err StoreError.LastHeight → ⊥ }
+    {
+        match self.find(height) {
+            None => Err(StoreError::NoHeight),
+            Some(found) => {
+                let _found = found.stacks[file as usize].read(alloc, disk, page, into)?;
+                Ok(())
+            }
+        }
+    }
+}

@@ -1,0 +1,180 @@
+//! The published heights of a disk.
+
+ghost use Rattle.std.specs.Prelude.{◌≡◌, ℕ, ◌==◌, ◌+◌, ◌<◌, ◌≤◌, ◌^◌, length, slice_index_or, option_map};
+ghost use Rattle.std.specs.List.{AllPairs};
+ghost use Rattle.std.specs.List.Sorted.{IsStrictlyIncreasing};
+ghost use Rattle.std.specs.Option.{option_copied};
+ghost use Rattle.format_spec.specs.declared.limits.TheConstants.{MAX_PUBLISHED};
+ghost use Rattle.height_store.specs.Store.{StoredHeight, IsNextFree, heights_in, height_at, stack_at};
+
+use layer_stack::Stack;
+use mark_file::Mark;
+use std::marker::Model;
+use sys_state::SysState;
+
+/// A published height: its mark, what the system text of it spells, and the page files of its memories.
+#[derive(Drop)]
+pub struct PublishedHeight {
+    pub(crate) mark: Mark,
+    pub(crate) sys: SysState,
+    pub(crate) stacks: Vec<Stack>,
+}
+
+// Contracts see the three.
+impl Model for PublishedHeight {
+    ghost use Rattle.height_store.specs.Store.{StoredHeight, IsHeight};
+
+    ghost Value = { StoredHeight };
+
+    ghost view = { λ h. record { mark = h.mark; system = h.sys; stacks = h.stacks.items } };
+
+    ghost invariant = { λ h. IsHeight (record { mark = h.mark; system = h.sys; stacks = h.stacks.items }) };
+}
+
+/// The published heights of a disk, and which numbers page files may still get. After Fault or Memory in a call that
+/// changes the disk it is given up, and the disk is opened again.
+#[derive(Drop)]
+pub struct HeightStore {
+    // Ascending.
+    pub(crate) heights: Vec<PublishedHeight>,
+    // The numbers that marks named at opening, ascending.
+    named: Vec<u64>,
+    // How many numbers were given since.
+    given: u64,
+    // No number below this one is given again.
+    next: u64,
+}
+
+// Contracts see the three.
+impl Model for HeightStore {
+    ghost use Rattle.height_store.specs.Store.{Store, IsStore};
+
+    ghost Value = { Store };
+
+    ghost view = { λ store. record { heights = store.heights.items; named = store.named.items; given = store.given; next = store.next } };
+
+    ghost invariant = { λ store. IsStore (record { heights = store.heights.items; named = store.named.items; given = store.given; next = store.next }) };
+}
+
+impl HeightStore {
+    // A store of these heights, whose marks name the page files of these numbers. No number was given yet.
+    pub(crate) fn new(heights: Vec<PublishedHeight>, named: Vec<u64>) -> HeightStore
+        requires ascends { IsStrictlyIncreasing (heights_in heights.items) }
+        requires few { length heights.items ≤ MAX_PUBLISHED }
+        requires named_ascends { IsStrictlyIncreasing named.items }
+        ensures { result ≡ record { heights = heights.items; named = named.items; given = 0; next = 0 } }
+    {
+        HeightStore {
+            heights,
+            named,
+            given: 0,
+            next: 0,
+        }
+    }
+
+    // The numbers that marks named at opening.
+    pub(crate) fn named(&self) -> &[u64]
+        ensures named { result.now ≡ self.now.named }
+        ensures ascends { IsStrictlyIncreasing result.now }
+    {
+        &self.named
+    }
+
+    /// How many heights are published: 16 at most, and they ascend.
+    pub fn count(&self) -> u32
+        ensures count { result ≡ length self.now.heights }
+        ensures few { result ≤ MAX_PUBLISHED }
+        ensures ascend { IsStrictlyIncreasing (heights_in self.now.heights) }
+    {
+        self.heights.len() as u32
+    }
+
+    /// The published height at this place, counted from 0, of as many as there are, in ascending order.
+    pub fn height(&self, i: u32) -> u64
+        requires { i < length self.now.heights }
+        ensures { (other : StoredHeight) → result ≡ (slice_index_or self.now.heights i other).mark.height }
+    {
+        self.heights[i as usize].mark.height
+    }
+
+    // What is kept of a height. `None` exactly where it is not published.
+    pub(crate) fn find(&self, height: u64) -> Option<&PublishedHeight>
+        ensures { option_copied result ≡ height_at self.now.heights height }
+    {
+        self.heights.iter().find(|h| h.mark.height == height)
+    }
+
+    /// The mark of a height. `None` exactly where it is not published.
+    pub fn mark(&self, height: u64) -> Option<&Mark>
+        ensures { option_copied result ≡ option_map (λ h. h.mark) (height_at self.now.heights height) }
+    {
+        match self.find(height) {
+            Some(found) => Some(&found.mark),
+            None => None,
+        }
+    }
+
+    /// What the system text of a height's mark spells, each canister being born at that height. `None` exactly where it
+    /// is not published.
+    pub fn sys(&self, height: u64) -> Option<&SysState>
+        ensures { option_copied result ≡ option_map (λ h. h.system) (height_at self.now.heights height) }
+    {
+        match self.find(height) {
+            Some(found) => Some(&found.sys),
+            None => None,
+        }
+    }
+
+    /// The page files of the memory at a place of a height, in the order of files. `None` exactly where the height is
+    /// not published or has no such memory.
+    pub fn stack(&self, height: u64, i: u32) -> Option<&Stack>
+        ensures { option_copied result ≡ stack_at self.now.heights height i }
+    {
+        match self.find(height) {
+            Some(found) => found.stacks.get(i as usize),
+            None => None,
+        }
+    }
+
+    /// A number for a page file: the least one that no mark named at opening and that was not given since. Fewer than
+    /// 2^61 were given.
+    pub fn next_number(&mut self) -> u64
+        requires { self.old.given < 2 ^ 61 }
+        ensures number { IsNextFree self.old.named self.old.next result }
+        ensures store { self.new ≡ record self.old { given = self.old.given + 1; next = result + 1 } }
+    {
+        let below = count_below(&self.named, self.next);
+        let number = first_free(&self.named[below..], self.next);
+        self.given += 1;
+        self.next = number + 1;
+        number
+    }
+}
+
+// How many of these numbers, which ascend, are below this one.
+fn count_below(numbers: &[u64], from: u64) -> usize
+    requires { (i j d : ℕ) → i ≤ j → j < length numbers.now → slice_index_or numbers.now i d ≤ slice_index_or numbers.now j d }
+    ensures count { result ≤ length numbers.now }
+    ensures below { (k d : ℕ) → k < result → slice_index_or numbers.now k d < from }
+    ensures others { (k d : ℕ) → result ≤ k → k < length numbers.now → from ≤ slice_index_or numbers.now k d }
+{
+    numbers.partition_point(|number| *number < from)
+}
+
+// The least number from this one on that is none of these, which ascend from there on.
+fn first_free(numbers: &[u64], from: u64) -> u64
+    requires ascend { AllPairs (λ m n. m < n) numbers.now }
+    requires from { (k d : ℕ) → k < length numbers.now → from ≤ slice_index_or numbers.now k d }
+    requires room { from + length numbers.now < 2 ^ 64 }
+    ensures free { IsNextFree numbers.now from result }
+    ensures near { result ≤ from + length numbers.now }
+{
+    let mut free = from;
+    for number in numbers {
+        if *number != free {
+            return free;
+        }
+        free += 1;
+    }
+    free
+}

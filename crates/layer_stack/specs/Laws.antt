@@ -1,0 +1,34 @@
+-- What is so of layers, by the definitions alone.
+use Rattle.std.specs.Prelude.{◌≡◌, List, [], ◌∷◌, refl}
+use Rattle.std.proofs.Common.{◌∙◌}
+use Rattle.std.specs.List.{AllByRecursion}
+use Rattle.store_spec.specs.Image.{Layer}
+use Rattle.disk_model.specs.declared.name.Name.TheVariants.{Page}
+use Rattle.disk_model.specs.Files.{Files}
+use Rattle.page_file.specs.Files.{NumberedFile, IsKept}
+use Rattle.layer_stack.specs.Stacks.{IsLayer, AreLayers}
+
+-- Layers depend on the page files that the stack names alone.
+pub layers_in_others : (f g : Files) (stack : List NumberedFile) (layers : List Layer) → AllByRecursion (λ file. g (Page file.number) ≡ f (Page file.number)) stack → AreLayers f stack layers → AreLayers g stack layers
+layers_in_others f g [] [] same are = tt
+layers_in_others f g [] (l ∷ ls) same are = are
+layers_in_others f g (file ∷ stack) [] same are = are
+layers_in_others f g (file ∷ stack) (l ∷ ls) same are = (moved, layers_in_others f g stack ls same.1 are.1)
+  where
+    moved : IsLayer g file l
+    moved = let has = are.0.there in record {
+      index = are.0.index;
+      there = record { text = has.text; there = same.0 ∙ has.there; good = has.good };
+    }
+
+-- Where each page file is there as it is known, they have layers.
+pub kept_have_layers : (files : Files) (stack : List NumberedFile) → AllByRecursion (IsKept files) stack → (layers : List Layer) × AreLayers files stack layers
+kept_have_layers files [] kept = ([], tt)
+kept_have_layers files (file ∷ stack) kept =
+    let rest = kept_have_layers files stack kept.1 in (record { index = file.index; pages = kept.0.0 } ∷ rest.0, (record { index = refl; there = kept.0.1 }, rest.1))
+
+-- Where they have layers, each is there as it is known.
+pub layers_are_kept : (files : Files) (stack : List NumberedFile) (layers : List Layer) → AreLayers files stack layers → AllByRecursion (IsKept files) stack
+layers_are_kept files [] layers are = tt
+layers_are_kept files (file ∷ stack) [] are = absurd are
+layers_are_kept files (file ∷ stack) (l ∷ ls) are = ((l.pages, are.0.there), layers_are_kept files stack ls are.1)
