@@ -13,3 +13,4 @@ pub mod Since
 pub mod StacksFound
 pub mod Strays
 pub mod Swept
+pub mod Newest

@@ -1,11 +1,11 @@
 //! The published heights of a disk.
 
-ghost use Rattle.std.specs.Prelude.{◌≡◌, ℕ, ◌==◌, ◌+◌, ◌<◌, ◌≤◌, ◌^◌, length, slice_index_or, option_map};
-ghost use Rattle.std.specs.List.{AllPairs};
+ghost use Rattle.std.specs.Prelude.{◌≡◌, ℕ, ◌==◌, ◌+◌, ◌<◌, ◌≤◌, ◌^◌, length, slice_index_or, option_map, None, IfSome};
+ghost use Rattle.std.specs.List.{AllPairs, last_or};
 ghost use Rattle.std.specs.List.Sorted.{IsStrictlyIncreasing};
 ghost use Rattle.std.specs.Option.{option_copied};
-ghost use Rattle.format_spec.specs.declared.limits.TheConstants.{MAX_PUBLISHED};
-ghost use Rattle.height_store.specs.Store.{StoredHeight, IsNextFree, heights_in, height_at, stack_at};
+ghost use Rattle.format_spec.specs.declared.limits.TheConstants.{MAX_PUBLISHED, MAX_HEIGHT};
+ghost use Rattle.height_store.specs.Store.{StoredHeight, IsHeight, IsNextFree, heights_in, height_at, stack_at};
 
 use layer_stack::Stack;
 use mark_file::Mark;
@@ -97,6 +97,19 @@ impl HeightStore {
         self.heights[i as usize].mark.height
     }
 
+    /// The newest published height. `None` exactly where none is published.
+    pub fn newest(&self) -> Option<u64>
+        ensures newest { result ≡ last_or None (heights_in self.now.heights) }
+        ensures ascends { IsStrictlyIncreasing (heights_in self.now.heights) }
+        ensures from_one { IfSome result (λ height. 1 ≤ height) }
+        ensures at_most { IfSome result (λ height. height ≤ MAX_HEIGHT) }
+    {
+        match self.heights.last() {
+            Some(newest) => Some(newest.mark.height),
+            None => None,
+        }
+    }
+
     // What is kept of a height. `None` exactly where it is not published.
     pub(crate) fn find(&self, height: u64) -> Option<&PublishedHeight>
         ensures { option_copied result ≡ height_at self.now.heights height }
@@ -106,7 +119,8 @@ impl HeightStore {
 
     /// The mark of a height. `None` exactly where it is not published.
     pub fn mark(&self, height: u64) -> Option<&Mark>
-        ensures { option_copied result ≡ option_map (λ h. h.mark) (height_at self.now.heights height) }
+        ensures mark { option_copied result ≡ option_map (λ h. h.mark) (height_at self.now.heights height) }
+        ensures good { IfSome (height_at self.now.heights height) IsHeight }
     {
         match self.find(height) {
             Some(found) => Some(&found.mark),
