@@ -48,6 +48,7 @@ impl HeightStore {
         requires kept { IsTrue D.tells → AllByRecursion (AllByRecursion (IsKept (D.view disk.old).state.files)) stacks.items }
 
         ensures gains { OnOk result (Gains self.old mark stacks.items self.new) }
+        ensures given { self.new.given ≡ self.old.given }
         ensures over { IsTrue D.tells → OnOk result (IsOver self.new (D.view disk.new).state.files) }
         ensures stands { IsTrue D.tells → (ps : List Published) (s : SystemPart) (p : Published)
             → IsSettled (D.view disk.old).state → KeepsHeights self.old.heights (D.view disk.old).state ps
@@ -91,6 +92,7 @@ impl HeightStore {
         ensures last_height { (result ≡ Err StoreError.LastHeight) ↔ IsTrue (is_newest self.old.heights height) }
         ensures refused { IsErrOf result StoreError.NoHeight ⊎ IsErrOf result StoreError.LastHeight → (self.new ≡ self.old) × (disk.new ≡ disk.old) }
         ensures store { OnOk result (self.new ≡ record self.old { heights = without_height self.old.heights height }) }
+        ensures given { self.new.given ≡ self.old.given }
         ensures over { IsTrue D.tells → OnOk result (IsOver self.new (D.view disk.new).state.files) }
         ensures stands { IsTrue D.tells → (ps : List Published)
             → IsSettled (D.view disk.old).state → KeepsHeights self.old.heights (D.view disk.old).state ps
