@@ -6,6 +6,7 @@ use Rattle.state_spec.specs.State.{State, system_of}
 use Rattle.state_spec.specs.Manifest.{manifest_of}
 use Rattle.state_spec.specs.ManifestText.{manifest_text}
 use Rattle.state_spec.specs.Root.{meta_of, root_of}
+use Rattle.store_spec.specs.Image.{heights_of}
 use Rattle.script_text.specs.declared.command.HeightOrLive.{HeightOrLive}
 use Rattle.script_text.specs.declared.reply.Reply.{Reply}
 use Rattle.script_text.specs.declared.reply.Reply.TheVariants.{Fine, Heights, Root, Manifest, Round, Tree}
@@ -36,9 +37,9 @@ forget_step m h =
     ∷ []
     ) m (λ m. answered Fine (record m { memory = without_height h m.memory }))
 
--- `heights`: so far no height is published
+-- `heights`
 abbrev pub heights_step : Machine → Outcome
-heights_step m = answered (Heights m.height (map (λ k. k.0) m.memory) []) m
+heights_step m = answered (Heights m.height (map (λ k. k.0) m.memory) (heights_of m.published)) m
 
 -- `tree HL`
 abbrev pub tree_step : Machine → HeightOrLive → Outcome

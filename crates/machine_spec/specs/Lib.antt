@@ -6,4 +6,5 @@ pub mod Machine
 pub mod Script
 pub mod States
 pub mod Step
+pub mod StoreSteps
 pub mod WitnessSteps

@@ -1,8 +1,10 @@
 -- The plain machine: what it holds between two lines, and how a step is said.
-use Rattle.std.specs.Prelude.{ℕ, ◌==◌, not, Bool, true, false, List, [], ◌∷◌, find, filter, Option, Some, None}
-use Rattle.std.specs.Option.{option_map}
+use Rattle.std.specs.Prelude.{ℕ, ◌+◌, ◌==◌, not, Bool, true, false, List, [], ◌∷◌, find, filter, Option, Some, None}
+use Rattle.std.specs.List.{last_or}
+use Rattle.std.specs.Option.{option_map, option_or}
 use Rattle.format_spec.specs.Bytes.{Bytes}
-use Rattle.state_spec.specs.State.{State, Canister}
+use Rattle.state_spec.specs.State.{State, Canister, system_of, memory_bytes, state_from}
+use Rattle.store_spec.specs.Image.{Published}
 use Rattle.script_text.specs.declared.command.HeightOrLive.{HeightOrLive}
 use Rattle.script_text.specs.declared.command.HeightOrLive.TheVariants.{Live, Height}
 use Rattle.script_text.specs.declared.reply.Reply.{Reply}
@@ -11,15 +13,29 @@ use Rattle.script_text.specs.declared.reply.Refusal.{Refusal}
 use Rattle.script_text.specs.declared.reply.Refusal.TheVariants.{NoCanister, NoHeight}
 use Rattle.machine_spec.specs.States.{empty_state, canister_in}
 
--- the live state and its height, and the states in memory by their heights, ascending
+-- the live state and its height, the states in memory by their heights, and the published heights; both lists ascend
 pub record Machine : Type 0 where
   pub live : State
   pub height : ℕ
   pub memory : List (ℕ × State)
+  pub published : List Published
 
--- the machine of an empty store
-abbrev pub start : Machine
-start = record { live = empty_state; height = 1; memory = [] }
+-- the newest of published heights
+abbrev pub newest : List Published → Option Published
+newest ps = last_or None ps
+
+-- the live state of a store that opens at a height: each birth is the height, and no page has a round
+unfoldable pub opened : Published → State
+opened p = state_from p.state.version p.height (system_of p.state) (memory_bytes p.state)
+
+-- the machine of a store with this newest height
+abbrev pub start_at : Option Published → List Published → Machine
+start_at None ps = record { live = empty_state; height = 1; memory = []; published = ps }
+start_at (Some p) ps = record { live = opened p; height = p.height + 1; memory = []; published = ps }
+
+-- the machine of a store that opens at these heights: it goes on from the newest one, or from nothing
+abbrev pub start : List Published → Machine
+start ps = start_at (newest ps) ps
 
 -- a reply, and the machine after it
 pub record Outcome : Type 0 where
@@ -60,10 +76,14 @@ kept_at h ks = option_map (λ k. k.1) (find (λ k. k.0 == h) ks)
 abbrev pub without_height : ℕ → List (ℕ × State) → List (ℕ × State)
 without_height h ks = filter (λ k. not (k.0 == h)) ks
 
--- the state that a line asks about
+-- the published state at a height
+abbrev pub published_at : ℕ → List Published → Option State
+published_at h ps = option_map (λ p. p.state) (find (λ p. p.height == h) ps)
+
+-- the state that a line asks about: of a height that is published and in memory, the published one
 abbrev pub state_at : Machine → HeightOrLive → Option State
 state_at m Live = Some m.live
-state_at m (Height h) = kept_at h m.memory
+state_at m (Height h) = option_or (published_at h m.published) (kept_at h m.memory)
 
 -- what a step does with the state that a line asks about
 abbrev pub on_state : Machine → HeightOrLive → (State → Outcome) → Outcome

@@ -1,5 +1,5 @@
 -- A whole script, as an empty store answers it.
-use Rattle.std.specs.Prelude.{◌≡◌, List, map}
+use Rattle.std.specs.Prelude.{◌≡◌, List, [], map}
 use Rattle.format_spec.specs.Bytes.{Bytes}
 use Rattle.script_text.specs.Script.{lines}
 use Rattle.script_text.specs.declared.command.Command.{Command}
@@ -15,11 +15,11 @@ turns_of script = map (λ line. record { line = line }) (lines script)
 
 -- what is written for all of a script
 abbrev pub output_of : Bytes → Bytes
-output_of script = answers start (turns_of script)
+output_of script = answers (start []) (turns_of script)
 
 -- the machine once all of a script is answered
 abbrev pub machine_after : Bytes → Machine
-machine_after script = after_turns start (turns_of script)
+machine_after script = after_turns (start []) (turns_of script)
 
 -- a command that is refused leaves the machine as it was
 abbrev pub RefusalKeeps : Machine → Command → Refusal → Type 0

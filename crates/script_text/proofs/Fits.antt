@@ -11,8 +11,8 @@ use Rattle.script_text.specs.declared.command.Command.{Command}
 use Rattle.script_text.specs.declared.command.Command.TheVariants as commands
 use Rattle.script_text.specs.declared.keywords.Keyword.{Keyword}
 use Rattle.script_text.specs.declared.keywords.Keyword.TheVariants.{Canister, Drop, Grow, Write, Module, Certify, Time}
-use Rattle.script_text.specs.declared.keywords.Keyword.TheVariants.{Put, Del, Read, Round, Forget, Heights, Root}
-use Rattle.script_text.specs.declared.keywords.Keyword.TheVariants.{Tree, Manifest, Witness, Check}
+use Rattle.script_text.specs.declared.keywords.Keyword.TheVariants.{Put, Del, Read, Round, Forget, Checkpoint, Heights, Root}
+use Rattle.script_text.specs.declared.keywords.Keyword.TheVariants.{Scratch, Tree, Manifest, Purge, Reset, Witness, Check}
 use Rattle.script_text.specs.Commands.{FitsForm, command_by, command_of, command_of_words, one_word, two_words, three_words, four_words, five_words, no_words, word_and_more}
 use Rattle.script_text.specs.Commands.{module_command_of, certify_of, put_of, read_of, witness_of}
 use Rattle.script_text.specs.Keywords.{keyword_of}
@@ -124,10 +124,14 @@ by_keyword Del rest = one_fits _ (λ path. map_fits FitsForm (λ p. commands.Del
 by_keyword Read rest = five_fits _ read_fits rest
 by_keyword Round rest = none_fits commands.Round tt rest
 by_keyword Forget rest = one_fits _ (λ at. map_fits FitsForm (λ h. commands.Forget h) (height_of at) (any_fits _ (height_of at) (λ h. tt))) rest
+by_keyword Checkpoint rest = none_fits commands.Checkpoint tt rest
 by_keyword Heights rest = none_fits commands.Heights tt rest
 by_keyword Root rest = one_fits _ (λ at. map_fits FitsForm (λ h. commands.Root h) (height_or_live at) (any_fits _ (height_or_live at) (λ h. tt))) rest
+by_keyword Scratch rest = one_fits _ (λ at. map_fits FitsForm (λ h. commands.Scratch h) (height_or_live at) (any_fits _ (height_or_live at) (λ h. tt))) rest
 by_keyword Tree rest = one_fits _ (λ at. map_fits FitsForm (λ h. commands.Tree h) (height_or_live at) (any_fits _ (height_or_live at) (λ h. tt))) rest
 by_keyword Manifest rest = one_fits _ (λ at. map_fits FitsForm (λ h. commands.Manifest h) (height_or_live at) (any_fits _ (height_or_live at) (λ h. tt))) rest
+by_keyword Purge rest = one_fits _ (λ at. map_fits FitsForm (λ h. commands.Purge h) (height_of at) (any_fits _ (height_of at) (λ h. tt))) rest
+by_keyword Reset rest = one_fits _ (λ at. map_fits FitsForm (λ h. commands.Reset h) (height_of at) (any_fits _ (height_of at) (λ h. tt))) rest
 by_keyword Witness rest = more_fits _ witness_fits rest
 by_keyword Check rest = three_fits _ (λ root bytes path. then_fits FitsForm _ (hash_of root) (λ r. then_fits FitsForm _ (hex_of bytes) (λ b. map_fits FitsForm (λ p. commands.Check r b p) (path_of path) (any_fits _ (path_of path) (λ p. tt))))) rest
 

@@ -7,8 +7,8 @@ use Rattle.script_text.specs.declared.command.Command.{Command}
 use Rattle.script_text.specs.declared.command.Command.TheVariants as commands
 use Rattle.script_text.specs.declared.keywords.Keyword.{Keyword}
 use Rattle.script_text.specs.declared.keywords.Keyword.TheVariants.{Canister, Drop, Grow, Write, Module, Certify, Time}
-use Rattle.script_text.specs.declared.keywords.Keyword.TheVariants.{Put, Del, Read, Round, Forget, Heights, Root}
-use Rattle.script_text.specs.declared.keywords.Keyword.TheVariants.{Tree, Manifest, Witness, Check}
+use Rattle.script_text.specs.declared.keywords.Keyword.TheVariants.{Put, Del, Read, Round, Forget, Checkpoint, Heights, Root}
+use Rattle.script_text.specs.declared.keywords.Keyword.TheVariants.{Scratch, Tree, Manifest, Purge, Reset, Witness, Check}
 use Rattle.script_text.specs.Keywords.{keyword_of}
 use Rattle.script_text.specs.Script.{words}
 use Rattle.script_text.specs.Words.{number_of, number_up_to, hex_of, hex_up_to, id_of, mem_of, height_of, height_or_live}
@@ -103,6 +103,10 @@ forget_of height = option_map commands.Forget (height_of height)
 abbrev pub root_of : Bytes → Option Command
 root_of at = option_map commands.Root (height_or_live at)
 
+-- `scratch HL`
+abbrev pub scratch_of : Bytes → Option Command
+scratch_of at = option_map commands.Scratch (height_or_live at)
+
 -- `tree HL`
 abbrev pub tree_of : Bytes → Option Command
 tree_of at = option_map commands.Tree (height_or_live at)
@@ -110,6 +114,14 @@ tree_of at = option_map commands.Tree (height_or_live at)
 -- `manifest HL`
 abbrev pub manifest_of : Bytes → Option Command
 manifest_of at = option_map commands.Manifest (height_or_live at)
+
+-- `purge H`
+abbrev pub purge_of : Bytes → Option Command
+purge_of height = option_map commands.Purge (height_of height)
+
+-- `reset H`
+abbrev pub reset_of : Bytes → Option Command
+reset_of height = option_map commands.Reset (height_of height)
 
 -- `witness HL PATH ..`
 abbrev pub witness_of : Bytes → List Bytes → Option Command
@@ -136,10 +148,14 @@ command_by Del rest = one_word del_of rest
 command_by Read rest = five_words read_of rest
 command_by Round rest = no_words (Some commands.Round) rest
 command_by Forget rest = one_word forget_of rest
+command_by Checkpoint rest = no_words (Some commands.Checkpoint) rest
 command_by Heights rest = no_words (Some commands.Heights) rest
 command_by Root rest = one_word root_of rest
+command_by Scratch rest = one_word scratch_of rest
 command_by Tree rest = one_word tree_of rest
 command_by Manifest rest = one_word manifest_of rest
+command_by Purge rest = one_word purge_of rest
+command_by Reset rest = one_word reset_of rest
 command_by Witness rest = word_and_more witness_of rest
 command_by Check rest = three_words check_of rest
 

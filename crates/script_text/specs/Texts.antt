@@ -6,7 +6,8 @@ use Rattle.format_spec.specs.Bytes.{Bytes}
 use Rattle.script_text.specs.declared.reply.Refusal.{Refusal}
 use Rattle.script_text.specs.declared.reply.Refusal.TheVariants.{Exists, ManyCanisters, NoCanister, MemoryFull, StateFull}
 use Rattle.script_text.specs.declared.reply.Refusal.TheVariants.{Reserved, PathConflict, TreeFull, NoPath, NoHeight, PastEnd}
-use Rattle.script_text.specs.declared.reply.Refusal.TheVariants.{ManyHeights, HeightLimit, BadWitness, WrongRoot}
+use Rattle.script_text.specs.declared.reply.Refusal.TheVariants.{ManyHeights, HeightLimit, HeightLow, ManyMarks, LastHeight}
+use Rattle.script_text.specs.declared.reply.Refusal.TheVariants.{BadWitness, WrongRoot}
 use Rattle.script_text.specs.declared.reply.Reply.{Reply}
 use Rattle.script_text.specs.declared.reply.Reply.TheVariants as replies
 
@@ -34,6 +35,9 @@ refusal_text NoHeight = codes "NoHeight"
 refusal_text PastEnd = codes "PastEnd"
 refusal_text ManyHeights = codes "ManyHeights"
 refusal_text HeightLimit = codes "HeightLimit"
+refusal_text HeightLow = codes "HeightLow"
+refusal_text ManyMarks = codes "ManyMarks"
+refusal_text LastHeight = codes "LastHeight"
 refusal_text (BadWitness place) = codes "BadWitness " ++ decimal place
 refusal_text (WrongRoot found) = codes "WrongRoot " ++ encode_lower found
 
@@ -42,10 +46,13 @@ abbrev pub reply_text : Reply → Bytes
 reply_text replies.Fine = codes "ok"
 reply_text (replies.Bytes bytes) = codes "data " ++ hex_or_dash bytes
 reply_text (replies.Round height tree) = codes "round " ++ decimal height ++ codes " tree " ++ encode_lower tree
+reply_text (replies.Published height root) =
+    codes "published " ++ decimal height ++ codes " root " ++ encode_lower root
 reply_text (replies.Heights live memory published) =
     codes "heights live " ++ decimal live ++ codes " memory " ++ numbers_text memory
     ++ codes " published " ++ numbers_text published
 reply_text (replies.Root root) = codes "root " ++ encode_lower root
+reply_text (replies.Scratch root) = codes "scratch " ++ encode_lower root
 reply_text (replies.Tree root) = codes "tree " ++ encode_lower root
 reply_text (replies.Manifest files chunks pieces bytes) =
     codes "manifest files " ++ decimal files ++ codes " chunks " ++ decimal chunks

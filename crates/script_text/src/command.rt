@@ -73,10 +73,16 @@ pub enum Command {
     Forget {
         height: u64,
     },
+    /// `checkpoint` publishes the newest height in memory.
+    Checkpoint,
     /// `heights` asks which heights there are.
     Heights,
     /// `root HL` asks for the root hash of a state's manifest.
     Root {
+        at: HeightOrLive,
+    },
+    /// `scratch HL` asks for the root hash of a state's manifest, with all bytes read and hashed again.
+    Scratch {
         at: HeightOrLive,
     },
     /// `tree HL` asks for the root hash of a state's tree.
@@ -86,6 +92,14 @@ pub enum Command {
     /// `manifest HL` asks for the sizes of a state's manifest.
     Manifest {
         at: HeightOrLive,
+    },
+    /// `purge H` removes a published height, 1 to 2^62.
+    Purge {
+        height: u64,
+    },
+    /// `reset H` makes the published state of a height, 1 to 2^62, the live one.
+    Reset {
+        height: u64,
     },
     /// `witness HL PATH ..` asks for the part of a state's tree that shows 1 to 64 paths.
     Witness {

@@ -2,7 +2,8 @@
 
 ghost use Rattle.std.specs.Prelude.{◌≡◌, IfOk, map};
 ghost use Rattle.script_text.specs.Commands.{canister_of, drop_of, grow_of, write_of, module_command_of, certify_of};
-ghost use Rattle.script_text.specs.Commands.{time_of, put_of, del_of, read_of, forget_of, root_of, tree_of, manifest_of};
+ghost use Rattle.script_text.specs.Commands.{time_of, put_of, del_of, read_of, forget_of};
+ghost use Rattle.script_text.specs.Commands.{root_of, scratch_of, tree_of, manifest_of, purge_of, reset_of};
 ghost use Rattle.script_text.specs.Commands.{witness_of, check_of};
 
 use crate::command::Command;
@@ -162,6 +163,14 @@ pub fn root(at: &[u8]) -> Option<Command>
     Some(Command::Root { at })
 }
 
+/// `scratch HL`
+pub fn scratch(at: &[u8]) -> Option<Command>
+    ensures { result ≡ scratch_of at.now }
+{
+    let at = read_at(at)?;
+    Some(Command::Scratch { at })
+}
+
 /// `tree HL`
 pub fn tree(at: &[u8]) -> Option<Command>
     ensures { result ≡ tree_of at.now }
@@ -176,6 +185,22 @@ pub fn manifest(at: &[u8]) -> Option<Command>
 {
     let at = read_at(at)?;
     Some(Command::Manifest { at })
+}
+
+/// `purge H`
+pub fn purge(height: &[u8]) -> Option<Command>
+    ensures { result ≡ purge_of height.now }
+{
+    let height = read_height(height)?;
+    Some(Command::Purge { height })
+}
+
+/// `reset H`
+pub fn reset(height: &[u8]) -> Option<Command>
+    ensures { result ≡ reset_of height.now }
+{
+    let height = read_height(height)?;
+    Some(Command::Reset { height })
 }
 
 /// `witness HL PATH ..`

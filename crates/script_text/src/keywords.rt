@@ -1,7 +1,7 @@
 //! The first word of a line.
 
 ghost use Rattle.std.specs.Prelude.{◌≡◌};
-ghost use Rattle.script_text.specs.Keywords.{keyword_of, question_of};
+ghost use Rattle.script_text.specs.Keywords.{keyword_of, height_word_of, question_of};
 
 /// The first word of a line.
 #[derive(Clone, Copy, Debug, PartialEq, Eq)]
@@ -18,10 +18,14 @@ pub enum Keyword {
     Read,
     Round,
     Forget,
+    Checkpoint,
     Heights,
     Root,
+    Scratch,
     Tree,
     Manifest,
+    Purge,
+    Reset,
     Witness,
     Check,
 }
@@ -57,11 +61,27 @@ pub fn read_keyword(word: &[u8]) -> Option<Keyword>
     if word == b"del".as_slice() {
         return Some(Keyword::Del);
     }
+    read_height_word(word)
+}
+
+// The keyword of a line that changes which heights there are, or only asks.
+fn read_height_word(word: &[u8]) -> Option<Keyword>
+    ensures { result ≡ height_word_of word.now }
+{
     if word == b"round".as_slice() {
         return Some(Keyword::Round);
     }
     if word == b"forget".as_slice() {
         return Some(Keyword::Forget);
+    }
+    if word == b"checkpoint".as_slice() {
+        return Some(Keyword::Checkpoint);
+    }
+    if word == b"purge".as_slice() {
+        return Some(Keyword::Purge);
+    }
+    if word == b"reset".as_slice() {
+        return Some(Keyword::Reset);
     }
     read_question(word)
 }
@@ -78,6 +98,9 @@ fn read_question(word: &[u8]) -> Option<Keyword>
     }
     if word == b"root".as_slice() {
         return Some(Keyword::Root);
+    }
+    if word == b"scratch".as_slice() {
+        return Some(Keyword::Scratch);
     }
     if word == b"tree".as_slice() {
         return Some(Keyword::Tree);

@@ -2,7 +2,8 @@
 
 ghost use Rattle.std.specs.Prelude.{◌≡◌, IfOk, IfSome, map, Some};
 ghost use Rattle.script_text.specs.Commands.{canister_of, drop_of, grow_of, write_of, module_command_of, certify_of};
-ghost use Rattle.script_text.specs.Commands.{time_of, put_of, del_of, read_of, forget_of, root_of, tree_of, manifest_of};
+ghost use Rattle.script_text.specs.Commands.{time_of, put_of, del_of, read_of, forget_of};
+ghost use Rattle.script_text.specs.Commands.{root_of, scratch_of, tree_of, manifest_of, purge_of, reset_of};
 ghost use Rattle.script_text.specs.Commands.{witness_of, check_of};
 ghost use Rattle.script_text.specs.Commands.{no_words, one_word, two_words, three_words, four_words, five_words, word_and_more};
 ghost use Rattle.script_text.specs.Commands.{command_by, command_of, FitsForm};
@@ -10,8 +11,8 @@ ghost use Rattle.script_text.specs.Script.{is_silent as is_silent_line};
 
 use crate::command::Command;
 use crate::forms::{
-    canister, certify, check, del, drop, forget, grow, manifest, module, put, read, root, time,
-    tree, witness, write,
+    canister, certify, check, del, drop, forget, grow, manifest, module, purge, put, read, reset,
+    root, scratch, time, tree, witness, write,
 };
 use crate::keywords::{Keyword, read_keyword};
 use crate::words::words_of;
@@ -134,6 +135,16 @@ fn parse_forget(rest: &[&[u8]]) -> Option<Command>
     forget(rest[0])
 }
 
+fn parse_checkpoint(rest: &[&[u8]]) -> Option<Command>
+    ensures { result ≡ no_words (Some Command.Checkpoint) (map (λ word. word.now) rest.now) }
+{
+    if rest.is_empty() {
+        Some(Command::Checkpoint)
+    } else {
+        None
+    }
+}
+
 fn parse_heights(rest: &[&[u8]]) -> Option<Command>
     ensures { result ≡ no_words (Some Command.Heights) (map (λ word. word.now) rest.now) }
 {
@@ -153,6 +164,15 @@ fn parse_root(rest: &[&[u8]]) -> Option<Command>
     root(rest[0])
 }
 
+fn parse_scratch(rest: &[&[u8]]) -> Option<Command>
+    ensures { result ≡ one_word scratch_of (map (λ word. word.now) rest.now) }
+{
+    if rest.len() != 1 {
+        return None;
+    }
+    scratch(rest[0])
+}
+
 fn parse_tree(rest: &[&[u8]]) -> Option<Command>
     ensures { result ≡ one_word tree_of (map (λ word. word.now) rest.now) }
 {
@@ -169,6 +189,24 @@ fn parse_manifest(rest: &[&[u8]]) -> Option<Command>
         return None;
     }
     manifest(rest[0])
+}
+
+fn parse_purge(rest: &[&[u8]]) -> Option<Command>
+    ensures { result ≡ one_word purge_of (map (λ word. word.now) rest.now) }
+{
+    if rest.len() != 1 {
+        return None;
+    }
+    purge(rest[0])
+}
+
+fn parse_reset(rest: &[&[u8]]) -> Option<Command>
+    ensures { result ≡ one_word reset_of (map (λ word. word.now) rest.now) }
+{
+    if rest.len() != 1 {
+        return None;
+    }
+    reset(rest[0])
 }
 
 fn parse_witness(alloc: Global, rest: &[&[u8]]) -> Result<Option<Command>, NoMemory>
@@ -206,10 +244,14 @@ fn parse_by(alloc: Global, keyword: Keyword, rest: &[&[u8]]) -> Result<Option<Co
         Keyword::Read => Ok(parse_read(rest)),
         Keyword::Round => Ok(parse_round(rest)),
         Keyword::Forget => Ok(parse_forget(rest)),
+        Keyword::Checkpoint => Ok(parse_checkpoint(rest)),
         Keyword::Heights => Ok(parse_heights(rest)),
         Keyword::Root => Ok(parse_root(rest)),
+        Keyword::Scratch => Ok(parse_scratch(rest)),
         Keyword::Tree => Ok(parse_tree(rest)),
         Keyword::Manifest => Ok(parse_manifest(rest)),
+        Keyword::Purge => Ok(parse_purge(rest)),
+        Keyword::Reset => Ok(parse_reset(rest)),
         Keyword::Witness => parse_witness(alloc, rest),
         Keyword::Check => parse_check(alloc, rest),
     }

@@ -31,6 +31,12 @@ pub enum Refusal {
     ManyHeights,
     /// The live height is above the greatest at which a state is kept, 2^62.
     HeightLimit,
+    /// `checkpoint`: the height isn't above the newest published one. `reset`: it isn't that one.
+    HeightLow,
+    /// As many heights are published as may be.
+    ManyMarks,
+    /// The height is the newest published one.
+    LastHeight,
     /// The bytes are no witness: the field at this place, in bytes, breaks its rule.
     BadWitness(u64),
     /// The witness has another root hash: this one.
@@ -49,6 +55,11 @@ pub enum Reply {
         height: u64,
         tree: Hash32,
     },
+    /// `published H root HEX`: the height that is published from now on, and the root hash of its state's manifest.
+    Published {
+        height: u64,
+        root: Hash32,
+    },
     /// `heights live L memory A,B published C,D`: the live height, the heights in memory and those published.
     Heights {
         live: u64,
@@ -57,6 +68,8 @@ pub enum Reply {
     },
     /// `root HEX`: the root hash of a state's manifest.
     Root(Hash32),
+    /// `scratch HEX`: the root hash of a state's manifest, from all its bytes.
+    Scratch(Hash32),
     /// `tree HEX`: the root hash of a state's tree.
     Tree(Hash32),
     /// `manifest files F chunks C pieces P bytes N`: what a state's manifest counts.

@@ -14,6 +14,8 @@ pub enum Status {
     WriteFault,
     /// The disk failed.
     DiskFault,
+    /// A published height can't be read: its mark or a page file of it is bad.
+    BadRoot,
     /// A line is too long.
     LongLine,
     /// The script has too many lines.
@@ -33,6 +35,7 @@ impl Status {
             Status::ReadFault => 3,
             Status::WriteFault => 4,
             Status::DiskFault => 5,
+            Status::BadRoot => 6,
             Status::LongLine => 7,
             Status::ManyLines => 8,
             Status::Memory => 9,

@@ -11,6 +11,11 @@ const GOOD: &[&str] = &[
     "round",
     "forget 1",
     "forget 4611686018427387904",
+    "checkpoint",
+    "scratch live",
+    "scratch 3",
+    "purge 1",
+    "reset 4611686018427387904",
     "tree live",
     "tree 3",
     "witness live /a",
@@ -26,6 +31,24 @@ const BAD: &[&str] = &[
     "forget 0",
     "forget live",
     "forget 4611686018427387905",
+    "checkpoint 1",
+    "checkpoint ",
+    "checkpoints",
+    "scratch",
+    "scratch 0",
+    "purge",
+    "purge 0",
+    "purge live",
+    "purge 1 2",
+    "reset",
+    "reset live",
+    "reset 4611686018427387905",
+    "step checkpoint",
+    "merge 00 heap",
+    "layers 00 heap",
+    "sweep",
+    "sync 1 0000000000000000000000000000000000000000000000000000000000000000",
+    "stop sync",
     "tree",
     "tree 0",
     "witness",
@@ -71,6 +94,10 @@ fn check_text(rt: &impl Abort, alloc: Global, reply: &Reply, text: &str) -> Resu
     Ok(())
 }
 
+fn check_refusal(rt: &impl Abort, alloc: Global, refusal: Refusal, text: &str) -> Result<(), Fail> {
+    check_text(rt, alloc, &Reply::Refused(refusal), text)
+}
+
 #[test]
 fn replies_are_written(rt: HostRuntime) -> Result<(), Fail> {
     let alloc = rt.alloc();
@@ -78,16 +105,20 @@ fn replies_are_written(rt: HostRuntime) -> Result<(), Fail> {
     let digits = "abababababababababababababababababababababababababababababababab";
     let round = format!(in alloc; "round 12 tree {digits}")?;
     check_text(&rt, alloc, &Reply::Round { height: 12, tree }, &round)?;
+    let published = format!(in alloc; "published 12 root {digits}")?;
+    let reply = Reply::Published {
+        height: 12,
+        root: tree,
+    };
+    check_text(&rt, alloc, &reply, &published)?;
+    let scratch = format!(in alloc; "scratch {digits}")?;
+    check_text(&rt, alloc, &Reply::Scratch(tree), &scratch)?;
+    check_refusal(&rt, alloc, Refusal::HeightLow, "refused HeightLow")?;
+    check_refusal(&rt, alloc, Refusal::ManyMarks, "refused ManyMarks")?;
+    check_refusal(&rt, alloc, Refusal::LastHeight, "refused LastHeight")?;
     let wrong = format!(in alloc; "refused WrongRoot {digits}")?;
-    let refusal = Refusal::WrongRoot(tree);
-    check_text(&rt, alloc, &Reply::Refused(refusal), &wrong)?;
-    let refusal = Refusal::BadWitness(20);
-    check_text(
-        &rt,
-        alloc,
-        &Reply::Refused(refusal),
-        "refused BadWitness 20",
-    )?;
+    check_refusal(&rt, alloc, Refusal::WrongRoot(tree), &wrong)?;
+    check_refusal(&rt, alloc, Refusal::BadWitness(20), "refused BadWitness 20")?;
     let witness = Blob::from_slice(alloc, &[1, 254])?;
     check_text(&rt, alloc, &Reply::Witness(witness), "witness 01fe")?;
     let nothing = Blob::from_slice(alloc, &[])?;

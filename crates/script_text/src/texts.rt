@@ -102,6 +102,9 @@ fn write_refusal(alloc: Global, refusal: &Refusal, out: &mut Vec<u8>) -> Result<
         Refusal::PastEnd => out.extend_from_slice(b"PastEnd")?,
         Refusal::ManyHeights => out.extend_from_slice(b"ManyHeights")?,
         Refusal::HeightLimit => out.extend_from_slice(b"HeightLimit")?,
+        Refusal::HeightLow => out.extend_from_slice(b"HeightLow")?,
+        Refusal::ManyMarks => out.extend_from_slice(b"ManyMarks")?,
+        Refusal::LastHeight => out.extend_from_slice(b"LastHeight")?,
         Refusal::BadWitness(place) => write_count(b"BadWitness ", *place, out)?,
         Refusal::WrongRoot(found) => write_hash(alloc, b"WrongRoot ", found, out)?,
     }
@@ -113,6 +116,18 @@ fn write_round(alloc: Global, height: u64, tree: &Hash32, out: &mut Vec<u8>) -> 
 {
     write_count(b"round ", height, out)?;
     write_hash(alloc, b" tree ", tree, out)
+}
+
+fn write_published(
+    alloc: Global,
+    height: u64,
+    root: &Hash32,
+    out: &mut Vec<u8>,
+) -> Result<(), NoMemory>
+    ensures { OnOk result (out.new.items ≡ out.old.items ++ reply_text (Reply.Published height root.now)) }
+{
+    write_count(b"published ", height, out)?;
+    write_hash(alloc, b" root ", root, out)
 }
 
 fn write_heights(
@@ -153,12 +168,14 @@ pub fn write_reply(alloc: Global, reply: &Reply, out: &mut Vec<u8>) -> Result<()
         Reply::Fine => out.extend_from_slice(b"ok")?,
         Reply::Bytes(bytes) => write_bytes(alloc, b"data ", bytes, out)?,
         Reply::Round { height, tree } => write_round(alloc, *height, tree, out)?,
+        Reply::Published { height, root } => write_published(alloc, *height, root, out)?,
         Reply::Heights {
             live,
             memory,
             published,
         } => write_heights(*live, memory.items(), published.items(), out)?,
         Reply::Root(root) => write_hash(alloc, b"root ", root, out)?,
+        Reply::Scratch(root) => write_hash(alloc, b"scratch ", root, out)?,
         Reply::Tree(root) => write_hash(alloc, b"tree ", root, out)?,
         Reply::Manifest {
             files,

@@ -1,5 +1,5 @@
 pub mod Ends
 pub mod Reading
-pub mod Settles
+pub mod Room
 pub mod Stops
 pub mod Turns

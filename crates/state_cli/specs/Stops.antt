@@ -1,12 +1,14 @@
--- Why a run stops where the disk is not settled, or a line is not read or not answered.
-use Rattle.disk_model.specs.declared.disk.DiskError.{DiskError}
-use Rattle.disk_model.specs.declared.disk.DiskError.TheVariants as disks
+-- Why a run stops where the disk does not open, or a line is not read or not answered.
+use Rattle.state_manager.specs.declared.stop.OpenError.{OpenError}
+use Rattle.state_manager.specs.declared.stop.OpenError.TheVariants as opening
+use Rattle.state_manager.specs.declared.stop.Stop.{Stop as Halt}
+use Rattle.state_manager.specs.declared.stop.Stop.TheVariants as halts
 use Rattle.state_cli.specs.declared.reading.ReadError.{ReadError}
 use Rattle.state_cli.specs.declared.reading.ReadError.TheVariants as reading
 use Rattle.state_cli.specs.declared.session.LineError.{LineError}
 use Rattle.state_cli.specs.declared.session.LineError.TheVariants as answering
 use Rattle.state_cli.specs.declared.session.Stop.{Stop}
-use Rattle.state_cli.specs.declared.session.Stop.TheVariants.{ReadFault, WriteFault, DiskFault, Memory}
+use Rattle.state_cli.specs.declared.session.Stop.TheVariants.{ReadFault, WriteFault, DiskFault, BadMark, BadPage, Memory}
 
 abbrev pub stop_of : ReadError → Stop
 stop_of reading.Fault = ReadFault
@@ -14,8 +16,17 @@ stop_of reading.Memory = Memory
 
 abbrev pub stop_of_line : LineError → Stop
 stop_of_line answering.WriteFault = WriteFault
+stop_of_line answering.DiskFault = DiskFault
 stop_of_line answering.Memory = Memory
 
-abbrev pub stop_of_disk : DiskError → Stop
-stop_of_disk disks.Fault = DiskFault
-stop_of_disk disks.Memory = Memory
+abbrev pub stop_of_opening : OpenError → Stop
+stop_of_opening (opening.BadMark height) = BadMark height
+stop_of_opening (opening.BadPage number) = BadPage number
+stop_of_opening opening.Fault = DiskFault
+stop_of_opening opening.Memory = Memory
+
+-- a manager that is closed has stopped before, and is not asked again
+abbrev pub line_error_of : Halt → LineError
+line_error_of halts.Disk = answering.DiskFault
+line_error_of halts.Memory = answering.Memory
+line_error_of halts.Closed = answering.Memory

@@ -12,6 +12,8 @@ pub use program::run;
 pub use script_text::Status;
 
 #[cfg(test)]
+mod store_tests;
+#[cfg(test)]
 mod tests;
 #[cfg(test)]
 mod tree_tests;

@@ -1,26 +1,34 @@
 //! A script, answered line by line.
 
-ghost use Rattle.std.specs.Prelude.{◌≡◌, ◌≢◌, ℕ, List, Err, IsTrue};
+ghost use Rattle.std.specs.Prelude.{◌≡◌, ◌≢◌, ◌≤◌, ◌*◌, ℕ, List, Ok, Err, IsTrue, IsErrOf, OnOk};
 ghost use Rattle.std.specs.Io.KnownBytes.{IsAtEnd, Appends};
+ghost use Rattle.format_spec.specs.declared.limits.TheConstants.{MAX_LINES};
 ghost use Rattle.io_edge.specs.Faults.{IsCounted};
 ghost use Rattle.io_edge.specs.Moves.{Moves};
+ghost use Rattle.store_spec.specs.Image.{Published, StandsFor};
+ghost use Rattle.disk_model.specs.State.{IsImageNow};
+ghost use Rattle.disk_model.specs.View.{EachImage, LeavesOnly};
+ghost use Rattle.height_store.specs.Bad.{IsFirstBadMark, IsFirstBadPage};
 ghost use Rattle.machine_spec.specs.Machine.{Machine, start};
 ghost use Rattle.state_manager.specs.Kept.{Keeps};
-ghost use Rattle.state_cli.specs.Ends.{Serves, status_of};
-ghost use Rattle.state_cli.specs.Settles.{Settles};
+ghost use Rattle.state_cli.specs.Ends.{Serves, OpensBy, IsBadRoot, status_of};
+ghost use Rattle.state_cli.specs.Room.{IsUsable, GivesFew};
 ghost use Rattle.state_cli.specs.Turns.{AnswersLine, TakesTurn};
-ghost use Rattle.state_cli.specs.Stops.{stop_of, stop_of_disk, stop_of_line};
+ghost use Rattle.state_cli.specs.Stops.{stop_of, stop_of_opening, stop_of_line, line_error_of};
 ghost use Rattle.state_cli.specs.declared.reading.ReadError.{ReadError};
 ghost use Rattle.state_cli.specs.declared.session.LineError.TheVariants as lines;
 
 use crate::answering::answer_into;
 use crate::reading::{LineEnd, ReadError, next_byte, read_line};
 use byte_codec::NoMemory;
-use disk_model::{Disk, DiskError};
+use disk_model::Disk;
 use format_spec::MAX_LINES;
 use io_edge::{Sink, Source, write_all};
-use state_manager::Manager;
-use std::alloc::Global;
+use state_manager::{Manager, OpenError, Stop as Halt};
+use std::alloc::{AllocFailed, Global};
+
+// How many pages a cache may hold, where no word says so.
+const CACHE: u32 = 256;
 
 /// Why a run stops before the end of its script.
 #[derive(Clone, Copy, Debug, PartialEq, Eq)]
@@ -28,6 +36,10 @@ pub enum Stop {
     ReadFault,
     WriteFault,
     DiskFault,
+    /// The mark of this height is none.
+    BadMark(u64),
+    /// The page file of this number is none.
+    BadPage(u64),
     /// The line of this number, from 1, is too long.
     LongLine(u32),
     ManyLines,
@@ -45,13 +57,15 @@ impl From<ReadError> for Stop {
     }
 }
 
-impl From<DiskError> for Stop {
-    ghost from_gives = { λ error stop. stop ≡ stop_of_disk error };
+impl From<OpenError> for Stop {
+    ghost from_gives = { λ error stop. stop ≡ stop_of_opening error };
 
-    fn from(error: DiskError) -> Stop {
+    fn from(error: OpenError) -> Stop {
         match error {
-            DiskError::Fault => Stop::DiskFault,
-            DiskError::Memory => Stop::Memory,
+            OpenError::BadMark(height) => Stop::BadMark(height),
+            OpenError::BadPage(number) => Stop::BadPage(number),
+            OpenError::Fault => Stop::DiskFault,
+            OpenError::Memory => Stop::Memory,
         }
     }
 }
@@ -60,6 +74,7 @@ impl From<DiskError> for Stop {
 #[derive(Clone, Copy, Debug, PartialEq, Eq)]
 pub enum LineError {
     WriteFault,
+    DiskFault,
     Memory,
 }
 
@@ -71,12 +86,32 @@ impl From<NoMemory> for LineError {
     }
 }
 
+impl From<AllocFailed<u8>> for LineError {
+    ghost from_gives = { λ _ error. error ≡ lines.Memory };
+
+    fn from(_error: AllocFailed<u8>) -> LineError {
+        LineError::Memory
+    }
+}
+
+impl From<Halt> for LineError {
+    ghost from_gives = { λ halt error. error ≡ line_error_of halt };
+
+    fn from(halt: Halt) -> LineError {
+        match halt {
+            Halt::Disk => LineError::DiskFault,
+            Halt::Memory | Halt::Closed => LineError::Memory,
+        }
+    }
+}
+
 impl From<LineError> for Stop {
     ghost from_gives = { λ error stop. stop ≡ stop_of_line error };
 
     fn from(error: LineError) -> Stop {
         match error {
             LineError::WriteFault => Stop::WriteFault,
+            LineError::DiskFault => Stop::DiskFault,
             LineError::Memory => Stop::Memory,
         }
     }
@@ -98,11 +133,28 @@ pub struct Session {
 }
 
 // Does what the line asks for and writes the answer.
-fn answer_line<K: Sink>(alloc: Global, session: &mut Session, sink: &mut K) -> Result<(), LineError>
-    ensures answers { (m : Machine) → Keeps session.old.manager m → (gained : List ℕ) × Appends (K.written sink.old) (K.written sink.new) gained × AnswersLine result m (Keeps session.new.manager) (record { line = session.old.line.items }) gained }
+fn answer_line<K: Sink, D: Disk>(
+    alloc: Global,
+    session: &mut Session,
+    sink: &mut K,
+    disk: &mut D,
+) -> Result<(), LineError>
+    requires numbers { session.old.manager.store.given ≤ 2048 * MAX_LINES }
+    requires usable { IsUsable D.tells session.old.manager (D.view disk.old) }
+    ensures answers { IsTrue D.tells → (m : Machine) → Keeps session.old.manager (D.view disk.old).state m
+        → (gained : List ℕ) × Appends (K.written sink.old) (K.written sink.new) gained × AnswersLine result m (Keeps session.new.manager (D.view disk.new).state) (EachImage (D.view disk.new).state) (record { line = session.old.line.items }) gained }
+    ensures usable { OnOk result (IsUsable D.tells session.new.manager (D.view disk.new)) }
+    ensures few { GivesFew session.old.manager session.new.manager }
     ensures write { IsCounted (K.faults sink.old) (K.faults sink.new) (result ≡ Err LineError.WriteFault) }
+    ensures disk { IsCounted (D.faults disk.old) (D.faults disk.new) (result ≡ Err LineError.DiskFault) }
 {
-    answer_into(alloc, &mut session.manager, &session.line, &mut session.out)?;
+    answer_into(
+        alloc,
+        &mut session.manager,
+        &session.line,
+        disk,
+        &mut session.out,
+    )?;
     match write_all(sink, &session.out) {
         Ok(()) => Ok(()),
         Err(_) => Err(LineError::WriteFault),
@@ -110,48 +162,62 @@ fn answer_line<K: Sink>(alloc: Global, session: &mut Session, sink: &mut K) -> R
 }
 
 // Reads a line and answers it.
-fn serve_line<S: Source, K: Sink>(
+fn serve_line<S: Source, K: Sink, D: Disk>(
     alloc: Global,
     number: u32,
     session: &mut Session,
     source: &mut S,
     sink: &mut K,
+    disk: &mut D,
 ) -> Result<Continuation, Stop>
-    ensures turn { (m : Machine) → Keeps session.old.manager m → Moves (S.left source.old) (S.left source.new) (K.written sink.old) (K.written sink.new) (λ taken gained.
-        TakesTurn result number m (Keeps session.new.manager) taken gained (IsAtEnd (S.left source.new))) }
+    requires numbers { session.old.manager.store.given ≤ 2048 * MAX_LINES }
+    requires usable { IsUsable D.tells session.old.manager (D.view disk.old) }
+    ensures turn { IsTrue D.tells → (m : Machine) → Keeps session.old.manager (D.view disk.old).state m
+        → Moves (S.left source.old) (S.left source.new) (K.written sink.old) (K.written sink.new) (λ taken gained.
+        TakesTurn result number m (Keeps session.new.manager (D.view disk.new).state) (EachImage (D.view disk.new).state) taken gained (IsAtEnd (S.left source.new))) }
+    ensures usable { OnOk result (IsUsable D.tells session.new.manager (D.view disk.new)) }
+    ensures few { GivesFew session.old.manager session.new.manager }
     ensures read { IsCounted (S.faults source.old) (S.faults source.new) (result ≡ Err Stop.ReadFault) }
     ensures write { IsCounted (K.faults sink.old) (K.faults sink.new) (result ≡ Err Stop.WriteFault) }
-    ensures no_disk { result ≢ Err Stop.DiskFault }
+    ensures disk { IsCounted (D.faults disk.old) (D.faults disk.new) (result ≡ Err Stop.DiskFault) }
+    ensures at_end { result ≡ Ok Continuation.Finished → IsAtEnd (S.left source.new) }
+    ensures good_root { IsBadRoot result → ⊥ }
 {
     match read_line(source, &mut session.line)? {
         LineEnd::NoLine => Ok(Continuation::Finished),
         LineEnd::TooLong => Err(Stop::LongLine(number)),
         LineEnd::Feed => {
-            answer_line(alloc, session, sink)?;
+            answer_line(alloc, session, sink, disk)?;
             Ok(Continuation::More)
         }
         LineEnd::Input => {
-            answer_line(alloc, session, sink)?;
+            answer_line(alloc, session, sink, disk)?;
             Ok(Continuation::Finished)
         }
     }
 }
 
 // Answers the lines of a script.
-fn serve_lines<S: Source, K: Sink>(
+fn serve_lines<S: Source, K: Sink, D: Disk>(
     alloc: Global,
     session: &mut Session,
     source: &mut S,
     sink: &mut K,
+    disk: &mut D,
 ) -> Result<(), Stop>
-    ensures session { Keeps session.old.manager start → Moves (S.left source.old) (S.left source.new) (K.written sink.old) (K.written sink.new)
-        (Serves result (IsAtEnd (S.left source.new))) }
+    requires numbers { session.old.manager.store.given ≡ 0 }
+    requires usable { IsUsable D.tells session.old.manager (D.view disk.old) }
+    ensures session { IsTrue D.tells → (ps : List Published) → Keeps session.old.manager (D.view disk.old).state (start ps)
+        → Moves (S.left source.old) (S.left source.new) (K.written sink.old) (K.written sink.new)
+        (Serves result (start ps) (EachImage (D.view disk.new).state) (IsAtEnd (S.left source.new))) }
     ensures read { IsCounted (S.faults source.old) (S.faults source.new) (result ≡ Err Stop.ReadFault) }
     ensures write { IsCounted (K.faults sink.old) (K.faults sink.new) (result ≡ Err Stop.WriteFault) }
-    ensures no_disk { result ≢ Err Stop.DiskFault }
+    ensures disk { IsCounted (D.faults disk.old) (D.faults disk.new) (result ≡ Err Stop.DiskFault) }
+    ensures at_end { OnOk result (IsAtEnd (S.left source.new)) }
+    ensures good_root { IsBadRoot result → ⊥ }
 {
     for number in 0..MAX_LINES as u32 {
-        match serve_line(alloc, number + 1, session, source, sink)? {
+        match serve_line(alloc, number + 1, session, source, sink, disk)? {
             Continuation::More => {}
             Continuation::Finished => return Ok(()),
         }
@@ -163,28 +229,30 @@ fn serve_lines<S: Source, K: Sink>(
     }
 }
 
-/// Settles the disk, and answers a script to its end.
+/// Opens the disk, and answers a script to its end.
 pub fn serve<S: Source, K: Sink, D: Disk>(
     alloc: Global,
     source: &mut S,
     sink: &mut K,
     disk: &mut D,
 ) -> Result<(), Stop>
-    ensures session { Moves (S.left source.old) (S.left source.new) (K.written sink.old) (K.written sink.new)
-        (Serves result (IsAtEnd (S.left source.new))) }
+    ensures session { IsTrue D.tells → (ps : List Published) → EachImage (D.view disk.old).state (λ image. StandsFor image ps)
+        → Moves (S.left source.old) (S.left source.new) (K.written sink.old) (K.written sink.new)
+        (Serves result (start ps) (EachImage (D.view disk.new).state) (IsAtEnd (S.left source.new))) }
+    ensures at_end { OnOk result (IsAtEnd (S.left source.new)) }
     ensures read { IsCounted (S.faults source.old) (S.faults source.new) (result ≡ Err Stop.ReadFault) }
     ensures write { IsCounted (K.faults sink.old) (K.faults sink.new) (result ≡ Err Stop.WriteFault) }
-    ensures disk { IsTrue D.tells → Settles (status_of result) (D.view disk.old) (D.view disk.new) }
-    ensures disk_fault { IsCounted (D.faults disk.old) (D.faults disk.new) (result ≡ Err Stop.DiskFault) }
+    ensures disk { IsCounted (D.faults disk.old) (D.faults disk.new) (result ≡ Err Stop.DiskFault) }
+    ensures bad_mark { IsTrue D.tells → (height : ℕ) → IsErrOf result (Stop.BadMark height) → IsFirstBadMark (D.view disk.old).state.files height }
+    ensures bad_page { IsTrue D.tells → (number : ℕ) → IsErrOf result (Stop.BadPage number) → IsFirstBadPage (D.view disk.old).state.files number }
+    ensures bad_root { IsBadRoot result → (source.new ≡ source.old) × (sink.new ≡ sink.old) × (IsTrue D.tells → LeavesOnly (D.view disk.old) (D.view disk.new) (IsImageNow (D.view disk.old).state)) }
+    ensures opens { IsTrue D.tells → OpensBy (status_of result) (D.view disk.old).state.files (source.new ≡ source.old) }
 {
-    disk.settle(alloc)?;
-    let Ok(manager) = Manager::open(alloc) else {
-        return Err(Stop::Memory);
-    };
+    let manager = Manager::open(alloc, disk, CACHE)?;
     let mut session = Session {
         manager,
         line: Vec::new(alloc),
         out: Vec::new(alloc),
     };
-    serve_lines(alloc, &mut session, source, sink)
+    serve_lines(alloc, &mut session, source, sink, disk)
 }

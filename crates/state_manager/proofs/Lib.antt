@@ -1,4 +1,6 @@
+pub mod AtHeights
 pub mod Checked
+pub mod DiskLines
 pub mod Hashed
 pub mod Indexed
 pub mod Keeping
@@ -6,6 +8,9 @@ pub mod Lines
 pub mod MemoryLines
 pub mod Onward
 pub mod Pairs
+pub mod Publishing
+pub mod Purging
+pub mod ReadHeights
 pub mod Sized
 pub mod Splits
 pub mod Standing

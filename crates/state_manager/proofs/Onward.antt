@@ -1,6 +1,9 @@
 -- Lines on the live state leave the states in memory, and rounds go on.
 use Rattle.std.proofs.Common.{◌≡◌, ◌==◌, ◌≤◌, ◌<◌, ◌+◌, ℕ, Bool, true, false, not, ◌&&◌, nat_le, nat_lt, List, [], ◌∷◌, ◌++◌, length, Some, None, Result, Ok, Err, refl, ap, ◌∙◌, arith}
 use Rattle.std.proofs.lemmas.Bool.Decides.{nat_tests}
+use Rattle.std.proofs.Common.{inl, inr}
+use Rattle.std.proofs.lemmas.Bool.{cases_Bool}
+use Rattle.std.specs.List.{AllByRecursion}
 use Rattle.std.specs.Prelude.{filter}
 use Rattle.std.specs.Option.{is_some}
 use Rattle.byte_codec.specs.declared.error.NoMemory.{NoMemory}
@@ -21,37 +24,41 @@ use Rattle.machine_spec.specs.HeightSteps.{tree_root}
 use Rattle.machine_spec.specs.Machine.{Machine, Outcome, now_live, unless, refused_if, without_height}
 use Rattle.machine_spec.specs.Step.{step}
 use Rattle.state_manager.proofs.Standing.{at_none, at_some, as_many, drops, joins, stands}
-use Rattle.state_manager.specs.Kept.{Held, Keeps, Performs, held_at}
+use Rattle.state_manager.specs.Kept.{Held, KeepsStates, Performs, held_at}
 use Rattle.state_manager.specs.StateKept.{HeldState, KeepsState, PerformsState}
 
 -- a line on the live state, and what is held beside that
-pub on_live : (old now : Held) (m : Machine) (command : Command) (result : Result Reply NoMemory) → Keeps old m → now.closed ≡ old.closed → now.memory ≡ old.memory
-    → (step m command).after.memory ≡ m.memory → PerformsState result now.live m command → Performs result now m command
-on_live old now m command (Err e) k closed memory leaves h = tt
-on_live old now m command (Ok reply) k closed memory leaves h = (
+pub on_live : (old now : Held) (m : Machine) (command : Command) (result : Result Reply NoMemory) → KeepsStates old m → now.closed ≡ old.closed → now.memory ≡ old.memory → now.store ≡ old.store
+    → (step m command).after.memory ≡ m.memory → (step m command).after.published ≡ m.published → PerformsState result now.live m command → Performs result now m command
+on_live old now m command (Err e) k closed memory store leaves stays h = tt
+on_live old now m command (Ok reply) k closed memory store leaves stays h = (
   h.0,
   record {
     usable = rw closed k.usable;
     live = h.1;
     memory = rw (memory, leaves) k.memory;
+    published = rw (store, stays) k.published;
   },
+  stays,
 )
 
-refused_leaves : (b : Bool) (r : Refusal) (m : Machine) (act : Machine → Outcome) → (act m).after.memory ≡ m.memory → (refused_if b r m act).after.memory ≡ m.memory
-refused_leaves true r m act h = refl
-refused_leaves false r m act h = h
+-- a part of the machine that a step leaves
+module _ {X : Type 0} (part : Machine → X) where
+  refused_leaves : (b : Bool) (r : Refusal) (m : Machine) (act : Machine → Outcome) → part (act m).after ≡ part m → part (refused_if b r m act).after ≡ part m
+  refused_leaves true r m act h = refl
+  refused_leaves false r m act h = h
 
-pub unless_leaves : (checks : List (Bool × Refusal)) (m : Machine) (act : Machine → Outcome) → (act m).after.memory ≡ m.memory → (unless checks m act).after.memory ≡ m.memory
-unless_leaves [] m act h = h
-unless_leaves (c ∷ cs) m act h = refused_leaves c.0 c.1 m (λ n. unless cs n act) (unless_leaves cs m act h)
+  unless_leaves : (checks : List (Bool × Refusal)) (m : Machine) (act : Machine → Outcome) → part (act m).after ≡ part m → part (unless checks m act).after ≡ part m
+  unless_leaves [] m act h = h
+  unless_leaves (c ∷ cs) m act h = refused_leaves c.0 c.1 m (λ n. unless cs n act) (unless_leaves cs m act h)
 
-pub leaves_put : (m : Machine) (path : List Bytes) (value : Bytes) → (put_step m path value).after.memory ≡ m.memory
-leaves_put m path value = unless_leaves (
-    (is_reserved path, refusals.Reserved)
-    ∷ (has_conflict m.live.entries path, refusals.PathConflict)
-    ∷ (not (is_some (find path_cmp path m.live.entries)) && nat_le MAX_ENTRIES (length m.live.entries), refusals.TreeFull)
-    ∷ []
-    ) m (λ m. now_live m (record m.live { entries = put path_cmp path value m.live.entries })) refl
+  pub leaves_put : (m : Machine) (path : List Bytes) (value : Bytes) → part (record m { live = record m.live { entries = put path_cmp path value m.live.entries } }) ≡ part m → part (put_step m path value).after ≡ part m
+  leaves_put m path value h = unless_leaves (
+      (is_reserved path, refusals.Reserved)
+      ∷ (has_conflict m.live.entries path, refusals.PathConflict)
+      ∷ (not (is_some (find path_cmp path m.live.entries)) && nat_le MAX_ENTRIES (length m.live.entries), refusals.TreeFull)
+      ∷ []
+      ) m (λ m. now_live m (record m.live { entries = put path_cmp path value m.live.entries })) h
 
 -- the states in memory don't matter to the live one
 carried : (a : HeldState) (m n : Machine) → n.live ≡ m.live → n.height ≡ m.height → KeepsState a m → KeepsState a n
@@ -65,38 +72,46 @@ carried a m n live height k = record {
 
 -- ---- `forget H`
 
-pub forgets_none : (held : Held) (m : Machine) → Keeps held m → (h : ℕ) → None ≡ held_at held (Height h) → Performs (Ok (replies.Refused refusals.NoHeight)) held m (commands.Forget h)
-forgets_none held m k h e = rw (at_none held m k (Height h) e) (refl, k)
+pub all_filtered : {X : Type 0} (P : X → Type 0) (test : X → Bool) (xs : List X) → AllByRecursion P xs → AllByRecursion P (filter test xs)
+all_filtered P test [] each = tt
+all_filtered P test (x ∷ xs) each = elim (cases_Bool (test x)) [
+  | inl stays ↦ rw stays (each.0, all_filtered P test xs each.1)
+  | inr goes ↦ rw goes (all_filtered P test xs each.1)
+]
 
-pub forgets : (old now : Held) (m : Machine) → Keeps old m → (h : ℕ) (a : HeldState) → Some a ≡ held_at old (Height h) → now.closed ≡ old.closed → now.live ≡ old.live
+pub forgets_none : (held : Held) (m : Machine) → KeepsStates held m → (h : ℕ) → None ≡ held_at held (Height h) → Performs (Ok (replies.Refused refusals.NoHeight)) held m (commands.Forget h)
+forgets_none held m k h e = rw (at_none held m k (Height h) e) (refl, k, refl)
+
+pub forgets : (old now : Held) (m : Machine) → KeepsStates old m → (h : ℕ) (a : HeldState) → Some a ≡ held_at old (Height h) → now.closed ≡ old.closed → now.store ≡ old.store → now.live ≡ old.live
     → now.memory ≡ filter (λ a. not (a.height == h)) old.memory → Performs (Ok replies.Fine) now m (commands.Forget h)
-forgets old now m k h a e closed live memory =
+forgets old now m k h a e closed store live memory =
     let n = at_some old m k (Height h) a e in
     let after : Machine = record m { memory = without_height h m.memory } in
-    let keeps : Keeps now after = record {
+    let keeps : KeepsStates now after = record {
       usable = rw closed k.usable;
       live = rw live (carried old.live m after refl refl k.live);
       memory = rw memory (drops old.memory m.memory h k.memory);
+      published = rw store k.published;
     } in
-    rw n.2 (refl, keeps)
+    rw n.2 (refl, keeps, refl)
 
 -- ---- `round`
 
-pub round_many : (held : Held) (m : Machine) → Keeps held m → MAX_HEIGHTS ≤ length held.memory → Performs (Ok (replies.Refused refusals.ManyHeights)) held m commands.Round
+pub round_many : (held : Held) (m : Machine) → KeepsStates held m → MAX_HEIGHTS ≤ length held.memory → Performs (Ok (replies.Refused refusals.ManyHeights)) held m commands.Round
 round_many held m k h =
     let many : nat_le MAX_HEIGHTS (length m.memory) ≡ true = grind (arith, nat_tests, as_many held.memory m.memory k.memory, h) in
-    rw many (refl, k)
+    rw many (refl, k, refl)
 
-pub round_high : (held : Held) (m : Machine) → Keeps held m → length held.memory < MAX_HEIGHTS → MAX_HEIGHT < held.live.height → Performs (Ok (replies.Refused refusals.HeightLimit)) held m commands.Round
+pub round_high : (held : Held) (m : Machine) → KeepsStates held m → length held.memory < MAX_HEIGHTS → MAX_HEIGHT < held.live.height → Performs (Ok (replies.Refused refusals.HeightLimit)) held m commands.Round
 round_high held m k few high =
     let many : nat_le MAX_HEIGHTS (length m.memory) ≡ false = grind (arith, nat_tests, as_many held.memory m.memory k.memory, few) in
     let above : nat_lt MAX_HEIGHT m.height ≡ true = grind (arith, nat_tests, k.live.height, high) in
-    rw (many, above) (refl, k)
+    rw (many, above) (refl, k, refl)
 
-pub rounds : (old now : Held) (m : Machine) → Keeps old m → length old.memory < MAX_HEIGHTS → old.live.height ≤ MAX_HEIGHT → (height : ℕ) (tree : Bytes) → height ≡ old.live.height → tree ≡ tree_root m.live
-    → now.closed ≡ old.closed → now.memory ≡ old.memory ++ old.live ∷ [] → now.live ≡ record old.live { height = old.live.height + 1 }
+pub rounds : (old now : Held) (m : Machine) → KeepsStates old m → length old.memory < MAX_HEIGHTS → old.live.height ≤ MAX_HEIGHT → (height : ℕ) (tree : Bytes) → height ≡ old.live.height → tree ≡ tree_root m.live
+    → now.closed ≡ old.closed → now.store ≡ old.store → now.memory ≡ old.memory ++ old.live ∷ [] → now.live ≡ record old.live { height = old.live.height + 1 }
     → Performs (Ok (replies.Round height tree)) now m commands.Round
-rounds old now m k few low height tree height_is tree_is closed memory live =
+rounds old now m k few low height tree height_is tree_is closed store memory live =
     let many : nat_le MAX_HEIGHTS (length m.memory) ≡ false = grind (arith, nat_tests, as_many old.memory m.memory k.memory, few) in
     let above : nat_lt MAX_HEIGHT m.height ≡ false = grind (arith, nat_tests, k.live.height, low) in
     let after : Machine = record m { height = m.height + 1; memory = m.memory ++ (m.height, m.live) ∷ [] } in
@@ -107,9 +122,10 @@ rounds old now m k few low height tree height_is tree_is closed memory live =
       memories = k.live.memories;
       height = ap (λ (n : ℕ). n + 1) k.live.height;
     } in
-    let keeps : Keeps now after = record {
+    let keeps : KeepsStates now after = record {
       usable = rw closed k.usable;
       live = rw live next;
       memory = rw memory (joins old.memory m.memory old.live (m.height, m.live) k.memory (stands old.live m k.live));
+      published = rw store k.published;
     } in
-    rw (many, above) (cc (height_is ∙ k.live.height, tree_is), keeps)
+    rw (many, above) (cc (height_is ∙ k.live.height, tree_is), keeps, refl)

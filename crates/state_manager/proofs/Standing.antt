@@ -1,24 +1,29 @@
 -- The states in memory, and the lines that ask about a state.
-use Rattle.std.proofs.Common.{◌≡◌, ◌==◌, ◌+◌, ℕ, Bool, true, false, not, nat_lt, List, [], ◌∷◌, ◌++◌, length, map, Option, Some, None, Result, Ok, Err, refl, ◌∙◌, ap, sym, subst, arith, inl, inr}
+use Rattle.std.proofs.Common.{◌≡◌, ◌==◌, ℕ, Bool, true, false, not, List, [], ◌∷◌, ◌++◌, length, map, Option, Some, None, Result, Ok, Err, refl, ◌∙◌, ap, sym, subst, arith, inl, inr}
 use Rattle.std.proofs.lemmas.Bool.{cases_Bool}
 use Rattle.std.proofs.lemmas.Map.Views.{exact_unsigned_eq}
-use Rattle.std.specs.Prelude.{find, filter}
+use Rattle.std.specs.Prelude.{find, filter, is_some, if◌then◌else◌}
+use Rattle.std.specs.List.{AllZip}
+use Rattle.std.specs.Option.{option_or}
+use Rattle.std.specs.Result.{IfOk}
 use Rattle.byte_codec.specs.declared.error.NoMemory.{NoMemory}
-use Rattle.format_spec.specs.Bytes.{Bytes}
-use Rattle.state_spec.specs.Memory.{read}
-use Rattle.state_spec.specs.Root.{root_of}
-use Rattle.state_spec.specs.State.{State, Canister}
-use Rattle.sys_state.specs.declared.mem.Mem.{Mem}
+use Rattle.state_spec.specs.State.{State}
+use Rattle.script_text.specs.declared.command.Command.{Command}
 use Rattle.script_text.specs.declared.command.Command.TheVariants as commands
+use Rattle.machine_spec.specs.Step.{step}
 use Rattle.script_text.specs.declared.command.HeightOrLive.{HeightOrLive}
 use Rattle.script_text.specs.declared.command.HeightOrLive.TheVariants.{Live, Height}
 use Rattle.script_text.specs.declared.reply.Reply.{Reply}
 use Rattle.script_text.specs.declared.reply.Reply.TheVariants as replies
-use Rattle.script_text.specs.declared.reply.Refusal.TheVariants.{NoHeight, NoCanister, PastEnd}
+use Rattle.script_text.specs.declared.reply.Refusal.TheVariants.{NoHeight}
 use Rattle.machine_spec.specs.HeightSteps.{counts_of}
-use Rattle.machine_spec.specs.Machine.{Machine, Outcome, answered, unless, unless_none, on_state, state_at, kept_at, without_height}
-use Rattle.machine_spec.specs.States.{canister_in, memory_of}
-use Rattle.state_manager.specs.Kept.{Held, Keeps, KeepsEach, Performs, held_at, standing}
+use Rattle.machine_spec.specs.Machine.{Machine, Outcome, answered, unless_none, on_state, state_at, kept_at, published_at, without_height}
+use Rattle.store_spec.specs.Image.{Published}
+use Rattle.disk_model.specs.Files.{Files}
+use Rattle.height_store.specs.Kept.{ShowsHeight}
+use Rattle.height_store.specs.Store.{StoredHeight, height_at}
+use Rattle.whole_state.specs.Whole.{KnowsHeight}
+use Rattle.state_manager.specs.Kept.{Held, KeepsStates, KeepsEach, Performs, held_at, published_height, standing}
 use Rattle.state_manager.specs.StateKept.{HeldState, KeepsState, PerformsState}
 
 -- ---- the states in memory
@@ -74,66 +79,164 @@ stands held m k = record { version = k.version; sorted = k.sorted; system = k.sy
 
 -- ---- lines that ask about a state
 
+-- the machine's state in memory that a line asks about
+abbrev pub in_memory : Machine → HeightOrLive → Option State
+in_memory m Live = Some m.live
+in_memory m (Height h) = kept_at h m.memory
+
 -- what the machine has where the manager finds something
-abbrev pub FoundAt : Option HeldState → Machine → HeightOrLive → Type 0
-FoundAt None m at = state_at m at ≡ None
-FoundAt (Some held) m at = (n : Machine) × KeepsState held n × (state_at m at ≡ Some n.live)
+abbrev pub FoundIn : Option HeldState → Option State → Type 0
+FoundIn None s = s ≡ None
+FoundIn (Some held) s = (n : Machine) × KeepsState held n × (s ≡ Some n.live)
 
-by_found : (o : Option HeldState) (h : ℕ) (s : Option State) (m : Machine) (at : HeightOrLive) → state_at m at ≡ s → Found o h s → FoundAt o m at
-by_found None h None m at e f = e
-by_found None h (Some s) m at e f = absurd f
-by_found (Some a) h None m at e f = absurd f
-by_found (Some a) h (Some s) m at e f = (standing (h, s), f, e)
+by_found : (o : Option HeldState) (h : ℕ) (s : Option State) → Found o h s → FoundIn o s
+by_found None h None f = refl
+by_found None h (Some s) f = absurd f
+by_found (Some a) h None f = absurd f
+by_found (Some a) h (Some s) f = (standing (h, s), f, refl)
 
-pub found_at : (held : Held) (m : Machine) → Keeps held m → (at : HeightOrLive) → FoundAt (held_at held at) m at
+found_at : (held : Held) (m : Machine) → KeepsStates held m → (at : HeightOrLive) → FoundIn (held_at held at) (in_memory m at)
 found_at held m k Live = (m, k.live, refl)
-found_at held m k (Height h) = by_found (held_at held (Height h)) h (kept_at h m.memory) m (Height h) refl (finds held.memory m.memory h k.memory)
+found_at held m k (Height h) = by_found (held_at held (Height h)) h (kept_at h m.memory) (finds held.memory m.memory h k.memory)
 
--- a line that asks about a state that is there changes nothing
-pub asks : (held : Held) (m : Machine) → Keeps held m → (at : HeightOrLive) (s : State) → state_at m at ≡ Some s → (act : State → Outcome) (reply : Reply) → reply ≡ (act s).reply → (act s).after ≡ m
-    → (reply ≡ (on_state m at act).reply) × Keeps held (on_state m at act).after
-asks held m k at s e act reply r a =
-    subst (λ (o : Option State). (reply ≡ (unless_none o NoHeight m act).reply) × Keeps held (unless_none o NoHeight m act).after) (sym e) (r, subst (λ (n : Machine). Keeps held n) (sym a) k)
+pub at_some : (held : Held) (m : Machine) → KeepsStates held m → (at : HeightOrLive) (a : HeldState) → Some a ≡ held_at held at → (n : Machine) × KeepsState a n × (in_memory m at ≡ Some n.live)
+at_some held m k at a e = subst (λ (o : Option HeldState). FoundIn o (in_memory m at)) (sym e) (found_at held m k at)
 
-pub asks_none : (held : Held) (m : Machine) → Keeps held m → (at : HeightOrLive) → state_at m at ≡ None → (act : State → Outcome)
-    → (replies.Refused NoHeight ≡ (on_state m at act).reply) × Keeps held (on_state m at act).after
-asks_none held m k at e act =
-    subst (λ (o : Option State). (replies.Refused NoHeight ≡ (unless_none o NoHeight m act).reply) × Keeps held (unless_none o NoHeight m act).after) (sym e) (refl, k)
+pub at_none : (held : Held) (m : Machine) → KeepsStates held m → (at : HeightOrLive) → None ≡ held_at held at → in_memory m at ≡ None
+at_none held m k at e = subst (λ (o : Option HeldState). FoundIn o (in_memory m at)) (sym e) (found_at held m k at)
 
--- what a reading line does with the canister that it finds
-abbrev read_of : Machine → Option Canister → Mem → ℕ → ℕ → Outcome
-read_of m o mem from len = unless_none o NoCanister m (λ c.
-    unless ((nat_lt (length (memory_of c mem).bytes) (from + len), PastEnd) ∷ []) m (λ m. answered (replies.Bytes (read (memory_of c mem) from len)) m))
+-- a line that asks about a state that is there, or about none, changes nothing
+pub asks_there : (m : Machine) (at : HeightOrLive) (s : State) → state_at m at ≡ Some s → (act : State → Outcome) (reply : Reply) → reply ≡ (act s).reply → (act s).after ≡ m
+    → (reply ≡ (on_state m at act).reply) × ((on_state m at act).after ≡ m)
+asks_there m at s e act reply r a = subst (λ (o : Option State). (reply ≡ (unless_none o NoHeight m act).reply) × ((unless_none o NoHeight m act).after ≡ m)) (sym e) (r, a)
 
-read_end : (past : Bool) (bytes : Bytes) (m n : Machine)
-    → ((unless ((past, PastEnd) ∷ []) m (λ m. answered (replies.Bytes bytes) m)).reply ≡ (unless ((past, PastEnd) ∷ []) n (λ m. answered (replies.Bytes bytes) m)).reply)
-    × ((unless ((past, PastEnd) ∷ []) m (λ m. answered (replies.Bytes bytes) m)).after ≡ m)
-read_end true bytes m n = (refl, refl)
-read_end false bytes m n = (refl, refl)
+pub asks_none : (m : Machine) (at : HeightOrLive) → state_at m at ≡ None → (act : State → Outcome)
+    → (replies.Refused NoHeight ≡ (on_state m at act).reply) × ((on_state m at act).after ≡ m)
+asks_none m at e act = subst (λ (o : Option State). (replies.Refused NoHeight ≡ (unless_none o NoHeight m act).reply) × ((unless_none o NoHeight m act).after ≡ m)) (sym e) (refl, refl)
 
-read_alike : (o : Option Canister) (m n : Machine) (mem : Mem) (from len : ℕ) → ((read_of m o mem from len).reply ≡ (read_of n o mem from len).reply) × ((read_of m o mem from len).after ≡ m)
-read_alike None m n mem from len = (refl, refl)
-read_alike (Some c) m n mem from len = read_end (nat_lt (length (memory_of c mem).bytes) (from + len)) (read (memory_of c mem) from len) m n
+pub unchanged : (held : Held) (m : Machine) → KeepsStates held m → (reply : Reply) (o : Outcome) → (reply ≡ o.reply) × (o.after ≡ m)
+    → (reply ≡ o.reply) × KeepsStates held o.after × (o.after.published ≡ m.published)
+unchanged held m k reply o h = (h.0, subst (λ (n : Machine). KeepsStates held n) (sym h.1) k, ap (λ (n : Machine). n.published) h.1)
 
-pub asks_read : (held : Held) (m : Machine) → Keeps held m → (at : HeightOrLive) (n : Machine) → state_at m at ≡ Some n.live → (a : HeldState) (id : Bytes) (mem : Mem) (from len : ℕ) (result : Result Reply NoMemory)
-    → PerformsState result a n (commands.Read Live id mem from len) → Performs result held m (commands.Read at id mem from len)
-asks_read held m k at n e a id mem from len (Err x) h = tt
-asks_read held m k at n e a id mem from len (Ok reply) h =
-    let alike = read_alike (canister_in n.live id) m n mem from len in
-    asks held m k at n.live e (λ s. read_of m (canister_in s id) mem from len) reply (h.0 ∙ sym alike.0) alike.1
+-- ---- published heights
 
-pub at_some : (held : Held) (m : Machine) → Keeps held m → (at : HeightOrLive) (a : HeldState) → Some a ≡ held_at held at → (n : Machine) × KeepsState a n × (state_at m at ≡ Some n.live)
-at_some held m k at a e = subst (λ (o : Option HeldState). FoundAt o m at) (sym e) (found_at held m k at)
+-- what is published at a height, beside what the machine has there
+pub record AtHeight (R : StoredHeight → Published → Type 0) (h : StoredHeight) (height : ℕ) (ps : List Published) : Type 0 where
+  pub published : Published
+  pub related : R h published
+  pub state : published_at height ps ≡ Some published.state
 
-pub at_none : (held : Held) (m : Machine) → Keeps held m → (at : HeightOrLive) → None ≡ held_at held at → state_at m at ≡ None
-at_none held m k at e = subst (λ (o : Option HeldState). FoundAt o m at) (sym e) (found_at held m k at)
+abbrev pub FoundHeight : (StoredHeight → Published → Type 0) → Option StoredHeight → ℕ → List Published → Type 0
+FoundHeight R None height ps = published_at height ps ≡ None
+FoundHeight R (Some h) height ps = AtHeight R h height ps
 
-pub asks_root : (held : Held) (m : Machine) → Keeps held m → (at : HeightOrLive) (n : Machine) → state_at m at ≡ Some n.live → (a : HeldState) (result : Result Reply NoMemory)
-    → PerformsState result a n (commands.Root Live) → Performs result held m (commands.Root at)
-asks_root held m k at n e a (Err x) h = tt
-asks_root held m k at n e a (Ok reply) h = asks held m k at n.live e (λ s. answered (replies.Root (root_of s)) m) reply h.0 refl
+-- a published height that a line asks about, and the machine's
+pub record PublishedAt (R : StoredHeight → Published → Type 0) (hs : List StoredHeight) (m : Machine) (at : HeightOrLive) (height : ℕ) : Type 0 where
+  pub stored : StoredHeight
+  pub published : Published
+  pub found : height_at hs height ≡ Some stored
+  pub related : R stored published
+  pub state : state_at m at ≡ Some published.state
 
-pub asks_manifest : (held : Held) (m : Machine) → Keeps held m → (at : HeightOrLive) (n : Machine) → state_at m at ≡ Some n.live → (a : HeldState) (result : Result Reply NoMemory)
-    → PerformsState result a n (commands.Manifest Live) → Performs result held m (commands.Manifest at)
-asks_manifest held m k at n e a (Err x) h = tt
-asks_manifest held m k at n e a (Ok reply) h = asks held m k at n.live e (λ s. answered (counts_of s) m) reply h.0 refl
+module _ (R : StoredHeight → Published → Type 0) (same : (h : StoredHeight) (p : Published) → R h p → h.mark.height ≡ p.height) where
+  pub find_height : (hs : List StoredHeight) (ps : List Published) (height : ℕ) → AllZip R hs ps → FoundHeight R (height_at hs height) height ps
+  find_height [] [] height each = refl
+  find_height [] (p ∷ ps) height each = absurd each
+  find_height (h ∷ hs) [] height each = absurd each
+  find_height (h ∷ hs) (p ∷ ps) height each = elim (cases_Bool (p.height == height)) [
+    | inl here ↦ rw (ap (λ (n : ℕ). n == height) (same h p each.0), here) (record { published = p; related = each.0; state = rw here refl })
+    | inr there ↦ rw (ap (λ (n : ℕ). n == height) (same h p each.0), there) (passed (height_at hs height) (find_height hs ps height each.1) there)
+  ]
+    where
+      passed : (o : Option StoredHeight) → FoundHeight R o height ps → (p.height == height) ≡ false → FoundHeight R o height (p ∷ ps)
+      passed None f there = rw there f
+      passed (Some x) f there = record { published = f.published; related = f.related; state = rw there f.state }
+
+  pub same_heights_in : (hs : List StoredHeight) (ps : List Published) → AllZip R hs ps → map (λ h. h.mark.height) hs ≡ map (λ p. p.height) ps
+  same_heights_in [] [] each = refl
+  same_heights_in [] (p ∷ ps) each = absurd each
+  same_heights_in (h ∷ hs) [] each = absurd each
+  same_heights_in (h ∷ hs) (p ∷ ps) each = cc (same h p each.0, same_heights_in hs ps each.1)
+
+  pub published_some : (held : Held) (m : Machine) → AllZip R held.store.heights m.published → (at : HeightOrLive) (height : ℕ) → Some height ≡ published_height held at → PublishedAt R held.store.heights m at height
+  published_some held m each Live height e = absurd (cc e)
+  published_some held m each (Height h) height e = by (height_at held.store.heights h) refl (find_height held.store.heights m.published h each) e
+    where
+      by : (o : Option StoredHeight) → height_at held.store.heights h ≡ o → FoundHeight R o h m.published → Some height ≡ (if is_some o then Some h else None) → PublishedAt R held.store.heights m (Height h) height
+      by None found f e = absurd (cc e)
+      by (Some x) found f e =
+          let one : height ≡ h = cc e in
+          record {
+            stored = x;
+            published = f.published;
+            found = subst (λ (n : ℕ). height_at held.store.heights n ≡ Some x) (sym one) found;
+            related = f.related;
+            state = ap (λ (o : Option State). option_or o (kept_at h m.memory)) f.state;
+          }
+
+pub knows_same : (h : StoredHeight) (p : Published) → KnowsHeight h p → h.mark.height ≡ p.height
+knows_same h p knows = knows.height
+
+pub shows_same : (files : Files) (h : StoredHeight) (p : Published) → ShowsHeight files h p → h.mark.height ≡ p.height
+shows_same files h p shows = sym shows.made.height
+
+-- the height is published
+pub published_there : (held : Held) (at : HeightOrLive) (height : ℕ) → Some height ≡ published_height held at → is_some (height_at held.store.heights height) ≡ true
+published_there held Live height e = absurd (cc e)
+published_there held (Height h) height e = by (is_some (height_at held.store.heights h)) refl e
+  where
+    by : (b : Bool) → is_some (height_at held.store.heights h) ≡ b → Some height ≡ (if b then Some h else None) → is_some (height_at held.store.heights height) ≡ true
+    by true there e = let one : height ≡ h = cc e in subst (λ (n : ℕ). is_some (height_at held.store.heights n) ≡ true) (sym one) there
+    by false there e = absurd (cc e)
+
+pub knows_some : (held : Held) (m : Machine) → KeepsStates held m → (at : HeightOrLive) (height : ℕ) → Some height ≡ published_height held at → PublishedAt KnowsHeight held.store.heights m at height
+knows_some held m k at height e = published_some KnowsHeight knows_same held m k.published at height e
+
+-- Of a height that isn't published, the machine has the state in memory.
+pub published_none : (held : Held) (m : Machine) → KeepsStates held m → (at : HeightOrLive) → None ≡ published_height held at → state_at m at ≡ in_memory m at
+published_none held m k Live e = refl
+published_none held m k (Height h) e = by (height_at held.store.heights h) (find_height KnowsHeight knows_same held.store.heights m.published h k.published) e
+  where
+    by : (o : Option StoredHeight) → FoundHeight KnowsHeight o h m.published → None ≡ (if is_some o then Some h else None) → option_or (published_at h m.published) (kept_at h m.memory) ≡ kept_at h m.memory
+    by None f e = ap (λ (o : Option State). option_or o (kept_at h m.memory)) f
+    by (Some x) f e = absurd (cc e)
+
+-- ---- lines that need no disk
+
+pub line_published : (held : Held) (m : Machine) (k : KeepsStates held m) → (at : HeightOrLive) (height : ℕ) → (e : Some height ≡ published_height held at) → (act : State → Outcome) (reply : Reply)
+    → ((s : State) → (act s).after ≡ m) → reply ≡ (act (knows_some held m k at height e).published.state).reply
+    → (reply ≡ (on_state m at act).reply) × KeepsStates held (on_state m at act).after × ((on_state m at act).after.published ≡ m.published)
+line_published held m k at height e act reply after is =
+    let p = knows_some held m k at height e in
+    unchanged held m k reply (on_state m at act) (asks_there m at p.published.state p.state act reply is (after p.published.state))
+
+pub line_some : (held : Held) (m : Machine) (k : KeepsStates held m) → (at : HeightOrLive) → None ≡ published_height held at → (a : HeldState) → (e : Some a ≡ held_at held at) → (act : State → Outcome) (reply : Reply)
+    → ((s : State) → (act s).after ≡ m) → reply ≡ (act (at_some held m k at a e).0.live).reply
+    → (reply ≡ (on_state m at act).reply) × KeepsStates held (on_state m at act).after × ((on_state m at act).after.published ≡ m.published)
+line_some held m k at none a e act reply after is =
+    let n = at_some held m k at a e in
+    unchanged held m k reply (on_state m at act) (asks_there m at n.0.live (published_none held m k at none ∙ n.2) act reply is (after n.0.live))
+
+pub line_none : (held : Held) (m : Machine) → KeepsStates held m → (at : HeightOrLive) → None ≡ published_height held at → None ≡ held_at held at → (act : State → Outcome)
+    → (replies.Refused NoHeight ≡ (on_state m at act).reply) × KeepsStates held (on_state m at act).after × ((on_state m at act).after.published ≡ m.published)
+line_none held m k at none e act = unchanged held m k (replies.Refused NoHeight) (on_state m at act) (asks_none m at (published_none held m k at none ∙ at_none held m k at e) act)
+
+-- a line that answers something of a state
+module _ (held : Held) (m : Machine) (k : KeepsStates held m) (at : HeightOrLive) (command : Command) (tell : State → Reply) (same : step m command ≡ on_state m at (λ s. answered (tell s) m)) where
+  told : (reply : Reply) → (reply ≡ (on_state m at (λ s. answered (tell s) m)).reply) × KeepsStates held (on_state m at (λ s. answered (tell s) m)).after × ((on_state m at (λ s. answered (tell s) m)).after.published ≡ m.published)
+      → Performs (Ok reply) held m command
+  told reply h = subst (λ (o : Outcome). (reply ≡ o.reply) × KeepsStates held o.after × (o.after.published ≡ m.published)) (sym same) h
+
+  pub performs_published : (height : ℕ) → (e : Some height ≡ published_height held at) → (result : Result Reply NoMemory)
+      → IfOk result (λ reply. reply ≡ tell (knows_some held m k at height e).published.state) → Performs result held m command
+  performs_published height e (Ok reply) is = told reply (line_published held m k at height e (λ s. answered (tell s) m) reply (λ s. refl) is)
+  performs_published height e (Err x) is = tt
+
+  pub performs_in_memory : None ≡ published_height held at → (a : HeldState) → (e : Some a ≡ held_at held at) → (result : Result Reply NoMemory)
+      → IfOk result (λ reply. reply ≡ tell (at_some held m k at a e).0.live) → Performs result held m command
+  performs_in_memory none a e (Ok reply) is = told reply (line_some held m k at none a e (λ s. answered (tell s) m) reply (λ s. refl) is)
+  performs_in_memory none a e (Err x) is = tt
+
+pub counts_kept : (a : HeldState) (n : Machine) (result : Result Reply NoMemory) → PerformsState result a n (commands.Manifest Live) → IfOk result (λ reply. reply ≡ counts_of n.live)
+counts_kept a n (Ok reply) h = h.0
+counts_kept a n (Err x) h = tt

@@ -1,8 +1,17 @@
--- What a manager holds, and which plain machines it keeps.
-use Rattle.std.specs.Prelude.{◌≡◌, ◌==◌, ℕ, Bool, false, List, [], ◌∷◌, find, Option, Some, Result, Ok, Err, ⊤}
+-- What a manager holds, and which plain machines it and its disk keep.
+use Rattle.std.specs.Prelude.{◌≡◌, ◌==◌, ◌≤◌, ◌+◌, ℕ, IsTrue, OnOk, Bool, true, false, if◌then◌else◌, List, [], ◌∷◌, find, Option, Some, None, is_some, Result, Ok, Err, ⊤}
+use Rattle.std.specs.List.{AllByRecursion, AllZip}
+use Rattle.format_spec.specs.declared.limits.TheConstants.{MAX_HEIGHT}
 use Rattle.byte_codec.specs.declared.error.NoMemory.{NoMemory}
 use Rattle.state_spec.specs.State.{State}
+use Rattle.disk_model.specs.State.{DiskState, IsSettled}
+use Rattle.disk_model.specs.View.{DiskView, LeavesOnly}
+use Rattle.height_store.specs.declared.error.StoreError.{StoreError}
+use Rattle.height_store.specs.Store.{Store, height_at}
+use Rattle.height_store.specs.Kept.{IsOver, KeepsHeights, StandsForEither}
+use Rattle.whole_state.specs.Whole.{KnowsHeight}
 use Rattle.script_text.specs.declared.command.Command.{Command}
+use Rattle.script_text.specs.declared.command.Command.TheVariants.{Read, Scratch, Checkpoint, Purge, Reset}
 use Rattle.script_text.specs.declared.command.HeightOrLive.{HeightOrLive}
 use Rattle.script_text.specs.declared.command.HeightOrLive.TheVariants.{Live, Height}
 use Rattle.script_text.specs.declared.reply.Reply.{Reply}
@@ -11,20 +20,30 @@ use Rattle.machine_spec.specs.Step.{step}
 use Rattle.state_manager.specs.StateKept.{HeldState, KeepsState}
 use Rattle.state_manager.specs.declared.stop.Stop.{Stop}
 
--- the live state, the states in memory, ascending by height, and whether an earlier call stopped
+-- the live state, the states in memory, ascending by height, the published heights, and whether an earlier call stopped
 pub record Held : Type 0 where
   pub live : HeldState
   pub memory : List HeldState
+  pub store : Store
   pub closed : Bool
 
--- the state that a line asks about
+-- heights in memory are at most 2^62
+abbrev pub HaveHeights : Held → Type 0
+HaveHeights held = AllByRecursion (λ state. state.height ≤ MAX_HEIGHT) held.memory
+
+-- the state in memory that a line asks about
 abbrev pub held_at : Held → HeightOrLive → Option HeldState
 held_at held Live = Some held.live
 held_at held (Height h) = find (λ state. state.height == h) held.memory
 
+-- the published height that a line asks about
+abbrev pub published_height : Held → HeightOrLive → Option ℕ
+published_height held Live = None
+published_height held (Height h) = if is_some (height_at held.store.heights h) then Some h else None
+
 -- a machine at this height, of which this is the live state
 abbrev pub standing : ℕ × State → Machine
-standing k = record { live = k.1; height = k.0; memory = [] }
+standing k = record { live = k.1; height = k.0; memory = []; published = [] }
 
 -- each state in memory is the machine's
 abbrev pub KeepsEach : List HeldState → List (ℕ × State) → Type 0
@@ -32,18 +51,54 @@ KeepsEach [] [] = ⊤
 KeepsEach (held ∷ helds) (k ∷ ks) = KeepsState held (standing k) × KeepsEach helds ks
 KeepsEach _ _ = ⊥
 
--- The manager is that machine, but for the rounds of pages.
-pub record Keeps (held : Held) (m : Machine) : Type 0 where
+-- What the manager holds in memory is that machine's, but for the rounds of pages, and each published height is known.
+pub record KeepsStates (held : Held) (m : Machine) : Type 0 where
   pub usable : held.closed ≡ false
   pub live : KeepsState held.live m
   pub memory : KeepsEach held.memory m.memory
+  pub published : AllZip KnowsHeight held.store.heights m.published
 
--- the reply to a command is that of the machine's step, and the machine after it is kept
+-- The manager and its disk are that machine: besides, every image of the disk stands for the machine's published heights,
+-- nothing is pending, and the store is over the files.
+pub record Keeps (held : Held) (s : DiskState) (m : Machine) : Type 0 where
+  pub states : KeepsStates held m
+  pub over : IsOver held.store s.files
+  pub settled : IsSettled s
+  pub heights : KeepsHeights held.store.heights s m.published
+
+-- whether a line may read or change the disk
+abbrev pub needs_disk : Command → Bool
+needs_disk (Read at id mem offset len) = true
+needs_disk (Scratch at) = true
+needs_disk Checkpoint = true
+needs_disk (Purge height) = true
+needs_disk (Reset height) = true
+needs_disk command = false
+
+-- the reply to a command that needs no disk is that of the machine's step; the machine after it is kept, and its published
+-- heights are the same
 abbrev pub Performs : Result Reply NoMemory → Held → Machine → Command → Type 0
-Performs (Ok reply) now m command = (reply ≡ (step m command).reply) × Keeps now (step m command).after
+Performs (Ok reply) now m command =
+    (reply ≡ (step m command).reply) × KeepsStates now (step m command).after × ((step m command).after.published ≡ m.published)
 Performs (Err e) now m command = Unit {0}
 
+-- the reply to a command is that of the machine's step, and the machine after it is kept
+abbrev pub PerformsOn : Result Reply StoreError → Held → DiskState → Machine → Command → Type 0
+PerformsOn (Ok reply) now s m command = (reply ≡ (step m command).reply) × Keeps now s (step m command).after
+PerformsOn (Err e) now s m command = Unit {0}
+
 -- the same of a call that may stop
-abbrev pub Applies : Result Reply Stop → Held → Machine → Command → Type 0
-Applies (Ok reply) now m command = (reply ≡ (step m command).reply) × Keeps now (step m command).after
-Applies (Err stop) now m command = Unit {0}
+abbrev pub Applies : Result Reply Stop → Held → DiskState → Machine → Command → Type 0
+Applies (Ok reply) now s m command = (reply ≡ (step m command).reply) × Keeps now s (step m command).after
+Applies (Err stop) now s m command = Unit {0}
+
+-- What a line that may call the disk does, whatever it answers: while it runs every image stands for the published heights
+-- before it or for those after the machine's step, and it gives at most 2,048 numbers to page files.
+pub record DoesLine (tells : Bool) (old new : Held) (before after : DiskView) (result : Result Reply StoreError) (command : Command) : Type 0 where
+  pub reply : IsTrue tells → (m : Machine) → Keeps old before.state m → PerformsOn result new after.state m command
+  pub images : IsTrue tells → (m : Machine) → Keeps old before.state m
+      → LeavesOnly before after (StandsForEither m.published (step m command).after.published)
+  pub over : IsTrue tells → OnOk result (IsOver new.store after.state.files)
+  pub given_least : old.store.given ≤ new.store.given
+  pub given_most : new.store.given ≤ old.store.given + 2048
+  pub same : new.closed ≡ old.closed

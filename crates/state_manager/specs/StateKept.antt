@@ -1,20 +1,34 @@
 -- What is held of a state at its height, and which plain machines it keeps.
-use Rattle.std.specs.Prelude.{◌≡◌, ℕ, true, List, Result, Ok, Err}
+use Rattle.std.specs.Prelude.{◌≡◌, ◌≤◌, ◌+◌, ℕ, Bool, true, List, [], ◌∷◌, ◌++◌, Result, Ok, Err, IsTrue, IfOk, OnOk}
 use Rattle.std.specs.FinMap.{is_sorted}
 use Rattle.byte_codec.specs.declared.error.NoMemory.{NoMemory}
 use Rattle.format_spec.specs.Bytes.{Bytes, bytes_cmp}
 use Rattle.state_spec.specs.State.{memory_bytes}
+use Rattle.state_spec.specs.Root.{root_of}
+use Rattle.store_spec.specs.Image.{Published}
+use Rattle.disk_model.specs.State.{IsSettled}
+use Rattle.disk_model.specs.View.{DiskView, LeavesOnly}
 use Rattle.sys_state.specs.System.{System, kept_of}
+use Rattle.height_store.specs.declared.error.StoreError.{StoreError}
+use Rattle.height_store.specs.Store.{Store}
+use Rattle.height_store.specs.Kept.{IsOver, KeepsHeights, StandsForEither}
+use Rattle.whole_state.specs.Whole.{whole}
 use Rattle.script_text.specs.declared.command.Command.{Command}
 use Rattle.script_text.specs.declared.reply.Reply.{Reply}
 use Rattle.machine_spec.specs.Machine.{Machine, Outcome}
 use Rattle.machine_spec.specs.Step.{step}
+use Rattle.state_manager.specs.Sizes.{HaveSizes}
 
 -- the state but for its memories, their bytes in the order of files, and its height
 pub record HeldState : Type 0 where
   pub system : System
   pub memories : List Bytes
   pub height : ℕ
+
+-- Each memory has as many bytes as its pages have, and heights begin at 1.
+pub record IsHeldState (held : HeldState) : Type 0 where
+  pub sizes : HaveSizes held.system.canisters held.memories
+  pub from_one : 1 ≤ held.height
 
 -- It is the live state of that machine, but for the rounds of pages, on which no reply depends. The canisters are in
 -- order of ids, as every step keeps them.
@@ -33,3 +47,15 @@ AfterState (Err e) now outcome = Unit {0}
 -- the same of the machine's step for a command
 abbrev pub PerformsState : Result Reply NoMemory → HeldState → Machine → Command → Type 0
 PerformsState result now m command = AfterState result now (step m command)
+
+-- What publishing a state at its height does: every image meanwhile stands for the heights before or those after, at most
+-- 2,048 numbers are given, and at Ok the height is published, with the root of the state.
+pub record Publishes (tells : Bool) (held : HeldState) (old new : Store) (before after : DiskView) (result : Result Bytes StoreError) : Type 0 where
+  pub root : (m : Machine) → KeepsState held m → IfOk result (λ root. root ≡ root_of m.live)
+  pub stands : IsTrue tells → (ps : List Published) (m : Machine) → KeepsState held m → IsSettled before.state → KeepsHeights old.heights before.state ps
+      → OnOk result (IsSettled after.state × KeepsHeights new.heights after.state (ps ++ whole held.height m.live ∷ []))
+  pub images : IsTrue tells → (ps : List Published) (m : Machine) → KeepsState held m → IsSettled before.state → KeepsHeights old.heights before.state ps
+      → LeavesOnly before after (StandsForEither ps (ps ++ whole held.height m.live ∷ []))
+  pub over : IsTrue tells → OnOk result (IsOver new after.state.files)
+  pub given_least : old.given ≤ new.given
+  pub given_most : new.given ≤ old.given + 2048

@@ -1,26 +1,36 @@
 //! A state at its height, and the lines on it.
 
-ghost use Rattle.std.specs.Prelude.{◌≡◌, ◌≤◌, ◌<◌, ◌+◌, ◌-◌, ◌^◌, length, IfOk, IfSome};
-ghost use Rattle.format_spec.specs.declared.limits.TheConstants.{MAX_MODULE, MAX_CERTIFIED, MAX_VALUE};
+ghost use Rattle.std.specs.Prelude.{◌≡◌, ◌≤◌, ◌<◌, ◌+◌, ◌-◌, ◌^◌, [], length, map, IsTrue, IfOk, IfSome};
+ghost use Rattle.std.specs.List.{AllByRecursion};
+ghost use Rattle.format_spec.specs.declared.limits.TheConstants.{MAX_MODULE, MAX_CERTIFIED, MAX_VALUE, MAX_HEIGHT, MAX_PUBLISHED};
 ghost use Rattle.state_spec.specs.Manifest.{manifest_of};
+ghost use Rattle.state_spec.specs.Root.{root_of};
+ghost use Rattle.state_spec.specs.State.{State, system_of};
+ghost use Rattle.sys_state.specs.System.{part_of};
 ghost use Rattle.manifest.specs.Fits.{FitsText};
-ghost use Rattle.machine_spec.specs.HeightSteps.{tree_root};
+ghost use Rattle.height_store.specs.Errors.{HasCause as StoreCause};
+ghost use Rattle.height_store.specs.Kept.{IsOver};
+ghost use Rattle.machine_spec.specs.HeightSteps.{counts_of, tree_root};
 ghost use Rattle.machine_spec.specs.WitnessSteps.{witness_text};
 ghost use Rattle.machine_spec.specs.Machine.{Machine, start};
-ghost use Rattle.state_manager.specs.StateKept.{KeepsState, PerformsState};
 ghost use Rattle.state_manager.specs.Places.{index_of};
+ghost use Rattle.state_manager.specs.Sizes.{HaveSizes};
+ghost use Rattle.state_manager.specs.StateKept.{KeepsState, PerformsState, Publishes};
 
 use crate::canisters::{create_canister, remove_canister};
 use crate::memories::{copy_memories, grow_memory, write_memory};
 use crate::refusals::reply_to;
 use byte_codec::{Blob, NoMemory};
+use disk_model::Disk;
 use hash_domain::Hash32;
 use hash_tree::StateTree;
+use height_store::{HeightStore, StoreError};
 use manifest::{Manifest, from_scratch};
 use script_text::{Command, HeightOrLive, Refusal, Reply};
 use std::alloc::Global;
 use std::marker::Model;
 use sys_state::{CanisterId, Mem, Path, SysState};
+use whole_state::checkpoint;
 use witness::{to_cbor, witness};
 
 /// A state with all its bytes, and its height.
@@ -34,17 +44,17 @@ pub struct HeightState {
 
 impl Model for HeightState {
     ghost use Rattle.std.specs.Prelude.{map};
-    ghost use Rattle.state_manager.specs.StateKept.{HeldState};
-    ghost use Rattle.state_manager.specs.Sizes.{HaveSizes};
+    ghost use Rattle.state_manager.specs.StateKept.{HeldState, IsHeldState};
 
     ghost Value = { HeldState };
 
     ghost view = { λ m. record { system = m.sys; memories = map (λ v. v.items) m.memories.items; height = m.height } };
 
-    ghost invariant = { λ m. HaveSizes m.sys.canisters (map (λ v. v.items) m.memories.items) };
+    ghost invariant = { λ m. IsHeldState (record { system = m.sys; memories = map (λ v. v.items) m.memories.items; height = m.height }) };
 }
-// Where a memory of the canister at a place stands among all memories.
-fn memory_index(place: u32, mem: Mem) -> usize
+
+/// Where a memory of the canister at a place stands among all memories.
+pub fn memory_index(place: u32, mem: Mem) -> usize
     ensures { result ≡ index_of place mem }
 {
     match mem {
@@ -56,12 +66,25 @@ fn memory_index(place: u32, mem: Mem) -> usize
 impl HeightState {
     /// The state of an empty store: no canister and no entry, at time 0 and height 1.
     pub fn new(alloc: Global) -> HeightState
-        ensures { KeepsState result start }
+        ensures { KeepsState result (start []) }
     {
         HeightState {
             sys: SysState::new(alloc),
             memories: Vec::new(alloc),
             height: 1,
+        }
+    }
+
+    /// The state with these parts and these bytes of memories, heap and stable of each canister in order of ids, at a height.
+    pub fn loaded(sys: SysState, memories: Vec<Vec<u8>>, height: u64) -> HeightState
+        requires sizes { HaveSizes sys.canisters (map (λ memory. memory.items) memories.items) }
+        requires from_one { 1 ≤ height }
+        ensures { result ≡ record { system = sys; memories = map (λ memory. memory.items) memories.items; height = height } }
+    {
+        HeightState {
+            sys,
+            memories,
+            height,
         }
     }
 
@@ -179,13 +202,13 @@ impl HeightState {
         from_scratch(alloc, system.bytes(), &self.sys, &self.memories)
     }
 
-    /// `root live`
-    pub fn root(&self, alloc: Global) -> Result<Reply, NoMemory>
-        ensures { (m : Machine) → KeepsState self.now m → PerformsState result self.now m (Command.Root HeightOrLive.Live) }
+    /// The root hash of the manifest of the live state, all of whose bytes are hashed.
+    pub fn root(&self, alloc: Global) -> Result<Hash32, NoMemory>
+        ensures { (m : Machine) → KeepsState self.now m → IfOk result (λ root. root ≡ root_of m.live) }
     {
         let manifest = self.manifest(alloc)?;
         let meta = manifest.meta(alloc)?;
-        Ok(Reply::Root(meta.root()))
+        Ok(meta.root())
     }
 
     /// `manifest live`
@@ -193,14 +216,7 @@ impl HeightState {
         ensures { (m : Machine) → KeepsState self.now m → PerformsState result self.now m (Command.Manifest HeightOrLive.Live) }
     {
         let manifest = self.manifest(alloc)?;
-        let meta = manifest.meta(alloc)?;
-        let text = manifest.encode(alloc)?;
-        Ok(Reply::Manifest {
-            files: manifest.files.len() as u32,
-            chunks: manifest.chunks.len() as u32,
-            pieces: meta.pieces.len() as u32,
-            bytes: text.bytes().len() as u64,
-        })
+        count_manifest(alloc, &manifest)
     }
 
     /// The height.
@@ -233,8 +249,7 @@ impl HeightState {
     pub fn tree_root(&self, alloc: Global) -> Result<Hash32, NoMemory>
         ensures { (m : Machine) → KeepsState self.now m → IfOk result (λ root. root ≡ tree_root m.live) }
     {
-        let tree = StateTree::build(alloc, &self.sys)?;
-        Ok(tree.root())
+        tree_root_of(alloc, &self.sys)
     }
 
     /// `witness live PATH ..`
@@ -242,10 +257,59 @@ impl HeightState {
         requires { 1 ≤ length paths.now }
         ensures { (m : Machine) → KeepsState self.now m → IfOk result (λ text. text ≡ witness_text m.live paths.now) }
     {
-        // Its contract says that the state is valid, as `witness` needs.
-        let _count = self.sys.canisters();
-        let tree = StateTree::build(alloc, &self.sys)?;
-        let shown = witness(alloc, tree.tree(), paths)?;
-        to_cbor(alloc, &shown)
+        witness_of(alloc, &self.sys, paths)
     }
+
+    /// Publishes the state at its height, and answers its root hash.
+    pub fn publish<D: Disk>(
+        &self,
+        alloc: Global,
+        store: &mut HeightStore,
+        disk: &mut D,
+    ) -> Result<Hash32, StoreError>
+        requires at_most { self.now.height ≤ MAX_HEIGHT }
+        requires above { AllByRecursion (λ h. h.mark.height < self.now.height) store.old.heights }
+        requires few { length store.old.heights < MAX_PUBLISHED }
+        requires numbers { store.old.given ≤ 2 ^ 60 }
+        requires over { IsTrue D.tells → IsOver store.old (D.view disk.old).state.files }
+        ensures publishes { Publishes D.tells self.now store.old store.new (D.view disk.old) (D.view disk.new) result }
+        ensures cause { StoreCause (D.faults disk.old) (D.faults disk.new) result }
+    {
+        checkpoint(alloc, store, disk, self.height, &self.sys, &self.memories)
+    }
+}
+
+/// The root hash of the tree of a state with these parts.
+pub fn tree_root_of(alloc: Global, sys: &SysState) -> Result<Hash32, NoMemory>
+    ensures { (s : State) → system_of s ≡ part_of sys.now → IfOk result (λ root. root ≡ tree_root s) }
+{
+    let tree = StateTree::build(alloc, sys)?;
+    Ok(tree.root())
+}
+
+/// The bytes of the witness of these paths in the tree of a state with these parts.
+pub fn witness_of(alloc: Global, sys: &SysState, paths: &[Path]) -> Result<Blob, NoMemory>
+    requires { 1 ≤ length paths.now }
+    ensures { (s : State) → system_of s ≡ part_of sys.now → IfOk result (λ text. text ≡ witness_text s paths.now) }
+{
+    // Its contract says that the state is valid, as `witness` needs.
+    let _count = sys.canisters();
+    let tree = StateTree::build(alloc, sys)?;
+    let shown = witness(alloc, tree.tree(), paths)?;
+    to_cbor(alloc, &shown)
+}
+
+/// What the manifest of a state counts.
+pub fn count_manifest(alloc: Global, manifest: &Manifest) -> Result<Reply, NoMemory>
+    requires { FitsText manifest.now }
+    ensures { (s : State) → manifest.now ≡ manifest_of s → IfOk result (λ reply. reply ≡ counts_of s) }
+{
+    let meta = manifest.meta(alloc)?;
+    let text = manifest.encode(alloc)?;
+    Ok(Reply::Manifest {
+        files: manifest.files.len() as u32,
+        chunks: manifest.chunks.len() as u32,
+        pieces: meta.pieces.len() as u32,
+        bytes: text.bytes().len() as u64,
+    })
 }

@@ -1,4 +1,4 @@
-//! The manager of the live state and those in memory: applies the commands of a script, one at a time.
+//! The manager of the live state, those in memory and the published ones: applies the commands of a script, one at a time.
 #![tactic(auto)]
 
 mod canisters;
@@ -9,6 +9,7 @@ mod manager;
 mod memories;
 mod refusals;
 mod stop;
+mod stored;
 
 pub use manager::Manager;
 pub use script_text::{Command, HeightOrLive, Refusal, Reply};

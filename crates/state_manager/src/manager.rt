@@ -1,50 +1,88 @@
-ghost use Rattle.std.specs.Prelude.{◌≡◌, ◌↔◌, ◌≤◌, true, Ok, Err, length, IfOk, OnOk, OnErr};
+//! The manager of the live state, those in memory and the published ones.
+
+ghost use Rattle.std.specs.Prelude.{◌≡◌, ◌↔◌, ◌≤◌, ◌+◌, ◌^◌, ℕ, List, true, false, Some, None, Ok, Err, length, map, IsTrue, IsErrOf, IfOk, OnOk, OnErr};
+ghost use Rattle.std.specs.List.{last_or};
 ghost use Rattle.std.specs.Option.{option_copied};
+ghost use Rattle.store_spec.specs.Image.{Published, StandsFor, Opens};
+ghost use Rattle.disk_model.specs.State.{IsImageNow};
+ghost use Rattle.disk_model.specs.View.{EachImage, LeavesOnly};
+ghost use Rattle.height_store.specs.Bad.{IsFirstBadMark, IsFirstBadPage};
+ghost use Rattle.height_store.specs.Errors.{HasCause as StoreCause};
+ghost use Rattle.height_store.specs.Kept.{IsOver, StandsForSome, StandsAsBefore, StandsForEither};
 ghost use Rattle.script_text.specs.Commands.{FitsForm};
 ghost use Rattle.machine_spec.specs.Machine.{Machine, start};
-ghost use Rattle.state_manager.specs.Kept.{Keeps, Performs, Applies, held_at};
+ghost use Rattle.machine_spec.specs.Step.{step};
+ghost use Rattle.state_manager.specs.Causes.{HasCause, OpensByCause, IsBadFile, purge_reply};
+ghost use Rattle.state_manager.specs.Kept.{Keeps, KeepsStates, Performs, Applies, DoesLine, held_at, published_height, needs_disk};
 
 use crate::checks::check_witness;
 use crate::height_state::HeightState;
 use crate::kept::{drop_height, find_height, heights_of};
 use crate::stop::{OpenError, Stop};
+use crate::stored::{
+    begin, count_published, is_low, is_newest, is_published, load, published_heights,
+    read_published, root_published, tree_published, witness_published,
+};
 use byte_codec::NoMemory;
-use format_spec::{MAX_HEIGHT, MAX_HEIGHTS};
+use disk_model::Disk;
+use format_spec::{MAX_HEIGHT, MAX_HEIGHTS, MAX_PUBLISHED};
+use height_store::{HeightStore, StoreError};
 use script_text::{Command, HeightOrLive, Numbers, Refusal, Reply};
 use std::alloc::Global;
 use std::marker::Model;
 use sys_state::{CanisterId, Mem, Path};
 
-/// The live state and those in memory, and the commands on them.
+/// The live state, those in memory and the published ones, and the commands on them.
 #[derive(Drop)]
 pub struct Manager {
     live: HeightState,
     // The states in memory, ascending by height.
     memory: Vec<HeightState>,
+    store: HeightStore,
     closed: bool,
 }
 
 impl Model for Manager {
-    ghost use Rattle.state_manager.specs.Kept.{Held};
+    ghost use Rattle.state_manager.specs.Kept.{Held, HaveHeights};
 
     ghost Value = { Held };
 
-    ghost view = { λ m. record { live = m.live; memory = m.memory.items; closed = m.closed } };
+    ghost view = { λ m. record { live = m.live; memory = m.memory.items; store = m.store; closed = m.closed } };
+
+    ghost invariant = { λ m. HaveHeights (record { live = m.live; memory = m.memory.items; store = m.store; closed = m.closed }) };
 }
 
 impl Manager {
-    /// The manager of an empty store: no canister and no entry, at time 0 and height 1, and no state in memory.
-    pub fn open(alloc: Global) -> Result<Manager, OpenError>
-        ensures { IfOk result (λ manager. Keeps manager start) }
+    /// Opens the manager of a disk: goes on from the newest published height, or from nothing, with no state in memory. Of the
+    /// pages that are read, a cache may hold so many, from 1 to 65,536; so far nothing is cached.
+    ///
+    /// BadMark and BadPage as the store says: the first mark by height that is none, or else the first page file by number that a
+    /// mark names and that is none. Fault where the disk failed, Memory where memory ran out.
+    pub fn open<D: Disk>(alloc: Global, disk: &mut D, _cache: u32) -> Result<Manager, OpenError>
+        ensures kept { IsTrue D.tells → (ps : List Published)
+            → EachImage (D.view disk.old).state StandsForSome → StandsFor (D.view disk.old).state.files ps
+            → IfOk result (λ manager. Keeps manager (D.view disk.new).state (start ps)) }
+        ensures images { IsTrue D.tells → EachImage (D.view disk.old).state StandsForSome
+            → LeavesOnly (D.view disk.old) (D.view disk.new) (StandsAsBefore (D.view disk.old).state) }
+        ensures over { IsTrue D.tells → IfOk result (λ manager. IsOver manager.store (D.view disk.new).state.files) }
+        ensures usable { IfOk result (λ manager. (manager.closed ≡ false) × (manager.store.given ≡ 0)) }
+        ensures bad_mark { IsTrue D.tells → (height : ℕ) → IsErrOf result (OpenError.BadMark height) → IsFirstBadMark (D.view disk.old).state.files height }
+        ensures bad_page { IsTrue D.tells → (number : ℕ) → IsErrOf result (OpenError.BadPage number) → IsFirstBadPage (D.view disk.old).state.files number }
+        ensures bad_keeps { IsTrue D.tells → IsBadFile result → LeavesOnly (D.view disk.old) (D.view disk.new) (IsImageNow (D.view disk.old).state) }
+        ensures opens { IsTrue D.tells → OnOk result (Opens (D.view disk.old).state.files) }
+        ensures cause { OpensByCause (D.faults disk.old) (D.faults disk.new) result }
     {
+        let store = HeightStore::open(alloc, disk)?;
+        let live = begin(alloc, &store, disk)?;
         Ok(Manager {
-            live: HeightState::new(alloc),
+            live,
             memory: Vec::new(alloc),
+            store,
             closed: false,
         })
     }
 
-    // The state that a line asks about.
+    // The state in memory that a line asks about.
     fn state_at(&self, at: HeightOrLive) -> Option<&HeightState>
         ensures { option_copied result ≡ held_at self.now at }
     {
@@ -54,9 +92,20 @@ impl Manager {
         }
     }
 
+    // The published height that a line asks about.
+    fn published_at(&self, at: HeightOrLive) -> Option<u64>
+        ensures { result ≡ published_height self.now at }
+    {
+        match at {
+            HeightOrLive::Height(height) if is_published(&self.store, height) => Some(height),
+            _ => None,
+        }
+    }
+
     // `round`
     fn round(&mut self, alloc: Global) -> Result<Reply, NoMemory>
-        ensures step { (m : Machine) → Keeps self.old m → Performs result self.new m Command.Round }
+        ensures step { (m : Machine) → KeepsStates self.old m → Performs result self.new m Command.Round }
+        ensures store { self.new.store ≡ self.old.store }
         ensures same { self.new.closed ≡ self.old.closed }
     {
         if self.memory.len() >= MAX_HEIGHTS {
@@ -74,7 +123,8 @@ impl Manager {
 
     // `forget H`
     fn forget(&mut self, height: u64) -> Result<Reply, NoMemory>
-        ensures step { (m : Machine) → Keeps self.old m → Performs result self.new m (Command.Forget height) }
+        ensures step { (m : Machine) → KeepsStates self.old m → Performs result self.new m (Command.Forget height) }
+        ensures store { self.new.store ≡ self.old.store }
         ensures same { self.new.closed ≡ self.old.closed }
     {
         match find_height(&self.memory, height) {
@@ -88,17 +138,17 @@ impl Manager {
 
     // `heights`
     fn heights(&self, alloc: Global) -> Result<Reply, NoMemory>
-        ensures { (m : Machine) → Keeps self.now m → Performs result self.now m Command.Heights }
+        ensures { (m : Machine) → KeepsStates self.now m → Performs result self.now m Command.Heights }
     {
         Ok(Reply::Heights {
             live: self.live.height(),
             memory: heights_of(alloc, &self.memory)?,
-            published: Numbers::new(Vec::new(alloc)),
+            published: published_heights(alloc, &self.store)?,
         })
     }
 
     // `read HL ID MEM OFFSET LEN`
-    fn read(
+    fn read<D: Disk>(
         &self,
         alloc: Global,
         at: HeightOrLive,
@@ -106,29 +156,62 @@ impl Manager {
         mem: Mem,
         offset: u64,
         len: u64,
-    ) -> Result<Reply, NoMemory>
-        ensures { (m : Machine) → Keeps self.now m → Performs result self.now m (Command.Read at id.now mem offset len) }
+        disk: &mut D,
+    ) -> Result<Reply, StoreError>
+        requires over { IsTrue D.tells → IsOver self.now.store (D.view disk.old).state.files }
+        ensures line { DoesLine D.tells self.now self.now (D.view disk.old) (D.view disk.new) result (Command.Read at id.now mem offset len) }
+        ensures cause { StoreCause (D.faults disk.old) (D.faults disk.new) result }
     {
+        if let Some(height) = self.published_at(at) {
+            return read_published(alloc, &self.store, disk, height, id, mem, offset, len);
+        }
         match self.state_at(at) {
-            Some(state) => state.read(alloc, id, mem, offset, len),
+            Some(state) => Ok(state.read(alloc, id, mem, offset, len)?),
+            None => Ok(Reply::Refused(Refusal::NoHeight)),
+        }
+    }
+
+    // `scratch HL`
+    fn scratch<D: Disk>(
+        &self,
+        alloc: Global,
+        at: HeightOrLive,
+        disk: &mut D,
+    ) -> Result<Reply, StoreError>
+        requires over { IsTrue D.tells → IsOver self.now.store (D.view disk.old).state.files }
+        ensures line { DoesLine D.tells self.now self.now (D.view disk.old) (D.view disk.new) result (Command.Scratch at) }
+        ensures cause { StoreCause (D.faults disk.old) (D.faults disk.new) result }
+    {
+        if let Some(height) = self.published_at(at) {
+            let state = load(alloc, &self.store, disk, height)?;
+            return Ok(Reply::Scratch(state.root(alloc)?));
+        }
+        match self.state_at(at) {
+            Some(state) => Ok(Reply::Scratch(state.root(alloc)?)),
             None => Ok(Reply::Refused(Refusal::NoHeight)),
         }
     }
 
     // `root HL`
     fn root(&self, alloc: Global, at: HeightOrLive) -> Result<Reply, NoMemory>
-        ensures { (m : Machine) → Keeps self.now m → Performs result self.now m (Command.Root at) }
+        ensures { (m : Machine) → KeepsStates self.now m → Performs result self.now m (Command.Root at) }
     {
+        if let Some(height) = self.published_at(at) {
+            return Ok(root_published(&self.store, height));
+        }
         match self.state_at(at) {
-            Some(state) => state.root(alloc),
+            Some(state) => Ok(Reply::Root(state.root(alloc)?)),
             None => Ok(Reply::Refused(Refusal::NoHeight)),
         }
     }
 
     // `manifest HL`
     fn count_manifest(&self, alloc: Global, at: HeightOrLive) -> Result<Reply, NoMemory>
-        ensures { (m : Machine) → Keeps self.now m → Performs result self.now m (Command.Manifest at) }
+        ensures { (m : Machine) → KeepsStates self.now m → Performs result self.now m (Command.Manifest at) }
     {
+        if let Some(height) = self.published_at(at) {
+            return count_published(alloc, &self.store, height);
+        }
         match self.state_at(at) {
             Some(state) => state.count_manifest(alloc),
             None => Ok(Reply::Refused(Refusal::NoHeight)),
@@ -137,8 +220,11 @@ impl Manager {
 
     // `tree HL`
     fn tree(&self, alloc: Global, at: HeightOrLive) -> Result<Reply, NoMemory>
-        ensures { (m : Machine) → Keeps self.now m → Performs result self.now m (Command.Tree at) }
+        ensures { (m : Machine) → KeepsStates self.now m → Performs result self.now m (Command.Tree at) }
     {
+        if let Some(height) = self.published_at(at) {
+            return tree_published(alloc, &self.store, height);
+        }
         match self.state_at(at) {
             Some(state) => Ok(Reply::Tree(state.tree_root(alloc)?)),
             None => Ok(Reply::Refused(Refusal::NoHeight)),
@@ -148,18 +234,83 @@ impl Manager {
     // `witness HL PATH ..`
     fn witness(&self, alloc: Global, at: HeightOrLive, paths: &[Path]) -> Result<Reply, NoMemory>
         requires { 1 ≤ length paths.now }
-        ensures { (m : Machine) → Keeps self.now m → Performs result self.now m (Command.Witness at paths.now) }
+        ensures { (m : Machine) → KeepsStates self.now m → Performs result self.now m (Command.Witness at paths.now) }
     {
+        if let Some(height) = self.published_at(at) {
+            return witness_published(alloc, &self.store, height, paths);
+        }
         match self.state_at(at) {
             Some(state) => Ok(Reply::Witness(state.witness(alloc, paths)?)),
             None => Ok(Reply::Refused(Refusal::NoHeight)),
         }
     }
 
-    // What each line does.
-    fn perform(&mut self, alloc: Global, command: &Command) -> Result<Reply, NoMemory>
-        requires { FitsForm command.now }
-        ensures step { (m : Machine) → Keeps self.old m → Performs result self.new m command.now }
+    // `checkpoint`
+    fn checkpoint<D: Disk>(&mut self, alloc: Global, disk: &mut D) -> Result<Reply, StoreError>
+        requires numbers { self.old.store.given ≤ 2 ^ 60 }
+        requires over { IsTrue D.tells → IsOver self.old.store (D.view disk.old).state.files }
+        ensures line { DoesLine D.tells self.old self.new (D.view disk.old) (D.view disk.new) result Command.Checkpoint }
+        ensures cause { StoreCause (D.faults disk.old) (D.faults disk.new) result }
+    {
+        let Some(state) = self.memory.last() else {
+            return Ok(Reply::Refused(Refusal::NoHeight));
+        };
+        let height = state.height();
+        if is_low(&self.store, height) {
+            return Ok(Reply::Refused(Refusal::HeightLow));
+        }
+        if self.store.count() as usize >= MAX_PUBLISHED {
+            return Ok(Reply::Refused(Refusal::ManyMarks));
+        }
+        let root = state.publish(alloc, &mut self.store, disk)?;
+        Ok(Reply::Published { height, root })
+    }
+
+    // `purge H`
+    fn purge<D: Disk>(
+        &mut self,
+        alloc: Global,
+        height: u64,
+        disk: &mut D,
+    ) -> Result<Reply, StoreError>
+        requires over { IsTrue D.tells → IsOver self.old.store (D.view disk.old).state.files }
+        ensures line { DoesLine D.tells self.old self.new (D.view disk.old) (D.view disk.new) result (Command.Purge height) }
+        ensures cause { StoreCause (D.faults disk.old) (D.faults disk.new) result }
+    {
+        match self.store.purge(alloc, height, disk) {
+            Ok(()) => Ok(Reply::Fine),
+            Err(error) => refused_purge(error),
+        }
+    }
+
+    // `reset H`
+    fn reset<D: Disk>(
+        &mut self,
+        alloc: Global,
+        height: u64,
+        disk: &mut D,
+    ) -> Result<Reply, StoreError>
+        requires over { IsTrue D.tells → IsOver self.old.store (D.view disk.old).state.files }
+        ensures line { DoesLine D.tells self.old self.new (D.view disk.old) (D.view disk.new) result (Command.Reset height) }
+        ensures cause { StoreCause (D.faults disk.old) (D.faults disk.new) result }
+    {
+        if !is_published(&self.store, height) {
+            return Ok(Reply::Refused(Refusal::NoHeight));
+        }
+        if !is_newest(&self.store, height) {
+            return Ok(Reply::Refused(Refusal::HeightLow));
+        }
+        self.live = begin(alloc, &self.store, disk)?;
+        self.memory.clear();
+        Ok(Reply::Fine)
+    }
+
+    // What each line does that needs no disk.
+    fn perform_apart(&mut self, alloc: Global, command: &Command) -> Result<Reply, NoMemory>
+        requires fits { FitsForm command.now }
+        requires apart { needs_disk command.now ≡ false }
+        ensures step { (m : Machine) → KeepsStates self.old m → Performs result self.new m command.now }
+        ensures store { self.new.store ≡ self.old.store }
         ensures same { self.new.closed ≡ self.old.closed }
     {
         match command {
@@ -183,13 +334,6 @@ impl Manager {
                 self.live.put(alloc, path.copy(alloc)?, value.copy(alloc)?)
             }
             Command::Del { path } => self.live.delete(path),
-            Command::Read {
-                at,
-                id,
-                mem,
-                offset,
-                len,
-            } => self.read(alloc, *at, id, *mem, *offset, *len),
             Command::Heights => self.heights(alloc),
             Command::Root { at } => self.root(alloc, *at),
             Command::Manifest { at } => self.count_manifest(alloc, *at),
@@ -200,29 +344,138 @@ impl Manager {
             Command::Check { root, bytes, path } => {
                 check_witness(alloc, root, bytes.bytes(), path)
             }
+            Command::Read { .. }
+            | Command::Scratch { .. }
+            | Command::Checkpoint
+            | Command::Purge { .. }
+            | Command::Reset { .. } => unreachable!(),
         }
     }
 
-    /// Applies a command, and answers its reply.
+    // What each line does that needs the disk.
+    fn perform_on<D: Disk>(
+        &mut self,
+        alloc: Global,
+        command: &Command,
+        disk: &mut D,
+    ) -> Result<Reply, StoreError>
+        requires needs { needs_disk command.now ≡ true }
+        requires numbers { self.old.store.given ≤ 2 ^ 60 }
+        requires over { IsTrue D.tells → IsOver self.old.store (D.view disk.old).state.files }
+        ensures line { DoesLine D.tells self.old self.new (D.view disk.old) (D.view disk.new) result command.now }
+        ensures cause { StoreCause (D.faults disk.old) (D.faults disk.new) result }
+    {
+        match command {
+            Command::Read {
+                at,
+                id,
+                mem,
+                offset,
+                len,
+            } => self.read(alloc, *at, id, *mem, *offset, *len, disk),
+            Command::Scratch { at } => self.scratch(alloc, *at, disk),
+            Command::Checkpoint => self.checkpoint(alloc, disk),
+            Command::Purge { height } => self.purge(alloc, *height, disk),
+            Command::Reset { height } => self.reset(alloc, *height, disk),
+            _ => unreachable!(),
+        }
+    }
+
+    // What each line does.
+    fn perform<D: Disk>(
+        &mut self,
+        alloc: Global,
+        command: &Command,
+        disk: &mut D,
+    ) -> Result<Reply, StoreError>
+        requires fits { FitsForm command.now }
+        requires numbers { self.old.store.given ≤ 2 ^ 60 }
+        requires over { IsTrue D.tells → IsOver self.old.store (D.view disk.old).state.files }
+        ensures line { DoesLine D.tells self.old self.new (D.view disk.old) (D.view disk.new) result command.now }
+        ensures cause { StoreCause (D.faults disk.old) (D.faults disk.new) result }
+    {
+        if needs_disk(command) {
+            return self.perform_on(alloc, command, disk);
+        }
+        Ok(self.perform_apart(alloc, command)?)
+    }
+
+    /// Applies a command, and answers its reply. The disk's files are as this manager's last call left them, and it has given
+    /// at most 2^60 numbers to page files.
     ///
-    /// Memory where memory ran out; the manager is closed from then on. Closed exactly where an earlier call answered
-    /// Memory.
-    pub fn apply(&mut self, alloc: Global, command: &Command) -> Result<Reply, Stop>
-        requires { FitsForm command.now }
-        ensures step { (m : Machine) → Keeps self.old m → Applies result self.new m command.now }
+    /// A crash at any moment leaves the published heights before the command or those after it; after Ok it leaves those after.
+    /// Disk where the disk failed, Memory where memory ran out; the manager is closed from then on. Closed exactly where an
+    /// earlier call answered one of them; the disk isn't called then.
+    pub fn apply<D: Disk>(
+        &mut self,
+        alloc: Global,
+        command: &Command,
+        disk: &mut D,
+    ) -> Result<Reply, Stop>
+        requires fits { FitsForm command.now }
+        requires numbers { self.old.store.given ≤ 2 ^ 60 }
+        requires over { IsTrue D.tells → self.old.closed ≡ false → IsOver self.old.store (D.view disk.old).state.files }
+
+        ensures step { IsTrue D.tells → (m : Machine) → Keeps self.old (D.view disk.old).state m → Applies result self.new (D.view disk.new).state m command.now }
+        ensures images { IsTrue D.tells → (m : Machine) → Keeps self.old (D.view disk.old).state m
+            → LeavesOnly (D.view disk.old) (D.view disk.new) (StandsForEither m.published (step m command.now).after.published) }
+        ensures over { IsTrue D.tells → OnOk result (IsOver self.new.store (D.view disk.new).state.files) }
+        ensures given { (self.old.store.given ≤ self.new.store.given) × (self.new.store.given ≤ self.old.store.given + 2048) }
         ensures closed { (result ≡ Err Stop.Closed) ↔ (self.old.closed ≡ true) }
+        ensures silent { result ≡ Err Stop.Closed → (self.new ≡ self.old) × (disk.new ≡ disk.old) }
         ensures closes { OnErr result (self.new.closed ≡ true) }
         ensures stays { OnOk result (self.new.closed ≡ self.old.closed) }
+        ensures cause { HasCause (D.faults disk.old) (D.faults disk.new) result }
     {
         if self.closed {
             return Err(Stop::Closed);
         }
-        match self.perform(alloc, command) {
+        match self.perform(alloc, command, disk) {
             Ok(reply) => Ok(reply),
-            Err(_) => {
+            Err(error) => {
                 self.closed = true;
-                Err(Stop::Memory)
+                Err(Stop::from(error))
             }
         }
+    }
+
+    /// The height of the live state.
+    pub fn live_height(&self) -> u64
+        ensures { result ≡ self.now.live.height }
+    {
+        self.live.height()
+    }
+
+    /// The newest published height, and None exactly where none is.
+    pub fn newest(&self) -> Option<u64>
+        ensures { result ≡ last_or None (map (λ h. h.mark.height) self.now.store.heights) }
+    {
+        self.store.newest()
+    }
+}
+
+// Whether a line may read or change the disk.
+fn needs_disk(command: &Command) -> bool
+    ensures { result ≡ needs_disk command.now }
+{
+    matches!(
+        command,
+        Command::Read { .. }
+            | Command::Scratch { .. }
+            | Command::Checkpoint
+            | Command::Purge { .. }
+            | Command::Reset { .. }
+    )
+}
+
+// The reply to a purge that the store refused; any other error stays.
+fn refused_purge(error: StoreError) -> Result<Reply, StoreError>
+    ensures { result ≡ purge_reply error }
+{
+    match error {
+        StoreError::NoHeight => Ok(Reply::Refused(Refusal::NoHeight)),
+        StoreError::LastHeight => Ok(Reply::Refused(Refusal::LastHeight)),
+        StoreError::BadMark(_) | StoreError::BadPage(_) | StoreError::Fault | StoreError::Memory =>
+            Err(error),
     }
 }

@@ -1,17 +1,54 @@
-use byte_codec::NoMemory;
+//! Why a manager answers no reply, or does not open.
+
+ghost use Rattle.std.specs.Prelude.{◌≡◌};
+ghost use Rattle.state_manager.specs.Causes.{open_error, stop_of};
+
+use height_store::StoreError;
 
 /// Why a manager answers no reply.
 #[derive(Clone, Copy, Debug, PartialEq, Eq)]
 pub enum Stop {
+    /// The disk failed. The manager is closed from then on.
+    Disk,
     /// Memory ran out. The manager is closed from then on.
     Memory,
     /// An earlier call stopped.
     Closed,
 }
 
+impl From<StoreError> for Stop {
+    ghost from_gives = { λ e made. made ≡ stop_of e };
+
+    fn from(error: StoreError) -> Stop {
+        match error {
+            StoreError::Fault => Stop::Disk,
+            _ => Stop::Memory,
+        }
+    }
+}
+
 /// Why a manager does not open.
 #[derive(Clone, Copy, Debug, PartialEq, Eq)]
 pub enum OpenError {
+    /// The mark of this height is none, or there are sixteen before it.
+    BadMark(u64),
+    /// The page file of this number, which a mark names, is absent or none, or has more memory pages than the memory.
+    BadPage(u64),
+    /// The disk failed, and has counted that.
+    Fault,
     /// Memory ran out.
     Memory,
+}
+
+impl From<StoreError> for OpenError {
+    ghost from_gives = { λ e made. made ≡ open_error e };
+
+    fn from(error: StoreError) -> OpenError {
+        match error {
+            StoreError::BadMark(height) => OpenError::BadMark(height),
+            StoreError::BadPage(number) => OpenError::BadPage(number),
+            StoreError::Fault => OpenError::Fault,
+            _ => OpenError::Memory,
+        }
+    }
 }

@@ -1,12 +1,5 @@
-use Rattle.std.proofs.Common.{◌≡◌, length, ap, arith}
-use Rattle.state_spec.specs.Manifest.{Manifest}
-use Rattle.state_spec.specs.Root.{MetaManifest}
-use Rattle.state_manager.proofs.Hashed.{counts_are}
+use Rattle.state_manager.proofs.Hashed.{after_counts}
 use Rattle.state_manager.proofs.height_state.HeightState.count_manifest.Goals as goal
 
 pub returns : goal.returns
-returns c = λ m k.
-    let files : c.len.result ≡ length c.in_ok-manifest.manifest.files = omega (arith, ap (λ (x : Manifest). length x.files) c.manifest-2.view_is) in
-    let chunks : c.len-2.result ≡ length c.in_ok-manifest.manifest.chunks = omega (arith, ap (λ (x : Manifest). length x.chunks) c.manifest-2.view_is) in
-    let pieces : c.len-3.result ≡ length c.in_ok-meta.meta.pieces = omega (arith, ap (λ (x : MetaManifest). length x.pieces) c.meta-2.view_is) in
-    (rw (files, chunks, pieces, c.bytes.ensures) (counts_are m.live c.in_ok-manifest.manifest c.in_ok-meta.meta c.in_ok-text.text (c.in_ok-manifest.ensures.value m k) c.in_ok-meta.ensures.value c.in_ok-text.ensures.value), k)
+returns c = λ m k. after_counts c.args.self.now m k c.count_manifest.result (c.count_manifest.ensures m.live (c.in_ok-manifest.ensures.value m k))

@@ -9,10 +9,13 @@ use Rattle.state_manager.proofs.height_state.HeightState.create.Goals as goal
 pub create_canister-requires : goal.create_canister-requires
 create_canister-requires c =
     let all = c.self.inside.memories.items in
-    omega (arith, pair_for_each c.self.inside.sys.canisters (map (λ v. v.items) all) c.self.invariant, length-map all (λ v. v.items))
+    omega (arith, pair_for_each c.self.inside.sys.canisters (map (λ v. v.items) all) c.self.invariant.sizes, length-map all (λ v. v.items))
 
 pub invariant_of-self : goal.invariant_of-self
-invariant_of-self c = after_create _ c.create_canister.result c.self.inside.sys c.create_canister.new.sys c.args.id.now c.self.inside.height (map (λ v. v.items) c.self.inside.memories.items) _ c.self.invariant c.create_canister.ensures
+invariant_of-self c = record {
+  sizes = after_create _ c.create_canister.result c.self.inside.sys c.create_canister.new.sys c.args.id.now c.self.inside.height (map (λ v. v.items) c.self.inside.memories.items) _ c.self.invariant.sizes c.create_canister.ensures;
+  from_one = c.self.invariant.from_one;
+}
 
 pub returns : goal.returns
 returns c = λ m k. step_create _ _ m (subst (λ (h : HeldState). KeepsState h m) (sym c.self.view_is) k) (record { height = refl }) c.args.id.now c.create_canister.result c.create_canister.ensures

@@ -9,10 +9,13 @@ use Rattle.state_manager.proofs.height_state.HeightState.remove.Goals as goal
 pub remove_canister-requires : goal.remove_canister-requires
 remove_canister-requires c =
     let all = c.self.inside.memories.items in
-    omega (arith, pair_for_each c.self.inside.sys.canisters (map (λ v. v.items) all) c.self.invariant, length-map all (λ v. v.items))
+    omega (arith, pair_for_each c.self.inside.sys.canisters (map (λ v. v.items) all) c.self.invariant.sizes, length-map all (λ v. v.items))
 
 pub invariant_of-self : goal.invariant_of-self
-invariant_of-self c = after_remove _ c.remove_canister.result c.self.inside.sys c.remove_canister.new.sys c.args.id.now (map (λ v. v.items) c.self.inside.memories.items) _ c.self.invariant c.remove_canister.ensures
+invariant_of-self c = record {
+  sizes = after_remove _ c.remove_canister.result c.self.inside.sys c.remove_canister.new.sys c.args.id.now (map (λ v. v.items) c.self.inside.memories.items) _ c.self.invariant.sizes c.remove_canister.ensures;
+  from_one = c.self.invariant.from_one;
+}
 
 pub returns : goal.returns
 returns c = λ m k. step_remove _ _ m (subst (λ (h : HeldState). KeepsState h m) (sym c.self.view_is) k) (record { height = refl }) c.args.id.now c.remove_canister.result c.remove_canister.ensures

@@ -1,10 +1,23 @@
-use Rattle.state_manager.proofs.Standing.{at_none, at_some, asks_none, asks_manifest}
+use Rattle.std.proofs.Common.{ap, refl, ◌∙◌}
+use Rattle.script_text.specs.declared.command.Command.TheVariants as commands
+use Rattle.height_store.specs.Store.{height_at}
+use Rattle.machine_spec.specs.HeightSteps.{counts_of}
+use Rattle.machine_spec.specs.Machine.{answered}
+use Rattle.state_manager.specs.Kept.{Held}
+use Rattle.state_manager.proofs.Standing.{at_some, counts_kept, knows_some, line_none, performs_in_memory, performs_published}
 use Rattle.state_manager.proofs.manager.Manager.count_manifest.Goals as goal
 
 pub returns-in-Some : goal.returns-in-Some
 returns-in-Some c = λ m k.
-    let n = at_some c.args.self.now m k c.args.at c.in-Some.state.now c.in-Some.ensures in
-    asks_manifest c.args.self.now m k c.args.at n.0 n.2 c.in-Some.state.now c.count_manifest.result (c.count_manifest.ensures n.0 n.1)
+    let p = knows_some c.args.self.now m k c.args.at c.in-Some.height c.in-Some.ensures in
+    performs_published c.args.self.now m k c.args.at (commands.Manifest c.args.at) counts_of refl c.in-Some.height c.in-Some.ensures c.count_published.result
+    (c.count_published.ensures p.stored p.published (ap (λ (h : Held). height_at h.store.heights c.in-Some.height) c.self.view_is ∙ p.found) p.related)
+
+pub returns-in-Some-state_at : goal.returns-in-Some-state_at
+returns-in-Some-state_at c = λ m k.
+    let n = at_some c.args.self.now m k c.args.at c.in-Some-state_at.state.now c.in-Some-state_at.ensures in
+    performs_in_memory c.args.self.now m k c.args.at (commands.Manifest c.args.at) counts_of refl c.in_default.ensures c.in-Some-state_at.state.now c.in-Some-state_at.ensures c.count_manifest.result
+    (counts_kept c.in-Some-state_at.state.now n.0 c.count_manifest.result (c.count_manifest.ensures n.0 n.1))
 
 pub returns-in-None : goal.returns-in-None
-returns-in-None c = λ m k. asks_none c.args.self.now m k c.args.at (at_none c.args.self.now m k c.args.at c.in-None.ensures) _
+returns-in-None c = λ m k. line_none c.args.self.now m k c.args.at c.in_default.ensures c.in-None.ensures (λ s. answered (counts_of s) m)

@@ -1,16 +1,13 @@
-use Rattle.std.proofs.Common.{refl, sym, subst}
-use Rattle.script_text.specs.declared.command.Command.{Command}
-use Rattle.script_text.specs.declared.command.Command.TheVariants as commands
-use Rattle.state_manager.specs.Kept.{Held, Keeps, Performs}
-use Rattle.state_manager.specs.StateKept.{PerformsState}
-use Rattle.state_manager.proofs.Onward.{on_live, leaves_put}
+use Rattle.std.proofs.Common.{Ok}
+use Rattle.state_manager.proofs.DiskLines.{apart_line, if_failed}
 use Rattle.state_manager.proofs.manager.Manager.perform.Goals as goal
 
-pub returns-in_ok-copy-in-Put-2-clause-step : goal.returns-in_ok-copy-in-Put-2-clause-step
-returns-in_ok-copy-in-Put-2-clause-step c = λ m k.
-    let kept = subst (λ (h : Held). Keeps h m) (sym c.self-in-Put.view_is) k in
-    let path = subst (λ p. PerformsState c.put.result c.put.new.self m (commands.Put p c.in_ok-copy-in-Put-2.field-0)) c.in_ok-copy-in-Put.ensures (c.put.ensures m kept.live) in
-    let value = subst (λ v. PerformsState c.put.result c.put.new.self m (commands.Put c.in-Put.path v)) c.in_ok-copy-in-Put-2.ensures path in
-    let now : Held = record { live = c.put.new.self; memory = c.self-in-Put.inside.memory.items; closed = c.self-in-Put.inside.closed } in
-    let done = on_live _ now m (commands.Put c.in-Put.path c.in-Put.value) c.put.result kept refl refl (leaves_put m c.in-Put.path c.in-Put.value) value in
-    subst (λ (command : Command). Performs c.put.result now m command) (sym c.in-Put.is) done
+pub returns-in_err-perform_apart-clause-line : goal.returns-in_err-perform_apart-clause-line
+returns-in_err-perform_apart-clause-line g c =
+    apart_line g.D.Disk.tells c.args.self.now c.perform_apart.new.self (g.D.Disk.view c.args.disk.now) c.args.command.now c.requires.over c.perform_apart.ensures.store c.perform_apart.ensures.same c.from_residual.result
+    (λ m k. if_failed _ c.from_residual.result c.from_residual.ensures.0)
+
+pub returns-clause-line : goal.returns-clause-line
+returns-clause-line g c =
+    apart_line g.D.Disk.tells c.args.self.now c.perform_apart.new.self (g.D.Disk.view c.args.disk.now) c.args.command.now c.requires.over c.perform_apart.ensures.store c.perform_apart.ensures.same (Ok c.in_ok-perform_apart.field-0)
+    (λ m k. c.in_ok-perform_apart.ensures.step m k)

@@ -1,10 +1,34 @@
-use Rattle.state_manager.proofs.Standing.{at_none, at_some, asks_none, asks_read}
+use Rattle.std.proofs.Common.{◌∙◌, Ok, ap}
+use Rattle.std.proofs.lemmas.Result.{IfOk-weaker}
+use Rattle.disk_model.specs.Looking.{looks_none}
+use Rattle.height_store.specs.Store.{height_at}
+use Rattle.script_text.specs.declared.command.Command.TheVariants as commands
+use Rattle.state_manager.specs.Kept.{Held, standing}
+use Rattle.state_manager.proofs.DiskLines.{failed_line, looks_line, shown_some, still_line}
+use Rattle.state_manager.proofs.ReadHeights.{reads_at}
+use Rattle.state_manager.proofs.Standing.{asks_none, at_none, at_some, published_none}
 use Rattle.state_manager.proofs.manager.Manager.read.Goals as goal
 
-pub returns-in-Some : goal.returns-in-Some
-returns-in-Some c = λ m k.
-    let n = at_some c.args.self.now m k c.args.at c.in-Some.state.now c.in-Some.ensures in
-    asks_read c.args.self.now m k c.args.at n.0 n.2 c.in-Some.state.now c.args.id.now c.args.mem c.args.offset c.args.len c.read.result (c.read.ensures n.0 n.1)
+pub returns-in-Some-clause-line : goal.returns-in-Some-clause-line
+returns-in-Some-clause-line g c =
+    looks_line g.D.Disk.tells c.args.self.now (g.D.Disk.view c.args.disk.now) _ c.read_published.result (commands.Read c.args.at c.args.id.now c.args.mem c.args.offset c.args.len) c.requires.over c.read_published.ensures.looks
+    (λ told m k.
+    let p = shown_some c.args.self.now _ m (g.met.D.Disk.reads_as_image c.args.disk.now told) k c.args.at c.in-Some.height c.in-Some.ensures in
+    IfOk-weaker c.read_published.result _ _ (λ reply is. reads_at m c.args.at (standing (p.published.height, p.published.state)) p.state c.args.id.now c.args.mem c.args.offset c.args.len reply is)
+    (c.read_published.ensures.reply told p.stored p.published (ap (λ (h : Held). height_at h.store.heights c.in-Some.height) c.self.view_is ∙ p.found) p.related))
 
-pub returns-in-None : goal.returns-in-None
-returns-in-None c = λ m k. asks_none c.args.self.now m k c.args.at (at_none c.args.self.now m k c.args.at c.in-None.ensures) _
+pub returns-in_err-read-in-Some-state_at-clause-line : goal.returns-in_err-read-in-Some-state_at-clause-line
+returns-in_err-read-in-Some-state_at-clause-line g c =
+    failed_line g.D.Disk.tells c.args.self.now (g.D.Disk.view c.args.disk.now) (g.D.Disk.view c.args.disk.now) c.from_residual.result (commands.Read c.args.at c.args.id.now c.args.mem c.args.offset c.args.len) c.from_residual.ensures.0 c.requires.over (λ told. (0, looks_none 0 _))
+
+pub returns-in_ok-read-in-Some-state_at-clause-line : goal.returns-in_ok-read-in-Some-state_at-clause-line
+returns-in_ok-read-in-Some-state_at-clause-line g c =
+    still_line g.D.Disk.tells c.args.self.now (g.D.Disk.view c.args.disk.now) (Ok c.in_ok-read-in-Some-state_at.field-0) (commands.Read c.args.at c.args.id.now c.args.mem c.args.offset c.args.len) c.requires.over
+    (λ told m k.
+    let n = at_some c.args.self.now m k.states c.args.at c.in-Some-state_at.state.now c.in-Some-state_at.ensures in
+    reads_at m c.args.at n.0 (published_none c.args.self.now m k.states c.args.at c.in_default.ensures ∙ n.2) c.args.id.now c.args.mem c.args.offset c.args.len c.in_ok-read-in-Some-state_at.field-0 (c.in_ok-read-in-Some-state_at.ensures n.0 n.1).0)
+
+pub returns-in-None-clause-line : goal.returns-in-None-clause-line
+returns-in-None-clause-line g c =
+    still_line g.D.Disk.tells c.args.self.now (g.D.Disk.view c.args.disk.now) _ (commands.Read c.args.at c.args.id.now c.args.mem c.args.offset c.args.len) c.requires.over
+    (λ told m k. asks_none m c.args.at (published_none c.args.self.now m k.states c.args.at c.in_default.ensures ∙ at_none c.args.self.now m k.states c.args.at c.in-None.ensures) _)

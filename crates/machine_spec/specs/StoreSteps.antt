@@ -1,0 +1,65 @@
+-- The steps of lines on published heights.
+use Rattle.std.specs.Prelude.{ℕ, ◌/◌, ◌==◌, not, nat_le, Bool, false, if◌then◌else◌, List, [], ◌∷◌, ◌++◌, length, map}
+use Rattle.std.specs.Prelude.{filter, is_some, None}
+use Rattle.std.specs.List.{last_or, range_with_len}
+use Rattle.std.specs.Option.{option_map_or}
+use Rattle.format_spec.specs.declared.limits.TheConstants.{PAGE_SIZE, MAX_PUBLISHED}
+use Rattle.state_spec.specs.State.{State, memory_bytes}
+use Rattle.state_spec.specs.Root.{root_of}
+use Rattle.store_spec.specs.Image.{Published}
+use Rattle.script_text.specs.declared.command.HeightOrLive.{HeightOrLive}
+use Rattle.script_text.specs.declared.reply.Reply.TheVariants as replies
+use Rattle.script_text.specs.declared.reply.Refusal.TheVariants.{NoHeight, HeightLow, ManyMarks, LastHeight}
+use Rattle.machine_spec.specs.Machine.{Machine, Outcome, answered, unless, unless_none, on_state, start, newest, published_at}
+
+-- there is a newest published height, and this one isn't above it
+abbrev pub is_low : ℕ → List Published → Bool
+is_low h ps = option_map_or (λ p. nat_le h p.height) (newest ps) false
+
+-- this is the newest published height
+abbrev pub is_newest : ℕ → List Published → Bool
+is_newest h ps = option_map_or (λ p. p.height == h) (newest ps) false
+
+-- one layer with all of so many pages, and none for no pages
+abbrev pub whole_layer : ℕ → List (List ℕ)
+whole_layer pages = if pages == 0 then [] else range_with_len 0 pages ∷ []
+
+-- the layers of a state whose memories are written whole, in the order of the memories
+abbrev pub whole_layers : State → List (List (List ℕ))
+whole_layers s = map (λ bytes. whole_layer (length bytes / PAGE_SIZE)) (memory_bytes s)
+
+-- `checkpoint` publishes the newest height in memory, which stays there
+abbrev pub checkpoint_step : Machine → Outcome
+checkpoint_step m = unless_none (last_or None m.memory) NoHeight m (λ k.
+    unless (
+    (is_low k.0 m.published, HeightLow)
+    ∷ (nat_le MAX_PUBLISHED (length m.published), ManyMarks)
+    ∷ []
+    ) m (λ m. answered (replies.Published k.0 (root_of k.1))
+    (record m { published = m.published ++ record { height = k.0; state = k.1; layers = whole_layers k.1 } ∷ [] })))
+
+-- the published heights but for this one
+abbrev pub without_published : ℕ → List Published → List Published
+without_published h ps = filter (λ p. not (p.height == h)) ps
+
+-- `purge H` removes a published height that isn't the newest
+abbrev pub purge_step : Machine → ℕ → Outcome
+purge_step m h =
+    unless (
+    (not (is_some (published_at h m.published)), NoHeight)
+    ∷ (is_newest h m.published, LastHeight)
+    ∷ []
+    ) m (λ m. answered replies.Fine (record m { published = without_published h m.published }))
+
+-- `reset H` begins again at the newest published height, and drops what is in memory
+abbrev pub reset_step : Machine → ℕ → Outcome
+reset_step m h =
+    unless (
+    (not (is_some (published_at h m.published)), NoHeight)
+    ∷ (not (is_newest h m.published), HeightLow)
+    ∷ []
+    ) m (λ m. answered replies.Fine (start m.published))
+
+-- `scratch HL`
+abbrev pub scratch_step : Machine → HeightOrLive → Outcome
+scratch_step m at = on_state m at (λ s. answered (replies.Scratch (root_of s)) m)

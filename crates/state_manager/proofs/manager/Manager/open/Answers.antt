@@ -1,0 +1,18 @@
+use Rattle.std.proofs.Common.{refl}
+use Rattle.state_manager.proofs.DiskLines.{looks_behind, opens_keeping}
+use Rattle.state_manager.proofs.manager.Manager.open.Goals as goal
+
+pub returns-in_err-live-clause-images : goal.returns-in_err-live-clause-images
+returns-in_err-live-clause-images g c = λ told each. let looks = c.begin.ensures.looks told in looks_behind looks.0 _ _ _ _ (c.open.ensures.images told each) looks.1
+
+pub returns-clause-images : goal.returns-clause-images
+returns-clause-images g c = λ told each. let looks = c.begin.ensures.looks told in looks_behind looks.0 _ _ _ _ (c.open.ensures.images told each) looks.1
+
+pub returns-clause-usable : goal.returns-clause-usable
+returns-clause-usable g c = (refl, c.in_ok-store.ensures.next.0)
+
+pub returns-clause-kept : goal.returns-clause-kept
+returns-clause-kept g c = λ told ps each stands.
+    let looks = (c.begin.ensures.looks told).1 in
+    opens_keeping _ (g.D.Disk.view c.open.new.disk).state _ ps looks.state (g.met.D.Disk.reads_as_image c.begin.new.disk told) refl c.new.ensures.items (c.in_ok-store.ensures.over told) (c.in_ok-store.ensures.settled told) (c.in_ok-store.ensures.stands told ps each stands)
+    (g.met.D.Disk.reads_as_image c.open.new.disk told) (λ shown. c.in_ok-live.ensures.state told ps shown)

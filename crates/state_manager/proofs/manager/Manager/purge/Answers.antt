@@ -1,0 +1,31 @@
+use Rattle.std.proofs.Common.{◌∙◌, ap, sym, subst, refl, arith}
+use Rattle.std.specs.Prelude.{IsTrue}
+use Rattle.height_store.specs.Kept.{IsOver}
+use Rattle.script_text.specs.declared.command.Command.TheVariants as commands
+use Rattle.state_manager.specs.Kept.{Held, DoesLine}
+use Rattle.state_manager.proofs.Purging.{Purges, RepliesTo, purge_line}
+use Rattle.state_manager.proofs.manager.Manager.purge.Goals as goal
+use Rattle.state_manager.proofs.manager.Manager.purge.Goals.{in-Ok, in-Err}
+
+pub returns-clause-line : goal.returns-clause-line
+returns-clause-line g c =
+    let over : IsTrue g.D.Disk.tells → IsOver c.self.inside.store (g.D.Disk.view c.args.disk.now).state.files = λ told. subst (λ (h : Held). IsOver h.store (g.D.Disk.view c.args.disk.now).state.files) (sym c.self.view_is) (c.requires.over told) in
+    let old : Held = record { live = c.self.inside.live; memory = c.self.inside.memory.items; store = c.self.inside.store; closed = c.self.inside.closed } in
+    let now : Held = record { live = c.self.inside.live; memory = c.self.inside.memory.items; store = c.purge.new.self; closed = c.self.inside.closed } in
+    let says : RepliesTo c.purge.result c.match-purge.result = elim c.match-purge.branch [
+      | in-Ok w ↦ subst (λ r. RepliesTo r c.match-purge.result) (sym w.in-Ok.is) w.result-is
+      | in-Err w ↦ subst (λ r. RepliesTo r c.match-purge.result) (sym w.in-Err.is) (w.result-is ∙ w.refused_purge.ensures)
+    ] in
+    let purges : Purges g.D.Disk.tells old now (g.D.Disk.view c.args.disk.now) (g.D.Disk.view c.purge.new.disk) c.args.height c.purge.result = record {
+      no_height = c.purge.ensures.no_height;
+      last_height = c.purge.ensures.last_height;
+      refused = λ h. let same = c.purge.ensures.refused h in (same.0, ap g.D.Disk.view same.1);
+      given_least = omega (arith, c.purge.ensures.given);
+      given_most = omega (arith, c.purge.ensures.given);
+      over = c.purge.ensures.over;
+      stands = c.purge.ensures.stands;
+      images = c.purge.ensures.images;
+      settled = c.purge.ensures.settled;
+    } in
+    subst (λ (h : Held). DoesLine g.D.Disk.tells h now (g.D.Disk.view c.args.disk.now) (g.D.Disk.view c.purge.new.disk) c.match-purge.result (commands.Purge c.args.height)) c.self.view_is
+    (purge_line g.D.Disk.tells old now (g.D.Disk.view c.args.disk.now) (g.D.Disk.view c.purge.new.disk) c.args.height c.purge.result c.match-purge.result says purges refl refl refl over (λ told. g.met.D.Disk.reads_as_image c.purge.new.disk told))

@@ -1,0 +1,261 @@
+-- Numbers that are given to page files, and what stays of the others.
+use Rattle.std.proofs.Common.{◌≡◌, ℕ, zero, suc, length, take, map, get_or, ◌+◌, ◌≤◌, ◌<◌, Bool, true, false, ◌&&◌, ◌||◌, not, nat_eq, nat_lt, List, [], ◌∷◌, ◌++◌, is_some, Some, None, inl, inr, refl, sym, ap, subst, ◌∙◌, arith}
+use Rattle.std.specs.List.{list_any, AllByRecursion, AllZip}
+use Rattle.std.proofs.lemmas.Bool.{cases_Bool, false≢true}
+use Rattle.std.proofs.lemmas.Bool.Decides.{nat_tests}
+use Rattle.format_spec.specs.Bytes.{Bytes}
+use Rattle.disk_model.specs.declared.name.Kind.TheVariants as kind
+use Rattle.disk_model.specs.declared.name.Name.{Name}
+use Rattle.disk_model.specs.declared.name.Name.TheVariants as name
+use Rattle.disk_model.specs.Files.{Files, IsListing, same_name}
+use Rattle.disk_model.specs.State.{IsSettled}
+use Rattle.disk_model.specs.View.{DiskView}
+use Rattle.disk_model.specs.Moments.{weaker}
+use Rattle.disk_model.specs.Laws.{same_name_eq}
+use Rattle.disk_model.specs.Frame.{TouchesOnly, touches_then, touches_none}
+use Rattle.page_file.specs.Files.{NumberedFile, IsKept, IsFinished}
+use Rattle.height_store.specs.Store.{Store, StoredHeight, IsNextFree, heights_in, is_used}
+use Rattle.height_store.specs.Kept.{IsOver, HasMark, HasStacks}
+use Rattle.height_store.specs.Shown.{or_right, listing_apart}
+use Rattle.std.proofs.lemmas.List.{take_more, map_push}
+use Rattle.whole_state.specs.Written.{GivesNumbers, IsWholeStack, is_given_since, AreFinished, AreUsed}
+
+pub touches_wider : (given wider : Name → Bool) (old new : DiskView) → ((q : Name) → wider q ≡ false → given q ≡ false) → TouchesOnly given old new → TouchesOnly wider old new
+touches_wider given wider old new within touches = record {
+  images = weaker old new _ _ (λ image from. (from.0, from.1, λ q apart. from.2 q (within q apart))) touches.images;
+  reads = λ q apart. touches.reads q (within q apart);
+  firm = λ q apart. touches.firm q (within q apart);
+}
+
+-- ---- tests
+
+apart_used : (new old : Bool) → old ≡ true → (new && not old) ≡ false
+apart_used true true h = refl
+apart_used false true h = refl
+apart_used new false h = absurd (false≢true h)
+
+apart_unused : (new old : Bool) → new ≡ false → (new && not old) ≡ false
+apart_unused false old h = refl
+apart_unused true old h = absurd (false≢true (sym h))
+
+given_then : (new old : Bool) → new ≡ true → old ≡ false → (new && not old) ≡ true
+given_then true false h k = refl
+given_then true true h k = absurd (false≢true (sym k))
+given_then false old h k = absurd (false≢true h)
+
+parts_of : (new old : Bool) → (new && not old) ≡ false → (old ≡ false → new ≡ false)
+parts_of true true h k = absurd (false≢true (sym k))
+parts_of true false h k = absurd (false≢true (sym h))
+parts_of false old h k = refl
+
+back : (a b : Bool) → (a ≡ true → b ≡ true) → b ≡ false → a ≡ false
+back true b step h = absurd (false≢true (sym h ∙ step refl))
+back false b step h = refl
+
+or_lt : (a : Bool) (n m k : ℕ) → m ≤ k → (a || nat_lt n m) ≡ true → (a || nat_lt n k) ≡ true
+or_lt true n m k le h = refl
+or_lt false n m k le h = grind (arith, nat_tests)
+
+lt_next : (n : ℕ) → nat_lt n (n + 1) ≡ true
+lt_next n = grind (arith, nat_tests)
+
+not_below : (n m : ℕ) → m ≤ n → nat_lt n m ≡ false
+not_below n m le = grind (arith, nat_tests)
+
+-- ---- numbers that are used
+
+pub used_more : (most : ℕ) (old new : Store) (n : ℕ) → GivesNumbers most old new → is_used old n ≡ true → is_used new n ≡ true
+used_more most old new n gives used =
+    or_lt (list_any (nat_eq n) new.named) n old.next new.next gives.next (subst (λ (ns : List ℕ). (list_any (nat_eq n) ns || nat_lt n old.next) ≡ true) (sym gives.named) used)
+
+pub apart_from_used : (old new : Store) (n : ℕ) → is_used old n ≡ true → is_given_since old new (name.Page n) ≡ false
+apart_from_used old new n used = apart_used (is_used new n) (is_used old n) used
+
+-- the numbers given on the way are among those given in all
+pub given_first : (most : ℕ) (old mid new : Store) (q : Name) → GivesNumbers most mid new → is_given_since old new q ≡ false → is_given_since old mid q ≡ false
+given_first most old mid new (name.Page n) gives apart = elim (cases_Bool (is_used old n)) [
+  | inl used ↦ apart_used (is_used mid n) (is_used old n) used
+  | inr unused ↦ apart_unused (is_used mid n) (is_used old n) (back (is_used mid n) (is_used new n) (used_more most mid new n gives) (parts_of (is_used new n) (is_used old n) apart unused))
+]
+given_first most old mid new (name.Mark n) gives apart = refl
+given_first most old mid new (name.Draft n) gives apart = refl
+given_first most old mid new (name.Stage n) gives apart = refl
+
+pub given_second : (most : ℕ) (old mid new : Store) (q : Name) → GivesNumbers most old mid → is_given_since old new q ≡ false → is_given_since mid new q ≡ false
+given_second most old mid new (name.Page n) gives apart = elim (cases_Bool (is_used old n)) [
+  | inl used ↦ apart_used (is_used new n) (is_used mid n) (used_more most old mid n gives used)
+  | inr unused ↦ apart_unused (is_used new n) (is_used mid n) (parts_of (is_used new n) (is_used old n) apart unused)
+]
+given_second most old mid new (name.Mark n) gives apart = refl
+given_second most old mid new (name.Draft n) gives apart = refl
+given_second most old mid new (name.Stage n) gives apart = refl
+
+pub gives_none : (store : Store) → GivesNumbers 0 store store
+gives_none store = record { heights = refl; named = refl; next = omega arith; given_least = omega arith; given_most = omega arith }
+
+pub gives_then : (most : ℕ) (old mid new : Store) → GivesNumbers most old mid → GivesNumbers 1 mid new → GivesNumbers (most + 1) old new
+gives_then most old mid new first second = record {
+  heights = second.heights ∙ first.heights;
+  named = second.named ∙ first.named;
+  next = omega (arith, first.next, second.next);
+  given_least = omega (arith, first.given_least, second.given_least);
+  given_most = omega (arith, first.given_most, second.given_most);
+}
+
+-- the next number
+pub touches_next : (old new : Store) (number : ℕ) (before after : DiskView) → IsNextFree old.named old.next number → new ≡ record old { given = old.given + 1; next = number + 1 } → TouchesOnly (same_name (name.Page number)) before after
+    → TouchesOnly (is_given_since old new) before after
+touches_next old new number before after free is touches = touches_wider (same_name (name.Page number)) (is_given_since old new) before after within touches
+  where
+    used : is_used new number ≡ true
+    used = or_right (list_any (nat_eq number) new.named) (nat_lt number new.next) (subst (λ (n : ℕ). nat_lt number n ≡ true) (sym (ap (λ (s : Store). s.next) is)) (lt_next number))
+
+    or_none : (a b : Bool) → a ≡ false → b ≡ false → (a || b) ≡ false
+    or_none false false h k = refl
+    or_none true b h k = absurd (false≢true (sym h))
+    or_none false true h k = absurd (false≢true (sym k))
+
+    unused : is_used old number ≡ false
+    unused = or_none (list_any (nat_eq number) old.named) (nat_lt number old.next) free.free (not_below number old.next free.not_before)
+
+    within : (q : Name) → is_given_since old new q ≡ false → same_name (name.Page number) q ≡ false
+    within q apart = elim (cases_Bool (same_name (name.Page number) q)) [
+      | inl same ↦ absurd (false≢true (sym apart ∙ ap (is_given_since old new) (sym (same_name_eq (name.Page number) q same)) ∙ given_then (is_used new number) (is_used old number) used unused))
+      | inr apart_name ↦ apart_name
+    ]
+
+-- ---- the store and its files
+
+none_some : (f : Files) (q : Name) (text : Bytes) → f q ≡ Some text → f q ≡ None → ⊥
+none_some f q text there none = absurd cc
+
+pub kept_used : (store : Store) (f : Files) (file : NumberedFile) → IsOver store f → IsKept f file → is_used store file.number ≡ true
+kept_used store f file over kept = elim (cases_Bool (is_used store file.number)) [
+  | inl used ↦ used
+  | inr unused ↦ absurd (none_some f (name.Page file.number) kept.1.text kept.1.there (over.given file.number unused))
+]
+
+module _ (most : ℕ) (old new : Store) (f g : Files) (gives : GivesNumbers most old new) (same : (q : Name) → is_given_since old new q ≡ false → g q ≡ f q) (over : IsOver old f) where
+  kept_here : (file : NumberedFile) → IsKept f file → IsKept g file
+  kept_here file kept =
+      (kept.0, record { text = kept.1.text; there = same (name.Page file.number) (apart_from_used old new file.number (kept_used old f file over kept)) ∙ kept.1.there; good = kept.1.good })
+
+  stack_here : (stack : List NumberedFile) → AllByRecursion (IsKept f) stack → AllByRecursion (IsKept g) stack
+  stack_here [] kept = tt
+  stack_here (file ∷ stack) kept = (kept_here file kept.0, stack_here stack kept.1)
+
+  stacks_here : (stacks : List (List NumberedFile)) → AllByRecursion (AllByRecursion (IsKept f)) stacks → AllByRecursion (AllByRecursion (IsKept g)) stacks
+  stacks_here [] kept = tt
+  stacks_here (stack ∷ stacks) kept = (stack_here stack kept.0, stacks_here stacks kept.1)
+
+  marks_here : (hs : List StoredHeight) → AllByRecursion (HasMark f) hs → AllByRecursion (HasMark g) hs
+  marks_here [] marks = tt
+  marks_here (h ∷ hs) marks = (same (name.Mark h.mark.height) refl ∙ marks.0, marks_here hs marks.1)
+
+  heights_here : (hs : List StoredHeight) → AllByRecursion (HasStacks f) hs → AllByRecursion (HasStacks g) hs
+  heights_here [] stacks = tt
+  heights_here (h ∷ hs) stacks = (stacks_here h.stacks stacks.0, heights_here hs stacks.1)
+
+  -- a store stays over its files as page files of given numbers are written
+  pub over_kept : IsOver new g
+  over_kept = record {
+    listed = subst (λ (hs : List StoredHeight). IsListing kind.Mark g (heights_in hs)) (sym gives.heights) (listing_apart f g (heights_in old.heights) (λ n. same (name.Mark n) refl) over.listed);
+    marks = subst (AllByRecursion (HasMark g)) (sym gives.heights) (marks_here old.heights over.marks);
+    stacks = subst (AllByRecursion (HasStacks g)) (sym gives.heights) (heights_here old.heights over.stacks);
+    given = λ n unused. same (name.Page n) (apart_unused (is_used new n) (is_used old n) unused) ∙ over.given n (back (is_used old n) (is_used new n) (used_more most old new n gives) unused);
+    no_draft = λ n. same (name.Draft n) refl ∙ over.no_draft n;
+  }
+
+-- ---- memories one after another
+
+pub record WritesSome (first store : Store) (memories : List Bytes) (stacks : List (List NumberedFile)) (old new : DiskView) : Type 0 where
+  pub over : IsOver store new.state.files
+  pub finished : AllZip (AreFinished new.state) memories stacks
+  pub touches : TouchesOnly (is_given_since first store) old new
+  pub settled : IsSettled old.state → IsSettled new.state
+
+pub writes_none : (store : Store) (view : DiskView) → IsOver store view.state.files → WritesSome store store [] [] view view
+writes_none store view over = record { over = over; finished = tt; touches = touches_none (is_given_since store store) view; settled = λ settled. settled }
+
+file_here : (mid store : Store) (bytes : Bytes) (old new : DiskView) → TouchesOnly (is_given_since mid store) old new → (file : NumberedFile) → is_used mid file.number ≡ true → IsFinished file bytes old.state → IsFinished file bytes new.state
+file_here mid store bytes old new touches file used done =
+    let apart = apart_from_used mid store file.number used in
+    let reads = touches.reads (name.Page file.number) apart in
+    let there = reads ∙ done.there.there in
+    record {
+      firm = record { there = ap is_some there; firm = touches.firm (name.Page file.number) apart done.firm.firm };
+      there = record { text = done.there.text; there = there; good = done.there.good };
+    }
+
+stack_stays : (mid store : Store) (bytes : Bytes) (old new : DiskView) → TouchesOnly (is_given_since mid store) old new → (stack : List NumberedFile) → AreUsed mid stack → AreFinished old.state bytes stack → AreFinished new.state bytes stack
+stack_stays mid store bytes old new touches [] used done = tt
+stack_stays mid store bytes old new touches (file ∷ stack) used done = (file_here mid store bytes old new touches file used.0 done.0, stack_stays mid store bytes old new touches stack used.1 done.1)
+
+stacks_stay : (mid store : Store) (old new : DiskView) → TouchesOnly (is_given_since mid store) old new → (memories : List Bytes) (stacks : List (List NumberedFile)) → AllByRecursion (AreUsed mid) stacks → AllZip (AreFinished old.state) memories stacks → AllZip (AreFinished new.state) memories stacks
+stacks_stay mid store old new touches [] [] used done = tt
+stacks_stay mid store old new touches [] (stack ∷ stacks) used done = absurd done
+stacks_stay mid store old new touches (bytes ∷ memories) [] used done = absurd done
+stacks_stay mid store old new touches (bytes ∷ memories) (stack ∷ stacks) used done = (stack_stays mid store bytes old new touches stack used.0 done.0, stacks_stay mid store old new touches memories stacks used.1 done.1)
+
+pub zip_push : {A B : Type 0} (R : A → B → Type 0) (xs : List A) (ys : List B) (x : A) (y : B) → AllZip R xs ys → R x y → AllZip R (xs ++ x ∷ []) (ys ++ y ∷ [])
+zip_push R [] [] x y all last = (last, tt)
+zip_push R [] (b ∷ ys) x y all last = absurd all
+zip_push R (a ∷ xs) [] x y all last = absurd all
+zip_push R (a ∷ xs) (b ∷ ys) x y all last = (all.0, zip_push R xs ys x y all.1 last)
+
+pub all_push : {A : Type 0} (P : A → Type 0) (xs : List A) (x : A) → AllByRecursion P xs → P x → AllByRecursion P (xs ++ x ∷ [])
+all_push P [] x all last = (last, tt)
+all_push P (a ∷ xs) x all last = (all.0, all_push P xs x all.1 last)
+
+used_stays : (most : ℕ) (old new : Store) (stack : List NumberedFile) → GivesNumbers most old new → AreUsed old stack → AreUsed new stack
+used_stays most old new [] gives used = tt
+used_stays most old new (file ∷ stack) gives used = (used_more most old new file.number gives used.0, used_stays most old new stack gives used.1)
+
+pub all_used : (most : ℕ) (old new : Store) (stacks : List (List NumberedFile)) → GivesNumbers most old new → AllByRecursion (AreUsed old) stacks → AllByRecursion (AreUsed new) stacks
+all_used most old new [] gives used = tt
+all_used most old new (stack ∷ stacks) gives used = (used_stays most old new stack gives used.0, all_used most old new stacks gives used.1)
+
+pub touches_both : (i : ℕ) (first mid store : Store) (old between new : DiskView) → GivesNumbers i first mid → GivesNumbers 1 mid store → TouchesOnly (is_given_since first mid) old between → TouchesOnly (is_given_since mid store) between new
+    → TouchesOnly (is_given_since first store) old new
+touches_both i first mid store old between new before gives touched touches =
+    touches_then (is_given_since first store) old between new
+    (touches_wider (is_given_since first mid) (is_given_since first store) old between (λ q. given_first 1 first mid store q gives) touched)
+    (touches_wider (is_given_since mid store) (is_given_since first store) between new (λ q. given_second i first mid store q before) touches)
+
+-- one memory more
+pub writes_more : (i : ℕ) (first mid store : Store) (memories : List Bytes) (bytes : Bytes) (stacks : List (List NumberedFile)) (stack : List NumberedFile) (old between new : DiskView)
+    → GivesNumbers i first mid → GivesNumbers 1 mid store → AllByRecursion (AreUsed mid) stacks → TouchesOnly (is_given_since mid store) between new → AreFinished new.state bytes stack → (IsSettled between.state → IsSettled new.state)
+    → WritesSome first mid memories stacks old between → WritesSome first store (memories ++ bytes ∷ []) (stacks ++ stack ∷ []) old new
+writes_more i first mid store memories bytes stacks stack old between new before gives used touches done settled so_far = record {
+  over = over_kept 1 mid store between.state.files new.state.files gives touches.reads so_far.over;
+  finished = zip_push (AreFinished new.state) memories stacks bytes stack (stacks_stay mid store between new touches memories stacks used so_far.finished) done;
+  touches = touches_both i first mid store old between new before gives so_far.touches touches;
+  settled = λ was. settled (so_far.settled was);
+}
+
+-- ---- one turn
+
+pub gives_most : (n m : ℕ) (old new : Store) → n ≤ m → GivesNumbers n old new → GivesNumbers m old new
+gives_most n m old new le gives = record { heights = gives.heights; named = gives.named; next = gives.next; given_least = gives.given_least; given_most = omega (arith, gives.given_most, le) }
+
+pub taken_more : {V : Type 0} (bytes : V → Bytes) (ms : List V) (i : ℕ) (item : V) (now : Bytes) → i < length ms → item ≡ get_or ms i item → now ≡ bytes item → map bytes (take (i + 1) ms) ≡ map bytes (take i ms) ++ now ∷ []
+taken_more bytes ms i item now lt is now_is =
+    ap (map bytes) (take_more ms i item lt ∙ ap (λ x. take i ms ++ x ∷ []) (sym is)) ∙ map_push bytes (take i ms) item ∙ ap (λ b. map bytes (take i ms) ++ b ∷ []) (sym now_is)
+
+pub at_place : {V : Type 0} (P : Bytes → Type 0) (bytes : V → Bytes) (ms : List V) (i : ℕ) (d : V) → i < length ms → AllByRecursion P (map bytes ms) → P (bytes (get_or ms i d))
+at_place P bytes [] i d lt all = absurd (omega arith)
+at_place P bytes (m ∷ ms) zero d lt all = all.0
+at_place P bytes (m ∷ ms) (suc i) d lt all = at_place P bytes ms i d (omega arith) all.1
+
+pub this_memory : {V : Type 0} (P : Bytes → Type 0) (bytes : V → Bytes) (ms : List V) (i : ℕ) (item : V) (now : Bytes) → i < length ms → item ≡ get_or ms i item → now ≡ bytes item → AllByRecursion P (map bytes ms) → P now
+this_memory P bytes ms i item now lt is now_is all = subst P (sym (now_is ∙ ap bytes is)) (at_place P bytes ms i item lt all)
+
+pub whole_more : (taken all : List Bytes) (now : Bytes) (stacks new : List (List NumberedFile)) (stack : List NumberedFile) → all ≡ taken ++ now ∷ [] → new ≡ stacks ++ stack ∷ [] → AllZip IsWholeStack taken stacks → IsWholeStack now stack → AllZip IsWholeStack all new
+whole_more taken all now stacks new stack is pushed so_far here = rw (is, pushed) (zip_push IsWholeStack taken stacks now stack so_far here)
+
+pub used_push : (old store : Store) (stacks new : List (List NumberedFile)) (stack : List NumberedFile) → new ≡ stacks ++ stack ∷ [] → GivesNumbers 1 old store → AllByRecursion (AreUsed old) stacks → AreUsed store stack → AllByRecursion (AreUsed store) new
+used_push old store stacks new stack pushed gives used here = rw pushed (all_push (AreUsed store) stacks stack (all_used 1 old store stacks gives used) here)
+
+pub written_more : (first store : Store) (taken all : List Bytes) (now : Bytes) (stacks new : List (List NumberedFile)) (stack : List NumberedFile) (old view : DiskView) → all ≡ taken ++ now ∷ [] → new ≡ stacks ++ stack ∷ []
+    → WritesSome first store (taken ++ now ∷ []) (stacks ++ stack ∷ []) old view → WritesSome first store all new old view
+written_more first store taken all now stacks new stack old view is pushed written = rw (is, pushed) written

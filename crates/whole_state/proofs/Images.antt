@@ -1,0 +1,85 @@
+-- A page file with all pages of a memory gives the bytes of the memory.
+use Rattle.std.proofs.Common.{◌≡◌, ℕ, zero, suc, ◌+◌, ◌-◌, ◌*◌, ◌<◌, ◌≤◌, Bool, true, false, ◌==◌, nat_lt, List, [], ◌∷◌, ◌++◌, length, map, drop, replicate, Option, Some, None, refl, sym, ◌∙◌, ap, arith, cond, inl, inr}
+use Rattle.std.specs.List.{range_with_len, flat_map, position, position_or_len}
+use Rattle.std.specs.Option.{option_map}
+use Rattle.std.proofs.lemmas.Bool.{cases_Bool, lt-ltb, le-ltb, eq-eqb, ne_eqb, eqb-true, cases_lt, cases_eq}
+use Rattle.std.proofs.lemmas.List.{drop-drop, take-append-drop, drop_all, nil_from_length}
+use Rattle.format_spec.specs.Bytes.{Bytes}
+use Rattle.state_spec.specs.Memory.{page_at}
+use Rattle.store_spec.specs.Image.{Layer, or_else, page_from, memory_from}
+use Rattle.machine_spec.specs.StoreSteps.{whole_layer}
+use Rattle.page_file.specs.Files.{NumberedFile}
+use Rattle.whole_state.specs.Written.{whole_index, whole_stack}
+
+-- ---- where a page stands
+
+abbrev more : Option ℕ → Option ℕ
+more o = option_map (λ i. 1 + i) o
+
+found : (n m : ℕ) → n < m → cond (nat_lt n m) (Some n) None ≡ Some n
+found n m lt = rw (lt-ltb n m lt) refl
+
+counted : (n m : ℕ) → cond (nat_lt (1 + n) (suc m)) (Some (1 + n)) None ≡ more (cond (nat_lt n m) (Some n) None)
+counted n m = elim (cases_lt n m) [
+  | inl below ↦ rw (lt-ltb n m below, lt-ltb (1 + n) (suc m) (omega arith)) refl
+  | inr past ↦ rw (le-ltb n m past, le-ltb (1 + n) (suc m) (omega arith)) refl
+]
+
+position_here : (p : ℕ → Bool) (x : ℕ) (xs : List ℕ) → p x ≡ true → position p (x ∷ xs) ≡ Some 0
+position_here p x xs h = rw h (found 0 (suc (length xs)) (omega arith))
+
+position_later : (p : ℕ → Bool) (x : ℕ) (xs : List ℕ) → p x ≡ false → position p (x ∷ xs) ≡ more (position p xs)
+position_later p x xs h = rw h (counted (position_or_len p xs) (length xs))
+
+in_range : (page a n : ℕ) → a ≤ page → page < a + n → position (λ x. x == page) (range_with_len a n) ≡ Some (page - a)
+in_range page a zero le lt = absurd (omega arith)
+in_range page a (suc n) le lt = elim (cases_eq a page) [
+  | inl same ↦ let e : 0 ≡ page - a = omega (arith, same) in position_here (λ x. x == page) a (range_with_len (a + 1) n) (eq-eqb a page same) ∙ ap Some e
+  | inr apart ↦ let e : 1 + (page - (a + 1)) ≡ page - a = omega (arith, apart) in
+      position_later (λ x. x == page) a (range_with_len (a + 1) n) (ne_eqb a page apart) ∙ ap more (in_range page (a + 1) n (omega (arith, apart)) (omega arith)) ∙ ap Some e
+]
+
+-- ---- the bytes
+
+abbrev whole_of : ℕ → Bytes → Layer
+whole_of n bytes = record { index = whole_index n; pages = bytes }
+
+page_is : (n page : ℕ) (bytes : Bytes) → page < n → page_from (whole_of n bytes ∷ []) page ≡ page_at bytes page
+page_is n page bytes lt =
+    let e : page - 0 ≡ page = omega arith in
+    ap (λ (o : Option ℕ). or_else (option_map (page_at bytes) o) (replicate 4096 0)) (in_range page 0 n (omega arith) (omega arith) ∙ ap Some e)
+
+pages_from : (n : ℕ) (bytes : Bytes) → length bytes ≡ n * 4096 → (k a : ℕ) → a + k ≡ n → flat_map (page_from (whole_of n bytes ∷ [])) (range_with_len a k) ≡ drop (a * 4096) bytes
+pages_from n bytes size zero a all = sym (drop_all (a * 4096) bytes (omega (arith, size, all)))
+pages_from n bytes size (suc k) a all =
+    let e : (a + 1) * 4096 ≡ a * 4096 + 4096 = omega arith in
+    ap (λ (page : Bytes). page ++ flat_map (page_from (whole_of n bytes ∷ [])) (range_with_len (a + 1) k)) (page_is n a bytes (omega (arith, all)))
+    ∙ ap (λ (rest : Bytes). page_at bytes a ++ rest) (pages_from n bytes size k (a + 1) (omega (arith, all)) ∙ ap (λ (m : ℕ). drop m bytes) e ∙ sym (drop-drop 4096 (a * 4096) bytes))
+    ∙ take-append-drop 4096 (drop (a * 4096) bytes)
+
+-- the layers of these page files, with these bytes
+abbrev pub layers_of : Bytes → List NumberedFile → List Layer
+layers_of bytes stack = map (λ file. record { index = file.index; pages = bytes }) stack
+
+whole_layers_of : (number n : ℕ) (bytes : Bytes) → length bytes ≡ n * 4096 → memory_from n (layers_of bytes (whole_stack number n)) ≡ bytes
+unfolding memory_from
+whole_layers_of number n bytes size = elim (cases_Bool (n == 0)) [
+  | inl none ↦
+      let zero_is : n ≡ 0 = eqb-true n 0 none in
+      let empty : bytes ≡ [] = nil_from_length bytes (omega (arith, size, zero_is)) in
+      rw none (ap (λ (m : ℕ). flat_map (page_from []) (range_with_len 0 m)) zero_is ∙ sym empty)
+  | inr some ↦ rw some (pages_from n bytes size n 0 (omega arith))
+]
+
+-- the memory of a stack that is written whole
+pub reads_back : (number n : ℕ) (bytes : Bytes) (stack : List NumberedFile) → stack ≡ whole_stack number n → length bytes ≡ n * 4096 → memory_from n (layers_of bytes stack) ≡ bytes
+reads_back number n bytes stack is size = ap (λ (fs : List NumberedFile). memory_from n (layers_of bytes fs)) is ∙ whole_layers_of number n bytes size
+
+whole_numbers : (number n : ℕ) (bytes : Bytes) → map (λ l. l.index.numbers) (layers_of bytes (whole_stack number n)) ≡ whole_layer n
+whole_numbers number n bytes = elim (cases_Bool (n == 0)) [
+  | inl none ↦ rw none refl
+  | inr some ↦ rw some refl
+]
+
+pub one_layer : (number n : ℕ) (bytes : Bytes) (stack : List NumberedFile) → stack ≡ whole_stack number n → map (λ l. l.index.numbers) (layers_of bytes stack) ≡ whole_layer n
+one_layer number n bytes stack is = ap (λ (fs : List NumberedFile). map (λ (l : Layer). l.index.numbers) (layers_of bytes fs)) is ∙ whole_numbers number n bytes

@@ -1,0 +1,8 @@
+pub mod Ranges
+pub mod Places
+pub mod WholeFiles
+pub mod Giving
+pub mod Marked
+pub mod Images
+pub mod Made
+pub mod Standing

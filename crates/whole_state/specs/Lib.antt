@@ -1,0 +1,5 @@
+pub mod Whole
+pub mod Memories
+pub mod States
+pub mod Laws
+pub mod Written

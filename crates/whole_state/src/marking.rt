@@ -1,0 +1,127 @@
+//! The mark of a state whose memories are written whole.
+
+ghost use Rattle.std.specs.Prelude.{◌≡◌, ◌≤◌, ◌-◌, length, map, drop, IfOk};
+ghost use Rattle.std.specs.List.{AllZip};
+ghost use Rattle.format_spec.specs.Bytes.{part_count};
+ghost use Rattle.format_spec.specs.declared.limits.TheConstants.{CHUNK_SIZE as chunk_size, MAX_HEIGHT};
+ghost use Rattle.state_spec.specs.State.{State, IsSystem};
+ghost use Rattle.state_spec.specs.SystemText.{system_text};
+ghost use Rattle.state_spec.specs.Manifest.{chunk_hashes as hashes_of_chunks};
+ghost use Rattle.state_spec.specs.Root.{root_of};
+ghost use Rattle.store_spec.specs.Mark.{IsMark};
+ghost use Rattle.sys_state.specs.System.{part_of};
+ghost use Rattle.manifest.specs.Fits.{FitMemories};
+ghost use Rattle.height_store.specs.Store.{numbers_of};
+ghost use Rattle.whole_state.specs.Whole.{HasParts};
+ghost use Rattle.whole_state.specs.Written.{IsWholeStack};
+
+use byte_codec::{Blob, NoMemory};
+use format_spec::CHUNK_SIZE;
+use hash_domain::{Hash32, chunk_hash};
+use layer_stack::Stack;
+use manifest::Manifest;
+use mark_file::{Mark, MarkMem};
+use std::alloc::Global;
+use sys_state::SysState;
+
+/// The version of a mark.
+const VERSION: u32 = 1;
+
+/// The mark of a height, from 1 to 2^62, for a state with this system text whose memories have these bytes and are written
+/// whole to these page files. NoMemory where memory runs out.
+pub(crate) fn mark_of(
+    alloc: Global,
+    height: u64,
+    sys: &SysState,
+    system: Blob,
+    memories: &[Vec<u8>],
+    stacks: &[Stack],
+) -> Result<Mark, NoMemory>
+    requires good { IsSystem 1 (part_of sys.now) }
+    requires text { system ≡ system_text (part_of sys.now) }
+    requires from_one { 1 ≤ height }
+    requires at_most { height ≤ MAX_HEIGHT }
+    requires fit { FitMemories (part_of sys.now) (map (λ memory. memory.items) memories.now) }
+    requires stacks { AllZip IsWholeStack (map (λ memory. memory.items) memories.now) stacks.now }
+
+    ensures mark { IfOk result (λ m. IsMark m (part_of sys.now)) }
+    ensures height { IfOk result (λ m. m.height ≡ height) }
+    ensures layers { IfOk result (λ m. map (λ memory. memory.layers) m.memories ≡ map numbers_of stacks.now) }
+    ensures sums { IfOk result (λ m. map (λ memory. memory.sums) m.memories ≡ map hashes_of_chunks (map (λ memory. memory.items) memories.now)) }
+    ensures root { IfOk result (λ m. (s : State) → HasParts s sys.now (map (λ memory. memory.items) memories.now) → m.root ≡ root_of s) }
+{
+    let sums = all_sums(alloc, memories)?;
+    let manifest = Manifest::from_sums(alloc, system.bytes(), sys, &sums)?;
+    let system_sums = last_hashes(alloc, &manifest, system.bytes().len())?;
+    let root = manifest.meta(alloc)?.root();
+    let mems = mems_of(alloc, stacks, &sums)?;
+    Ok(Mark {
+        height,
+        version: VERSION,
+        system,
+        mems,
+        system_sums,
+        root,
+    })
+}
+
+// The hashes of the chunks of each memory.
+fn all_sums(alloc: Global, memories: &[Vec<u8>]) -> Result<Vec<Vec<Hash32>>, NoMemory>
+    ensures { IfOk result (λ sums. map (λ hashes. hashes.items) sums.items ≡ map hashes_of_chunks (map (λ memory. memory.items) memories.now)) }
+{
+    let mut sums = Vec::with_capacity(alloc, memories.len())?;
+    for memory in memories {
+        sums.push(chunk_hashes(alloc, memory)?)?;
+    }
+    Ok(sums)
+}
+
+// The hashes of the chunks of these bytes, each hashed by one call over all of it.
+fn chunk_hashes(alloc: Global, bytes: &[u8]) -> Result<Vec<Hash32>, NoMemory>
+    ensures { IfOk result (λ hashes. hashes.items ≡ hashes_of_chunks bytes.now) }
+{
+    let mut hashes = Vec::with_capacity(alloc, bytes.len().div_ceil(CHUNK_SIZE))?;
+    for chunk in bytes.chunks(CHUNK_SIZE) {
+        hashes.push(chunk_hash(chunk))?;
+    }
+    Ok(hashes)
+}
+
+// The hashes of the chunks of the last file, which has so many bytes.
+fn last_hashes(alloc: Global, manifest: &Manifest, size: usize) -> Result<Vec<Hash32>, NoMemory>
+    requires { part_count chunk_size size ≤ length manifest.now.chunks }
+    ensures { IfOk result (λ hashes. hashes.items ≡ map (λ row. row.sum.hash) (drop (length manifest.now.chunks - part_count chunk_size size) manifest.now.chunks)) }
+{
+    let count = size.div_ceil(CHUNK_SIZE);
+    let mut hashes = Vec::with_capacity(alloc, count)?;
+    for row in &manifest.chunks[manifest.chunks.len() - count..] {
+        hashes.push(row.hash)?;
+    }
+    Ok(hashes)
+}
+
+// What the mark says of each memory.
+fn mems_of(alloc: Global, stacks: &[Stack], sums: &[Vec<Hash32>]) -> Result<Vec<MarkMem>, NoMemory>
+    requires { length sums.now ≡ length stacks.now }
+    ensures layers { IfOk result (λ mems. map (λ memory. memory.layers) mems.items ≡ map numbers_of stacks.now) }
+    ensures sums { IfOk result (λ mems. map (λ memory. memory.sums) mems.items ≡ map (λ hashes. hashes.items) sums.now) }
+{
+    let mut mems = Vec::with_capacity(alloc, stacks.len())?;
+    for i in 0..stacks.len() {
+        mems.push(MarkMem {
+            layers: layers_of(alloc, &stacks[i])?,
+            sums: Vec::from_slice(alloc, &sums[i])?,
+        })?;
+    }
+    Ok(mems)
+}
+
+fn layers_of(alloc: Global, stack: &Stack) -> Result<Vec<u64>, NoMemory>
+    ensures { IfOk result (λ numbers. numbers.items ≡ numbers_of stack.now) }
+{
+    let mut numbers = Vec::with_capacity(alloc, stack.files().len())?;
+    for file in stack.files() {
+        numbers.push(file.number())?;
+    }
+    Ok(numbers)
+}
