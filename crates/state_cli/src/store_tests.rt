@@ -176,11 +176,15 @@ fn heights_are_published_and_opened_again(rt: HostRuntime) -> Result<(), Fail> {
 // A disk with the mark of height 1, which names page file 0, cut by so many bytes; and that page file with this first byte of
 // its page, where there is one.
 fn store_of(alloc: Global, cut: usize, height: u64, byte: Option<u8>) -> Result<MemDisk, Fail> {
-    let mut disk = disk(alloc, &[], None)?;
+    let mut disk = MemDisk::new(alloc, Vec::new(alloc), None);
     let mut mark = [0; 200];
     decode_to_slice(MARK, &mut mark)?;
     disk.create(alloc, Name::Mark(height))?;
-    disk.append(alloc, Name::Mark(height), &mark[..mark.len() - cut])?;
+    disk.append(
+        alloc,
+        Name::Mark(height),
+        &mark[..200usize.saturating_sub(cut)],
+    )?;
     disk.seal(alloc, Name::Mark(height))?;
     if let Some(byte) = byte {
         let mut text = [0; 4_140];
