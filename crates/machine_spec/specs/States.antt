@@ -2,9 +2,8 @@
 use Rattle.std.specs.Prelude.{ℕ, ◌+◌, ◌==◌, max, if◌then◌else◌, [], Option, None}
 use Rattle.std.specs.FinMap.{find, put}
 use Rattle.format_spec.specs.Bytes.{Bytes, bytes_cmp}
-use Rattle.state_spec.specs.State.{State, Canister, Memory, pages_of, system_of, all_pages}
+use Rattle.state_spec.specs.State.{State, Canister, Memory, pages_of, system_of, all_pages, without}
 use Rattle.state_spec.specs.Memory.{no_memory, pages_for}
-use Rattle.sys_state.specs.Calls.{without}
 use Rattle.sys_state.specs.declared.mem.Mem.{Mem}
 use Rattle.sys_state.specs.declared.mem.Mem.TheVariants.{Heap, Stable}
 

@@ -6,7 +6,7 @@ use Rattle.std.specs.FinMap.{put}
 use Rattle.std.specs.List.{flat_map}
 use Rattle.std.specs.Option.{is_some, option_map}
 use Rattle.format_spec.specs.Bytes.{Bytes, bytes_cmp}
-use Rattle.state_spec.specs.State.{State, Canister}
+use Rattle.state_spec.specs.State.{State, Canister, without}
 use Rattle.sys_state.specs.Calls as calls
 use Rattle.sys_state.specs.Places.{place_of}
 use Rattle.sys_state.specs.System.{System, kept_of, record_of}
@@ -106,7 +106,7 @@ module _ (held now : HeldState) (m : Machine) (k : KeepsState held m) (beside : 
       let count : length (bytes_in split.front) ≡ at = length-bytes split.front ∙ ap (λ n. 2 * n) (in_front split.front c.split.before split.front_is ∙ c.split.count) in
       let rest : List Bytes = split.value.heap.bytes ∷ split.value.stable.bytes ∷ bytes_in split.back in
       let bytes : held.memories ≡ bytes_in split.front ++ rest = k.memories ∙ ap bytes_in split.whole ∙ bytes-append split.front ((id, split.value) ∷ split.back) in
-      let all : now.memories ≡ bytes_in (calls.without bytes_cmp id cs) =
+      let all : now.memories ≡ bytes_in (without bytes_cmp id cs) =
       memories
       ∙ ap (λ (ms : List Bytes). take at ms ++ drop 2 (drop at ms)) bytes
       ∙ ap (λ (ms : List Bytes). ms ++ drop 2 (drop at (bytes_in split.front ++ rest))) (take_front (bytes_in split.front) rest at count)

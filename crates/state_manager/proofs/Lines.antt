@@ -6,7 +6,7 @@ use Rattle.std.specs.Prelude.{if◌then◌else◌}
 use Rattle.byte_codec.specs.declared.error.NoMemory.{NoMemory}
 use Rattle.format_spec.specs.Bytes.{Bytes, bytes_cmp, path_cmp}
 use Rattle.format_spec.specs.declared.limits.TheConstants.{MAX_CANISTERS, MAX_ENTRIES}
-use Rattle.state_spec.specs.State.{is_reserved}
+use Rattle.state_spec.specs.State.{is_reserved, has_conflict}
 use Rattle.sys_state.specs.Calls as calls
 use Rattle.sys_state.specs.Places.{place_of}
 use Rattle.sys_state.specs.System.{System}
@@ -81,7 +81,7 @@ module _ (old now : HeldState) (m : Machine) (k : KeepsState old m) (beside : Sa
   step_put path value result h =
       let done : Type 0 = (now.system ≡ calls.with_entry old.system path value) × (now.memories ≡ old.memories) in
       let g = subst (λ (s : System). Alters (calls.put_refusal s path) result done (Same old now)) k.system h in
-      alters_three (is_reserved path) (calls.has_conflict m.live.entries path) (not (is_some (find path_cmp path m.live.entries)) && nat_le MAX_ENTRIES (length m.live.entries))
+      alters_three (is_reserved path) (has_conflict m.live.entries path) (not (is_some (find path_cmp path m.live.entries)) && nat_le MAX_ENTRIES (length m.live.entries))
       errors.Reserved errors.PathConflict errors.TreeFull refusals.Reserved refusals.PathConflict refusals.TreeFull result now m
       (λ m. now_live m (record m.live { entries = put path_cmp path value m.live.entries })) done (Same old now) refl refl refl g same
       (λ d. (

@@ -10,8 +10,7 @@ use Rattle.byte_codec.specs.declared.error.NoMemory.{NoMemory}
 use Rattle.format_spec.specs.Bytes.{Bytes, path_cmp}
 use Rattle.format_spec.specs.declared.limits.TheConstants.{MAX_ENTRIES, MAX_HEIGHT, MAX_HEIGHTS}
 use Rattle.std.specs.FinMap.{find, put}
-use Rattle.state_spec.specs.State.{is_reserved}
-use Rattle.sys_state.specs.Calls.{has_conflict}
+use Rattle.state_spec.specs.State.{is_reserved, has_conflict}
 use Rattle.machine_spec.specs.LiveSteps.{put_step}
 use Rattle.script_text.specs.declared.command.Command.{Command}
 use Rattle.script_text.specs.declared.command.Command.TheVariants as commands

@@ -9,7 +9,7 @@ use Rattle.std.specs.declared.cmp.Ordering.{Ordering}
 use Rattle.std.specs.declared.cmp.Ordering.TheVariants.{Less, Equal, Greater}
 use Rattle.format_spec.specs.Bytes.{Bytes, bytes_cmp}
 use Rattle.sys_state.proofs.Places.{parted, put_stands, put_absent, find_before, find_here, without_before, without_here, Below, Above}
-use Rattle.sys_state.specs.Calls.{without}
+use Rattle.state_spec.specs.State.{without}
 
 as_true : (b : Bool) → T b → b ≡ true
 as_true true h = refl

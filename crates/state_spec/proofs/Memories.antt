@@ -10,7 +10,7 @@ use Rattle.format_spec.specs.Bytes.{Bytes, IsBytes}
 use Rattle.format_spec.specs.declared.limits.TheConstants.{PAGE_SIZE}
 use Rattle.format_spec.proofs.ByteStrings.{by_test, one_byte, join_bytes, take_bytes, drop_bytes}
 use Rattle.format_spec.proofs.Parts.{parts_at}
-use Rattle.state_spec.specs.State.{Memory, IsMemory, pages_of}
+use Rattle.state_spec.specs.State.{Memory, IsMemory, HasPageRounds, pages_of}
 use Rattle.state_spec.specs.Memory.{page_at, read, grow, write, zeros, extended, overwritten, pages_for, pages_between, stamped}
 use Rattle.state_spec.proofs.Edits.{length_extended, extended_enough, extended_old, extended_new, slice_length, slice_old, slice_new, slice_before, slice_behind, slice_met, length_overwritten, byte_before, byte_written, byte_behind}
 use Rattle.state_spec.proofs.Rounds.{Rounds, stamped_find, stamped_sorted, stamped_within, pages_within}
@@ -122,8 +122,10 @@ module _ (round : ℕ) (m : Memory) (at : ℕ) (w : Bytes) (some : 0 < length w)
   round_of_page q = ap (find nat_cmp q) (write_rounds round m at w some) ∙ stamped_find round (pages_between at (length w)) m.rounds q
 
   some_good : IsMemory m → IsMemory (write round m at w)
-  some_good good = record {
-    whole_pages = let even : length m.bytes % PAGE_SIZE ≡ 0 = good.whole_pages in omega (arith, even, write_length);
+  some_good good = record { whole_pages = let even : length m.bytes % PAGE_SIZE ≡ 0 = good.whole_pages in omega (arith, even, write_length) }
+
+  some_rounds : HasPageRounds m → HasPageRounds (write round m at w)
+  some_rounds good = record {
     rounds_ascend = ap (is_sorted nat_cmp) (write_rounds round m at w some) ∙ stamped_sorted round (pages_between at (length w)) m.rounds good.rounds_ascend;
     rounds_within =
         let n : ℕ = pages_of (write round m at w) in
@@ -165,8 +167,10 @@ unfolding grow
 grow_rounds m n = refl
 
 pub grow_good : (m : Memory) (n : ℕ) → IsMemory m → IsMemory (grow m n)
-grow_good m n good = record {
-  whole_pages = let even : length m.bytes % PAGE_SIZE ≡ 0 = good.whole_pages in omega (arith, even, grow_length m n);
+grow_good m n good = record { whole_pages = let even : length m.bytes % PAGE_SIZE ≡ 0 = good.whole_pages in omega (arith, even, grow_length m n) }
+
+pub grow_keeps_rounds : (m : Memory) (n : ℕ) → HasPageRounds m → HasPageRounds (grow m n)
+grow_keeps_rounds m n good = record {
   rounds_ascend = ap (is_sorted nat_cmp) (grow_rounds m n) ∙ good.rounds_ascend;
   rounds_within = subst (λ (rs : Rounds). AllByRecursion (λ r. r.0 < pages_of (grow m n)) rs) (sym (grow_rounds m n)) (further (pages_of m) (pages_of (grow m n)) m.rounds (omega (arith, grow_pages m n)) good.rounds_within);
 }
@@ -180,6 +184,10 @@ grow_bytes m n h = join_bytes m.bytes (zeros (n * PAGE_SIZE)) h (zeros_bytes (n 
 pub write_good : (round : ℕ) (m : Memory) (at : ℕ) (w : Bytes) → IsMemory m → IsMemory (write round m at w)
 write_good round m at [] good = subst IsMemory (sym (write_none round m at)) good
 write_good round m at (b ∷ w) good = some_good round m at (b ∷ w) (omega arith) good
+
+pub write_keeps_rounds : (round : ℕ) (m : Memory) (at : ℕ) (w : Bytes) → HasPageRounds m → HasPageRounds (write round m at w)
+write_keeps_rounds round m at [] good = subst HasPageRounds (sym (write_none round m at)) good
+write_keeps_rounds round m at (b ∷ w) good = some_rounds round m at (b ∷ w) (omega arith) good
 
 pub write_IsBytes : (round : ℕ) (m : Memory) (at : ℕ) (w : Bytes) → IsBytes m.bytes → IsBytes w → IsBytes (write round m at w).bytes
 write_IsBytes round m at [] old new = subst (λ (x : Memory). IsBytes x.bytes) (sym (write_none round m at)) old

@@ -10,8 +10,8 @@ use Rattle.std.proofs.lemmas.List.Edits.{length-insert}
 use Rattle.std.proofs.lemmas.List.Folds.{list_any-append, list_all-append}
 use Rattle.format_spec.specs.Bytes.{Bytes, IsBytes, path_cmp, is_after, last_key}
 use Rattle.format_spec.specs.declared.limits.TheConstants.{MAX_ENTRIES, MAX_VALUE}
-use Rattle.state_spec.specs.State.{FitsEntry, is_path, is_reserved, is_prefix, are_apart}
-use Rattle.sys_state.specs.Calls.{has_conflict, put_refusal, with_entry, without_entry}
+use Rattle.state_spec.specs.State.{FitsEntry, is_path, is_reserved, is_prefix, has_conflict, are_apart}
+use Rattle.sys_state.specs.Calls.{put_refusal, with_entry, without_entry}
 use Rattle.sys_state.specs.Places.{Stands, IsAbsent}
 use Rattle.sys_state.specs.System.{System, IsKept, IsEntry}
 use Rattle.sys_state.proofs.Keys.{paths_total}

@@ -14,8 +14,7 @@ use Rattle.std.specs.declared.cmp.Ordering.TheVariants.{Less, Equal, Greater}
 use Rattle.std.proofs.lemmas.Bool.{and_parts, and_from}
 use Rattle.std.proofs.lemmas.List.{take_at, drop_at, take_more, drop_more, take-append-drop}
 use Rattle.format_spec.specs.Bytes.{Bytes, bytes_cmp, same_bytes, path_cmp}
-use Rattle.state_spec.specs.State.{is_prefix, are_apart}
-use Rattle.sys_state.specs.Calls.{is_proper_prefix, has_conflict}
+use Rattle.state_spec.specs.State.{is_prefix, is_proper_prefix, has_conflict, are_apart}
 use Rattle.sys_state.proofs.Keys.{ids_total, ids_apart, paths_total}
 use Rattle.sys_state.proofs.Places.{greater_from_less, above_from_sorted}
 

@@ -15,7 +15,7 @@ use Rattle.std.proofs.lemmas.List.Sums.{sum_by-append}
 use Rattle.std.proofs.Math.Seq.{split_at}
 use Rattle.format_spec.proofs.Ascending.{less_is}
 use Rattle.sys_state.specs.Places.{place_of, Replaces, Stands, IsAbsent, Places}
-use Rattle.sys_state.specs.Calls.{without}
+use Rattle.state_spec.specs.State.{without}
 use Rattle.sys_state.proofs.Lists.{all_parts}
 
 pub greater_from_less : {K : Type 0} (R : K → K → Ordering) → IsTotalOrder R → (x y : K) → R x y ≡ Less → R y x ≡ Greater

@@ -1,14 +1,10 @@
 -- What the calls of a state refuse, and what they change.
-use Rattle.std.specs.Prelude.{◌≡◌, ℕ, ◌+◌, List, [], ◌∷◌, length, Option, Some, None, Result, Ok, Err, is_some, nat_le, nat_lt, if◌then◌else◌, Bool, not, ◌&&◌, ◌||◌}
+use Rattle.std.specs.Prelude.{◌≡◌, ℕ, ◌+◌, List, [], ◌∷◌, length, Option, Some, None, Result, Ok, Err, is_some, nat_le, nat_lt, if◌then◌else◌, Bool, not, ◌&&◌}
 use Rattle.std.specs.Result.{IsOkUnless}
-use Rattle.std.specs.List.{list_any}
 use Rattle.std.specs.FinMap.{find, put}
-use Rattle.std.specs.FinMap.Entries.{where_key}
-use Rattle.std.specs.Ordering.{eq_by_cmp}
-use Rattle.std.specs.declared.cmp.Ordering.{Ordering}
 use Rattle.format_spec.specs.Bytes.{Bytes, bytes_cmp, path_cmp}
 use Rattle.format_spec.specs.declared.limits.TheConstants.{MAX_CANISTERS, MAX_ENTRIES}
-use Rattle.state_spec.specs.State.{memory_limit, state_limit, all_pages, is_reserved, is_prefix}
+use Rattle.state_spec.specs.State.{memory_limit, state_limit, all_pages, is_reserved, has_conflict, without}
 use Rattle.sys_state.specs.declared.error.SysError.{SysError}
 use Rattle.sys_state.specs.declared.error.SysError.TheVariants as errors
 use Rattle.sys_state.specs.declared.mem.Mem.{Mem}
@@ -28,10 +24,6 @@ answer None = Ok tt
 abbrev pub Answers : Option SysError → Result (Unit {0}) SysError → Type 0
 Answers (Some e) result = result ≡ Err e
 Answers None result = IsOkUnless result errors.Memory
-
--- the entries but that of the key
-abbrev pub without : {K X : Type 0} → (K → K → Ordering) → K → List (K × X) → List (K × X)
-without R key es = where_key R (λ k. not (eq_by_cmp R key k)) es
 
 -- ---- canisters
 
@@ -94,13 +86,6 @@ abbrev pub extend_refusal : System → Bytes → Mem → ℕ → Option SysError
 extend_refusal s id mem more = pages_refusal s mem more (canister_in s id)
 
 -- ---- entries
-
-abbrev pub is_proper_prefix : List Bytes → List Bytes → Bool
-is_proper_prefix p q = is_prefix p q && not (is_prefix q p)
-
--- a proper prefix of the path is an entry, or the path is a proper prefix of one
-abbrev pub has_conflict : List (List Bytes × Bytes) → List Bytes → Bool
-has_conflict es path = list_any (λ e. is_proper_prefix e.0 path || is_proper_prefix path e.0) es
 
 abbrev pub is_entry : System → List Bytes → Bool
 is_entry s path = is_some (find path_cmp path s.entries)
