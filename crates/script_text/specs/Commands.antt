@@ -1,5 +1,5 @@
 -- The command that a line spells.
-use Rattle.std.specs.Prelude.{◌≤◌, List, [], ◌∷◌, length, Option, Some, None}
+use Rattle.std.specs.Prelude.{◌≤◌, if◌then◌else◌, List, [], ◌∷◌, length, Option, Some, None}
 use Rattle.std.specs.Option.{option_map, option_and_then}
 use Rattle.format_spec.specs.Bytes.{Bytes}
 use Rattle.format_spec.specs.declared.limits.TheConstants.{MAX_MODULE, MAX_CERTIFIED, MAX_VALUE, MAX_READ, MAX_PATHS}
@@ -10,7 +10,9 @@ use Rattle.script_text.specs.declared.keywords.Keyword.TheVariants.{Canister, Dr
 use Rattle.script_text.specs.declared.keywords.Keyword.TheVariants.{Put, Del, Read, Round, Forget, Checkpoint, Heights, Root}
 use Rattle.script_text.specs.declared.keywords.Keyword.TheVariants.{Scratch, Tree, Manifest, Purge, Reset, Witness, Check}
 use Rattle.script_text.specs.Keywords.{keyword_of}
-use Rattle.script_text.specs.Script.{words}
+use Rattle.script_text.specs.declared.parsing.Parsed.{Parsed}
+use Rattle.script_text.specs.declared.parsing.Parsed.TheVariants.{Silent, BadLine, Line}
+use Rattle.script_text.specs.Script.{words, is_silent}
 use Rattle.script_text.specs.Words.{number_of, number_up_to, hex_of, hex_up_to, id_of, mem_of, height_of, height_or_live}
 use Rattle.script_text.specs.Words.{module_of, hash_of, path_of, paths_of}
 
@@ -167,6 +169,14 @@ command_of_words (word ∷ rest) = option_and_then (λ keyword. command_by keywo
 abbrev pub command_of : Bytes → Option Command
 command_of line = command_of_words (words line)
 
+abbrev pub parsed_by : Option Command → Parsed
+parsed_by None = BadLine
+parsed_by (Some command) = Line command
+
+-- what a line is
+abbrev pub parsed : Bytes → Parsed
+parsed line = if is_silent line then Silent else parsed_by (command_of line)
+
 -- the sizes of a command's fields are those of its form
 abbrev pub FitsForm : Command → Type 0
 FitsForm (commands.Module id (Some wasm)) = length wasm ≤ MAX_MODULE
@@ -175,3 +185,7 @@ FitsForm (commands.Put path value) = length value ≤ MAX_VALUE
 FitsForm (commands.Read at id mem offset len) = len ≤ MAX_READ
 FitsForm (commands.Witness at paths) = (1 ≤ length paths) × (length paths ≤ MAX_PATHS)
 FitsForm _ = Unit {0}
+
+abbrev pub ParsedFits : Parsed → Type 0
+ParsedFits (Line command) = FitsForm command
+ParsedFits _ = Unit {0}

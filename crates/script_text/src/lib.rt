@@ -17,8 +17,8 @@ mod words;
 
 pub use command::{Command, HeightOrLive};
 pub use numbers::Numbers;
-pub use parsing::{is_silent, parse};
+pub use parsing::{Parsed, is_silent, parse, parse_line};
 pub use path_list::Paths;
 pub use reply::{Refusal, Reply};
 pub use status::Status;
-pub use texts::{write_bad_line, write_reply};
+pub use texts::{reply_text, write_bad_line, write_reply};

@@ -6,7 +6,7 @@ ghost use Rattle.script_text.specs.Commands.{time_of, put_of, del_of, read_of, f
 ghost use Rattle.script_text.specs.Commands.{root_of, scratch_of, tree_of, manifest_of, purge_of, reset_of};
 ghost use Rattle.script_text.specs.Commands.{witness_of, check_of};
 ghost use Rattle.script_text.specs.Commands.{no_words, one_word, two_words, three_words, four_words, five_words, word_and_more};
-ghost use Rattle.script_text.specs.Commands.{command_by, command_of, FitsForm};
+ghost use Rattle.script_text.specs.Commands.{command_by, command_of, FitsForm, parsed, ParsedFits};
 ghost use Rattle.script_text.specs.Script.{is_silent as is_silent_line};
 
 use crate::command::Command;
@@ -18,6 +18,17 @@ use crate::keywords::{Keyword, read_keyword};
 use crate::words::words_of;
 use byte_codec::NoMemory;
 use std::alloc::Global;
+
+/// What a line is.
+#[derive(Debug, Drop)]
+pub enum Parsed {
+    /// It is empty, or begins with `#`: it has no reply.
+    Silent,
+    /// It fits no form.
+    BadLine,
+    /// It asks for this.
+    Line(Command),
+}
 
 /// Whether a line has no reply: it is empty, or begins with `#`.
 pub fn is_silent(line: &[u8]) -> bool
@@ -277,4 +288,18 @@ pub fn parse(alloc: Global, line: &[u8]) -> Result<Option<Command>, NoMemory>
     ensures fits { IfOk result (λ found. IfSome found FitsForm) }
 {
     parse_words(alloc, line)
+}
+
+/// What a line is. Its command fits its form.
+pub fn parse_line(alloc: Global, line: &[u8]) -> Result<Parsed, NoMemory>
+    ensures parsed { IfOk result (λ found. found ≡ parsed line.now) }
+    ensures fits { IfOk result ParsedFits }
+{
+    if is_silent(line) {
+        return Ok(Parsed::Silent);
+    }
+    match parse(alloc, line)? {
+        Some(command) => Ok(Parsed::Line(command)),
+        None => Ok(Parsed::BadLine),
+    }
 }

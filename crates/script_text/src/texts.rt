@@ -1,9 +1,9 @@
 //! How replies are written.
 
-ghost use Rattle.std.specs.Prelude.{◌≡◌, ◌++◌, OnOk, codes, decimal};
+ghost use Rattle.std.specs.Prelude.{◌≡◌, ◌++◌, IfOk, OnOk, codes, decimal};
 ghost use Rattle.std.specs.List.{flat_map};
 ghost use Rattle.hex.specs.Hex.{encode_lower};
-ghost use Rattle.script_text.specs.Texts.{hex_or_dash, numbers_text, refusal_text, reply_text, bad_line_text};
+ghost use Rattle.script_text.specs.Texts.{hex_or_dash, numbers_text, refusal_text, reply_text as text_of, bad_line_text};
 
 use crate::reply::{Refusal, Reply};
 use byte_codec::{Blob, NoMemory, hex_text};
@@ -112,7 +112,7 @@ fn write_refusal(alloc: Global, refusal: &Refusal, out: &mut Vec<u8>) -> Result<
 }
 
 fn write_round(alloc: Global, height: u64, tree: &Hash32, out: &mut Vec<u8>) -> Result<(), NoMemory>
-    ensures { OnOk result (out.new.items ≡ out.old.items ++ reply_text (Reply.Round height tree.now)) }
+    ensures { OnOk result (out.new.items ≡ out.old.items ++ text_of (Reply.Round height tree.now)) }
 {
     write_count(b"round ", height, out)?;
     write_hash(alloc, b" tree ", tree, out)
@@ -124,7 +124,7 @@ fn write_published(
     root: &Hash32,
     out: &mut Vec<u8>,
 ) -> Result<(), NoMemory>
-    ensures { OnOk result (out.new.items ≡ out.old.items ++ reply_text (Reply.Published height root.now)) }
+    ensures { OnOk result (out.new.items ≡ out.old.items ++ text_of (Reply.Published height root.now)) }
 {
     write_count(b"published ", height, out)?;
     write_hash(alloc, b" root ", root, out)
@@ -136,7 +136,7 @@ fn write_heights(
     published: &[u64],
     out: &mut Vec<u8>,
 ) -> Result<(), NoMemory>
-    ensures { OnOk result (out.new.items ≡ out.old.items ++ reply_text (Reply.Heights live memory.now published.now)) }
+    ensures { OnOk result (out.new.items ≡ out.old.items ++ text_of (Reply.Heights live memory.now published.now)) }
 {
     write_count(b"heights live ", live, out)?;
     write_list(b" memory ", memory, out)?;
@@ -151,7 +151,7 @@ fn write_manifest(
     bytes: u64,
     out: &mut Vec<u8>,
 ) -> Result<(), NoMemory>
-    ensures { OnOk result (out.new.items ≡ out.old.items ++ reply_text (Reply.Manifest files chunks pieces bytes)) }
+    ensures { OnOk result (out.new.items ≡ out.old.items ++ text_of (Reply.Manifest files chunks pieces bytes)) }
 {
     write_count(b"manifest files ", files.into(), out)?;
     write_count(b" chunks ", chunks.into(), out)?;
@@ -162,7 +162,7 @@ fn write_manifest(
 
 /// Appends the text of a reply, without a line feed.
 pub fn write_reply(alloc: Global, reply: &Reply, out: &mut Vec<u8>) -> Result<(), NoMemory>
-    ensures { OnOk result (out.new.items ≡ out.old.items ++ reply_text reply.now) }
+    ensures { OnOk result (out.new.items ≡ out.old.items ++ text_of reply.now) }
 {
     match reply {
         Reply::Fine => out.extend_from_slice(b"ok")?,
@@ -194,6 +194,15 @@ pub fn write_reply(alloc: Global, reply: &Reply, out: &mut Vec<u8>) -> Result<()
         }
     }
     Ok(())
+}
+
+/// The text of a reply, without a line feed.
+pub fn reply_text(alloc: Global, reply: &Reply) -> Result<Blob, NoMemory>
+    ensures { IfOk result (λ text. text ≡ text_of reply.now) }
+{
+    let mut text = Vec::new(alloc);
+    write_reply(alloc, reply, &mut text)?;
+    Ok(Blob::from_vec(text))
 }
 
 /// Appends the reply to a line that fits no form, without a line feed.
