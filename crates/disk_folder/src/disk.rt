@@ -47,6 +47,8 @@ impl<R: Files + Alloc + Drop> Disk for FolderDisk<R> {
 
     ghost reads_as_image = { λ _ told. absurd (false≢true told) };
 
+    ghost holds_bytes = { λ _ told. absurd (false≢true told) };
+
     fn settle(&mut self, alloc: Global) -> Result<(), DiskError> {
         let answer = self.folder.settle(alloc);
         self.counted(answer)

@@ -9,6 +9,8 @@ use Rattle.disk_model.specs.Call.{append, look, done, appended_after, counted}
 use Rattle.disk_model.specs.View.{DiskView, Done, Failed, Looks}
 use Rattle.disk_model.specs.Laws.{under_way_files}
 use Rattle.disk_model.specs.Record.{started, call_of, state_after, appended_of, view_of}
+use Rattle.format_spec.specs.Bytes.{IsBytes}
+use Rattle.disk_model.specs.OfBytes.{WroteBytes, bytes_given, wrote_more}
 use Rattle.disk_model.specs.Replay.{state_push, past_push, appended_push}
 
 module _ (first : Files) (es : List Event) (act : Act) where
@@ -65,6 +67,13 @@ module _ (first : Files) (es : List Event) (act : Act) where
   -- and the bytes appended are counted
   pub total_after : (room later : List Event) (n : ℕ) → room ≡ es → later ≡ room ++ record { act = act; done = true } ∷ [] → n ≡ counted 0 (appended_after (call_of act) (appended_of 0 es)) → n ≡ counted 0 (appended_of 0 later)
   total_after room later n same is then = then ∙ sym (ap (λ es. counted 0 (appended_of 0 es)) (pushed room later same is) ∙ ap (counted 0) (appended_push 0 es _))
+
+  -- and what was written was bytes
+  pub wrote_after : (room later : List Event) → room ≡ es → later ≡ room ++ record { act = act; done = true } ∷ [] → WroteBytes es → IsBytes (bytes_given (call_of act)) → WroteBytes later
+  wrote_after room later same is wrote given = subst WroteBytes (sym (pushed room later same is)) (wrote_more es _ wrote given)
+
+  pub wrote_after_failure : (later : List Event) → later ≡ failure → WroteBytes es → IsBytes (bytes_given (call_of act)) → WroteBytes later
+  wrote_after_failure later is wrote given = subst WroteBytes (sym is) (wrote_more es _ wrote given)
 
 -- a look that failed has looked at nothing
 pub failed_look : (old new : DiskView) (most : ℕ) → Failed look old new → Looks most old new

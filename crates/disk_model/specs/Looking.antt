@@ -6,7 +6,7 @@ use Rattle.disk_model.specs.declared.disk.DiskError.{DiskError}
 use Rattle.disk_model.specs.declared.disk.DiskError.TheVariants.{Fault, Memory}
 use Rattle.disk_model.specs.declared.name.Name.{Name}
 use Rattle.disk_model.specs.Files.{Files}
-use Rattle.disk_model.specs.State.{DiskState, IsImageNow}
+use Rattle.disk_model.specs.State.{DiskState, IsImageNow, IsLoose}
 use Rattle.disk_model.specs.View.{DiskView, EachImage, EachImageOf, LeavesOnly, Looks, LooksOrNot}
 use Rattle.disk_model.specs.Frame.{TouchesOnly}
 
@@ -93,4 +93,5 @@ looks_touch most given old new looks = record {
   images = looks_leave most old new _ looks (λ image h. (image, h, λ q _. refl));
   reads = λ q _. ap (λ (s : DiskState). s.files q) looks.state;
   firm = λ q _ firm. ap (λ (s : DiskState). s.loose q) looks.state ∙ firm;
+  loose = λ q _ was. subst (λ (s : DiskState). IsLoose s q) (sym looks.state) was;
 }

@@ -10,6 +10,7 @@ use Rattle.disk_model.specs.View.{DiskView}
 use Rattle.disk_model.specs.Laws.{IsSound}
 use Rattle.disk_model.specs.Record.{files_in, started, view_of}
 use Rattle.disk_model.specs.Replay.{reads_as_image_now}
+use Rattle.disk_model.specs.OfBytes.{HoldsBytes, record_holds}
 
 unfoldable pub mem_view : MemDisk → DiskView
 mem_view m = view_of (files_in m.first.entries) m.events.items m.bytes_read
@@ -31,6 +32,10 @@ fresh_view files = record { state = started files; past = []; appended = 0; byte
 pub mem_is_sound : (m : MemDisk) → IsSound (mem_view m).state
 unfolding mem_view
 mem_is_sound m = reads_as_image_now (files_in m.first.entries) m.events.items
+
+pub mem_holds_bytes : (m : MemDisk) → HoldsBytes (mem_view m).state
+unfolding mem_view
+mem_holds_bytes m = record_holds (files_in m.first.entries) m.events.items m.first_bytes m.wrote_bytes
 
 -- whether the next call is to fail: its number is listed, or `stop` is not above it
 abbrev pub is_to_fail : MemDisk → Bool

@@ -5,16 +5,20 @@ ghost use Rattle.disk_model.specs.Files.{IsListing};
 ghost use Rattle.disk_model.specs.State.{IsThere, IsAbsent, IsFirm, IsLoose, IsImageNow};
 ghost use Rattle.disk_model.specs.Call.{settle, create, append, seal, rename, remove};
 ghost use Rattle.disk_model.specs.View.{DiskView, Does, LooksOrNot, HasCause};
+ghost use Rattle.disk_model.specs.OfBytes.{HoldsBytes};
 
 use crate::{Kind, Name};
 use std::alloc::{AllocError, AllocFailed, Global};
+use thiserror::Error;
 
 /// Why a call of a disk failed.
-#[derive(Clone, Copy, Debug, PartialEq, Eq)]
+#[derive(Clone, Copy, Debug, PartialEq, Eq, Error)]
 pub enum DiskError {
     /// The disk failed, and has counted that.
+    #[error("the disk failed")]
     Fault,
     /// There was no memory for the call, and the disk is unchanged.
+    #[error("there was no memory for a call of the disk")]
     Memory,
 }
 
@@ -106,4 +110,7 @@ pub trait Disk {
 
     /// The disk as it reads is one of its images.
     ghost reads_as_image: { (disk : Self) → IsTrue tells → IsImageNow (view disk).state (view disk).state.files };
+
+    /// Its files are of bytes, as they read and, where a name is firm, in each of its images.
+    ghost holds_bytes: { (disk : Self) → IsTrue tells → HoldsBytes (view disk).state };
 }

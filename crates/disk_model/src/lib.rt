@@ -10,7 +10,7 @@ mod mem;
 mod name;
 
 pub use disk::{Disk, DiskError};
-pub use laws::{laws_of_calls, laws_of_frames, laws_of_moments};
+pub use laws::{laws_of_bytes, laws_of_calls, laws_of_frames, laws_of_moments, laws_of_spending};
 pub use mem::{MemDisk, NoMemory};
 pub use name::{Kind, Name};
 

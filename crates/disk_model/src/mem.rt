@@ -5,6 +5,8 @@ ghost use Rattle.std.specs.Prelude.{◌≡◌, ◌++◌, ◌+◌, ◌≤◌, tak
 ghost use Rattle.disk_model.specs.State.{IsImageNow, IsThere, IsAbsent, IsFirm, IsLoose};
 ghost use Rattle.disk_model.specs.Files.{IsListing};
 ghost use Rattle.disk_model.specs.Record.{files_in, started, state_after, call_of, appended_of};
+ghost use Rattle.format_spec.specs.Bytes.{IsBytes};
+ghost use Rattle.disk_model.specs.OfBytes.{AreOfBytes, WroteBytes, bytes_given};
 ghost use Rattle.disk_model.specs.View.{Failed, Does, LooksOrNot, HasCause, moment};
 ghost use Rattle.disk_model.specs.Call.{settle, create, append, seal, rename, remove, counted};
 
@@ -16,9 +18,11 @@ use crate::image::{chosen_files, spoil_loose};
 use crate::{Disk, DiskError, Kind, Name};
 use std::alloc::{AllocError, Global};
 use std::collections::BTreeMap;
+use thiserror::Error;
 
 /// There was no memory for an image.
-#[derive(Clone, Copy, Debug, PartialEq, Eq)]
+#[derive(Clone, Copy, Debug, PartialEq, Eq, Error)]
+#[error("there was no memory for an image of the disk")]
 pub struct NoMemory;
 
 impl From<AllocError> for NoMemory {
@@ -43,6 +47,8 @@ pub struct MemDisk {
     bytes_read: u64,
     ghost reads: { files_in files.entries ≡ (state_after (started (files_in first.entries)) events.items).files },
     ghost total: { appended ≡ counted 0 (appended_of 0 events.items) },
+    ghost first_bytes: { AreOfBytes (files_in first.entries) },
+    ghost wrote_bytes: { WroteBytes events.items },
 }
 
 impl MemDisk {
@@ -98,8 +104,7 @@ impl MemDisk {
         ensures faults { IfOk result (λ m. faults_of m ≡ 0) }
         ensures orders { IfOk result (λ m. (fails_of m ≡ []) × (stop_of m ≡ None)) }
     {
-        let mut files = chosen_files(alloc, &self.first, &self.events, choice % 2 == 1)?;
-        spoil_loose(alloc, &self.files, &self.events, choice / 2 % 4, &mut files)?;
+        let files = self.image_files(alloc, choice)?;
         let first = copy_files(&files)?;
         Ok(MemDisk {
             files,
@@ -111,6 +116,15 @@ impl MemDisk {
             appended: 0,
             bytes_read: 0,
         })
+    }
+
+    // The files that an image has.
+    fn image_files(&self, alloc: Global, choice: u8) -> Result<Files, AllocError>
+        ensures { IfOk result (λ files. files_in files.entries ≡ image_of choice (mem_view self.now).state) }
+    {
+        let mut files = chosen_files(alloc, &self.first, &self.events, choice % 2 == 1)?;
+        spoil_loose(alloc, &self.files, &self.events, choice / 2 % 4, &mut files)?;
+        Ok(files)
     }
 
     /// Whether the next call is to fail.
@@ -127,7 +141,8 @@ impl MemDisk {
 
     // Notes a call that fails, in a record that has room for it.
     fn fail(&mut self, act: Act) -> Result<(), DiskError>
-        requires { vec_len self.old.events < vec_capacity self.old.events }
+        requires room { vec_len self.old.events < vec_capacity self.old.events }
+        requires bytes { IsBytes (bytes_given (call_of act)) }
         ensures fault { result ≡ Err DiskError.Fault }
         ensures failed { Failed (call_of act) (mem_view self.old) (mem_view self.new) }
         ensures cause { HasCause (faults_of self.old) (faults_of self.new) result }
@@ -168,7 +183,7 @@ fn note(events: &mut Vec<Event>, act: Act, done: bool)
 }
 
 impl Disk for MemDisk {
-    ghost use Rattle.disk_model.specs.Mem.{mem_view, faults_of, mem_is_sound, FollowsOrders};
+    ghost use Rattle.disk_model.specs.Mem.{mem_view, faults_of, mem_is_sound, mem_holds_bytes, FollowsOrders};
 
     ghost tells = { true };
 
@@ -177,6 +192,8 @@ impl Disk for MemDisk {
     ghost faults = { faults_of };
 
     ghost reads_as_image = { λ m _. mem_is_sound m };
+
+    ghost holds_bytes = { λ m _. mem_holds_bytes m };
 
     fn settle(&mut self, _alloc: Global) -> Result<(), DiskError>
         ensures does { Does settle result (mem_view self.old) (mem_view self.new) }

@@ -10,18 +10,10 @@ use Rattle.disk_model.specs.declared.name.Name.TheVariants as name
 use Rattle.disk_model.specs.Files.{Files, IsListing, name_of}
 use Rattle.disk_model.specs.State.{IsThere}
 use Rattle.disk_model.specs.View.{DiskView}
-use Rattle.disk_model.specs.Moments.{weaker}
 use Rattle.disk_model.specs.Frame.{TouchesOnly}
 use Rattle.height_store.specs.Found.{is_stray}
 use Rattle.height_store.specs.Opened.{is_swept}
 use Rattle.height_store.specs.Shown.{or_right, first_named}
-
-pub touches_within : (given wider : Name → Bool) (old new : DiskView) → ((q : Name) → wider q ≡ false → given q ≡ false) → TouchesOnly given old new → TouchesOnly wider old new
-touches_within given wider old new within touches = record {
-  images = weaker old new _ _ (λ image from. (from.0, from.1, λ q apart. from.2 q (within q apart))) touches.images;
-  reads = λ q apart. touches.reads q (within q apart);
-  firm = λ q apart. touches.firm q (within q apart);
-}
 
 and_false : (a b : Bool) → b ≡ false → (a && b) ≡ false
 and_false true b h = h

@@ -20,8 +20,7 @@ use Rattle.disk_model.specs.Files.{same_name, name_of, number_in}
 use Rattle.disk_model.specs.State.{IsSettled, IsThere}
 use Rattle.disk_model.specs.Call.{remove}
 use Rattle.disk_model.specs.View.{DiskView, Does}
-use Rattle.disk_model.specs.Frame.{TouchesOnly, touches_call, touches_then, touches_none}
-use Rattle.disk_model.specs.Moments.{weaker}
+use Rattle.disk_model.specs.Frame.{TouchesOnly, touches_call, touches_then, touches_none, touches_wider}
 use Rattle.disk_model.specs.Laws.{IsSound}
 use Rattle.height_store.specs.Opened.{is_swept, is_number_swept}
 
@@ -108,15 +107,8 @@ wider_number xs ys keep (Some m) wider apart = by_test (list_any (nat_eq m) xs) 
     by_test a false k h e = ap (λ (t : Bool). t && k) (h refl)
 
 -- the same of more numbers
-pub touches_wider : (k : Kind) (xs ys keep : List ℕ) (old new : DiskView) → ((m : ℕ) → list_any (nat_eq m) ys ≡ false → list_any (nat_eq m) xs ≡ false) → TouchesOnly (is_swept k xs keep) old new → TouchesOnly (is_swept k ys keep) old new
-touches_wider k xs ys keep old new wider touches = record {
-  images = weaker old new _ _ (λ image from. (from.0, from.1, λ q apart. from.2 q (narrow q apart))) touches.images;
-  reads = λ q apart. touches.reads q (narrow q apart);
-  firm = λ q apart. touches.firm q (narrow q apart);
-}
-  where
-    narrow : (q : Name) → is_swept k ys keep q ≡ false → is_swept k xs keep q ≡ false
-    narrow q apart = wider_number xs ys keep (number_in k q) wider apart
+pub sweeps_wider : (k : Kind) (xs ys keep : List ℕ) (old new : DiskView) → ((m : ℕ) → list_any (nat_eq m) ys ≡ false → list_any (nat_eq m) xs ≡ false) → TouchesOnly (is_swept k xs keep) old new → TouchesOnly (is_swept k ys keep) old new
+sweeps_wider k xs ys keep old new wider touches = touches_wider (is_swept k xs keep) (is_swept k ys keep) old new (λ q apart. wider_number xs ys keep (number_in k q) wider apart) touches
 
 number_of_name : (k : Kind) (n : ℕ) → number_in k (name_of k n) ≡ Some n
 number_of_name kind.Page n = refl
@@ -142,12 +134,12 @@ parts_of_more xs i m lt none = or_none _ _ (sym (list_any_more (nat_eq m) xs i 0
 -- what was touched with this one too
 pub touches_more : (k : Kind) (xs keep : List ℕ) (i : ℕ) (old mid new : DiskView) → i < length xs → TouchesOnly (is_swept k (take i xs) keep) old mid → TouchesOnly (is_swept k (get_or xs i 0 ∷ []) keep) mid new → TouchesOnly (is_swept k (take (i + 1) xs) keep) old new
 touches_more k xs keep i old mid new lt first second = touches_then (is_swept k (take (i + 1) xs) keep) old mid new
-    (touches_wider k (take i xs) (take (i + 1) xs) keep old mid (λ m none. (parts_of_more xs i m lt none).0) first)
-    (touches_wider k (get_or xs i 0 ∷ []) (take (i + 1) xs) keep mid new (λ m none. ap (λ (b : Bool). b || false) (parts_of_more xs i m lt none).1) second)
+    (sweeps_wider k (take i xs) (take (i + 1) xs) keep old mid (λ m none. (parts_of_more xs i m lt none).0) first)
+    (sweeps_wider k (get_or xs i 0 ∷ []) (take (i + 1) xs) keep mid new (λ m none. ap (λ (b : Bool). b || false) (parts_of_more xs i m lt none).1) second)
 
 -- where the walk stops at this one
 pub touches_all : (k : Kind) (xs keep : List ℕ) (i : ℕ) (old mid new : DiskView) → i < length xs → TouchesOnly (is_swept k (take i xs) keep) old mid → TouchesOnly (is_swept k (get_or xs i 0 ∷ []) keep) mid new → TouchesOnly (is_swept k xs keep) old new
-touches_all k xs keep i old mid new lt first second = touches_wider k (take (i + 1) xs) xs keep old new
+touches_all k xs keep i old mid new lt first second = sweeps_wider k (take (i + 1) xs) xs keep old new
     (λ m none. (or_none _ _ (sym (list_any-append (nat_eq m) (take (i + 1) xs) (drop (i + 1) xs)) ∙ ap (list_any (nat_eq m)) (take-append-drop (i + 1) xs) ∙ none)).0)
     (touches_more k xs keep i old mid new lt first second)
 

@@ -10,22 +10,14 @@ use Rattle.disk_model.specs.declared.name.Name.TheVariants as name
 use Rattle.disk_model.specs.Files.{Files, IsListing, same_name}
 use Rattle.disk_model.specs.State.{IsSettled}
 use Rattle.disk_model.specs.View.{DiskView}
-use Rattle.disk_model.specs.Moments.{weaker}
 use Rattle.disk_model.specs.Laws.{same_name_eq}
-use Rattle.disk_model.specs.Frame.{TouchesOnly, touches_then, touches_none}
+use Rattle.disk_model.specs.Frame.{TouchesOnly, touches_then, touches_none, touches_wider}
 use Rattle.page_file.specs.Files.{NumberedFile, IsKept, IsFinished}
 use Rattle.height_store.specs.Store.{Store, StoredHeight, IsNextFree, heights_in, is_used}
 use Rattle.height_store.specs.Kept.{IsOver, HasMark, HasStacks}
 use Rattle.height_store.specs.Shown.{or_right, listing_apart}
 use Rattle.std.proofs.lemmas.List.{take_more, map_push}
 use Rattle.whole_state.specs.Written.{GivesNumbers, IsWholeStack, is_given_since, AreFinished, AreUsed}
-
-pub touches_wider : (given wider : Name → Bool) (old new : DiskView) → ((q : Name) → wider q ≡ false → given q ≡ false) → TouchesOnly given old new → TouchesOnly wider old new
-touches_wider given wider old new within touches = record {
-  images = weaker old new _ _ (λ image from. (from.0, from.1, λ q apart. from.2 q (within q apart))) touches.images;
-  reads = λ q apart. touches.reads q (within q apart);
-  firm = λ q apart. touches.firm q (within q apart);
-}
 
 -- ---- tests
 

@@ -2,8 +2,9 @@ use Rattle.std.proofs.Common.{[], Some, List, ℕ, ◌∙◌, ap}
 use Rattle.disk_model.specs.declared.event.Act.TheVariants.{Create}
 use Rattle.disk_model.specs.Files.{Files, replaced}
 use Rattle.disk_model.specs.Record.{files_in}
+use Rattle.disk_model.specs.OfBytes.{no_bytes}
 use Rattle.disk_model.specs.Mem.{mem_view}
-use Rattle.disk_model.proofs.Steps.{did, reads_after, total_after}
+use Rattle.disk_model.proofs.Steps.{did, reads_after, total_after, wrote_after}
 use Rattle.disk_model.proofs.mem.MemDiskDisk.create.Goals as goal
 
 pub invariant_of-self-2 : goal.invariant_of-self-2
@@ -14,6 +15,8 @@ invariant_of-self-2 c = record {
       ∙ ap (λ (f : Files). replaced f c.args.name (Some [])) c.args.self.now.reads
       );
   total = total_after (files_in c.args.self.now.first.entries) c.args.self.now.events.items (Create c.args.name) _ _ _ c.reserve.ensures.items c.note.ensures c.args.self.now.total;
+  first_bytes = c.args.self.now.first_bytes;
+  wrote_bytes = wrote_after (files_in c.args.self.now.first.entries) c.args.self.now.events.items (Create c.args.name) _ _ c.reserve.ensures.items c.note.ensures c.args.self.now.wrote_bytes no_bytes;
 }
 
 pub returns-clause-does : goal.returns-clause-does
