@@ -17,7 +17,7 @@ use Rattle.store_spec.specs.Mark.{Mark, MarkMemory, hashes_text, mark_memory_tex
 
 -- ---- a memory
 
-numbers_length : (xs : List ℕ) → length (flat_map be64 xs) ≡ 8 * length xs
+pub numbers_length : (xs : List ℕ) → length (flat_map be64 xs) ≡ 8 * length xs
 numbers_length [] = refl
 numbers_length (x ∷ xs) = omega (arith, numbers_length xs)
 
@@ -29,7 +29,7 @@ numbers_cut (x ∷ xs) (y ∷ ys) p q e =
     let c = cut_front (be64 x) (flat_map be64 xs) (be64 y) (flat_map be64 ys) refl e in
     cons_same x y xs ys (be64_same x y p.0 q.0 c.0) (numbers_cut xs ys p.1 q.1 c.1)
 
-sums_length : (hs : List Bytes) → Are32 hs → length (joined hs) ≡ 32 * length hs
+pub sums_length : (hs : List Bytes) → Are32 hs → length (joined hs) ≡ 32 * length hs
 sums_length [] h = refl
 sums_length (x ∷ hs) h = omega (arith, h.0, sums_length hs h.1, length-append x (joined hs))
 
