@@ -84,9 +84,9 @@ read_memories pages = each (memory_after pages) (length pages) []
 
 -- ---- where reading stopped, though each mark of the height would have been read on
 
-pub refused : {X : Type 0} (P : Mark → Type 0) (e : Stop) (r : Result X ℕ) → Fails e r → ((m : Mark) → P m → (x : X) × (r ≡ Ok x)) → Reads P (Err e)
-refused P stops.Memory r failed must = tt
-refused P stops.Broken r failed must = λ m p. let x = must m p in absurd (let none = sym (ap as_option x.1) ∙ failed in cc)
+pub refused : {X Y : Type 0} (Q : Y → Type 0) (P : Mark → Type 0) (e : Stop) (r : Result X ℕ) → Fails e r → ((m : Mark) → P m → (x : X) × (r ≡ Ok x)) → Reads Q P (Err e)
+refused Q P stops.Memory r failed must = tt
+refused Q P stops.Broken r failed must = λ m p. let x = must m p in absurd (let none = sym (ap as_option x.1) ∙ failed in cc)
 
 module _ (height : ℕ) (body : Bytes) (fits : height ≤ MAX_HEIGHT) (start : Cursor) (at_front : start ≡ cursor 0 body) where
   small : height < 2 ^ 64
@@ -185,7 +185,7 @@ module _ (height : ℕ) (body : Bytes) (fits : height ≤ MAX_HEIGHT) (start : C
                 absurd (let no_way = sym equal ∙ differ in cc)
 
             -- the same end
-            pub ends_agree : IsBytes body → 1 ≤ height → same_bytes rest end ≡ true → SpellsBody height body (record { height = height; version = 1; system = system; memories = mems; system_sums = sums; root = root })
+            pub ends_agree : IsBytes body → 1 ≤ height → same_bytes rest end ≡ true → IsBody height body (record { height = height; version = 1; system = system; memories = mems; system_sums = sums; root = root }) part
             ends_agree bytes from_one agree =
                 let mark : Mark = record { height = height; version = 1; system = system; memories = mems; system_sums = sums; root = root } in
                 let h = took_head bytes in
@@ -195,20 +195,18 @@ module _ (height : ℕ) (body : Bytes) (fits : height ≤ MAX_HEIGHT) (start : C
                 let spelled : body ≡ mark_body mark =
                 sym (ap (λ (c : Cursor). c.rest) at_front) ∙ h.0.parts
                 ∙ ap (λ (r : Bytes). head_text height system ++ r) (t.0.parts ∙ ap (λ (r : Bytes). flat_map mark_memory_text mems ++ r) last_is)
-                ∙ sym (in_parts mark height refl refl) in (
-                  part,
-                  record {
-                    spelled = spelled;
-                    good = record {
-                      version = refl;
-                      from_one = from_one;
-                      height_fits = fits;
-                      system_good = text.1;
-                      system_spelled = text.0;
-                      memories_fit = t.1;
-                      system_sums = sums_are;
-                      root = root_is;
-                    };
-                    of_height = refl;
-                  },
-                )
+                ∙ sym (in_parts mark height refl refl) in
+                record {
+                  spelled = spelled;
+                  good = record {
+                    version = refl;
+                    from_one = from_one;
+                    height_fits = fits;
+                    system_good = text.1;
+                    system_spelled = text.0;
+                    memories_fit = t.1;
+                    system_sums = sums_are;
+                    root = root_is;
+                  };
+                  of_height = refl;
+                }

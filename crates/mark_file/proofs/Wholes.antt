@@ -8,11 +8,14 @@ use Rattle.format_spec.proofs.Readings.{same_bytes_is, bytes_same}
 use Rattle.state_spec.specs.State.{SystemPart}
 use Rattle.state_spec.proofs.SystemSizes.{system_size}
 use Rattle.state_spec.specs.Files.{memories_in}
-use Rattle.store_spec.specs.Mark.{Mark, mark_text, mark_body, IsMark}
+use Rattle.sys_state.specs.System.{System, part_of}
+use Rattle.store_spec.specs.Mark.{Mark, mark_text, mark_body, IsMark, IsMarkText}
+use Rattle.mark_file.specs.declared.error.MarkError.{MarkError}
+use Rattle.mark_file.specs.declared.error.MarkError.TheVariants as errors
 use Rattle.mark_file.specs.declared.error.Stop.{Stop}
 use Rattle.mark_file.specs.declared.error.Stop.TheVariants as stops
 use Rattle.mark_file.specs.Fits.{FitsText}
-use Rattle.mark_file.specs.Spells.{Spells, SpellsBody, Hashed, Reads}
+use Rattle.mark_file.specs.Spells.{Spells, SpellsBoth, Decodes, DecodesBoth, IsBody, SpellsBody, IsBothBody, Hashed, Reads}
 use Rattle.mark_file.proofs.MemoryLaws.{few_layers}
 
 hash_length : (body : Bytes) → length (sha256 body) ≡ 32
@@ -51,23 +54,28 @@ no_body : (height : ℕ) (text : Bytes) → ((body : Bytes) → text ≡ body ++
 unfolding mark_text
 no_body height text none m h = none (mark_body m) h.1.spelled
 
-pub stops_at_hash : (height : ℕ) (text : Bytes) (e : Stop) → Hashed (λ (s : Bytes). s) text (Err e) → Reads (Spells height text) (Err e)
-stops_at_hash height text stops.Broken h = no_body height text h
-stops_at_hash height text stops.Memory h = absurd h
+pub stops_at_hash : {X : Type 0} (P : X → Type 0) (height : ℕ) (text : Bytes) (e : Stop) → Hashed (λ (s : Bytes). s) text (Err e) → Reads P (Spells height text) (Err e)
+stops_at_hash P height text stops.Broken h = no_body height text h
+stops_at_hash P height text stops.Memory h = absurd h
 
 module _ (height : ℕ) (text body : Bytes) (hashed : text ≡ body ++ sha256 body) where
-  outward : (m : Mark) → SpellsBody height body m → Spells height text m
+  outward : (m : Mark) (s : SystemPart) → IsBody height body m s → IsMarkText height text m s
   unfolding mark_text
-  outward m b = (b.0, record { spelled = hashed ∙ (λ i. b.1.spelled i ++ sha256 (b.1.spelled i)); good = b.1.good; of_height = b.1.of_height })
+  outward m s b = record { spelled = hashed ∙ (λ i. b.spelled i ++ sha256 (b.spelled i)); good = b.good; of_height = b.of_height }
 
   inward : (m : Mark) → Spells height text m → SpellsBody height body m
   unfolding mark_text
   inward m h = (h.0, record { spelled = sym (cut_here text body hashed).0 ∙ (cut_here text (mark_body m) h.1.spelled).0; good = h.1.good; of_height = h.1.of_height })
 
-  pub from_body : (r : Result Mark Stop) → Reads (SpellsBody height body) r → Reads (Spells height text) r
-  from_body (Ok m) h = outward m h
+  pub from_body : (r : Result (Mark × System) Stop) → Reads (IsBothBody height body) (SpellsBody height body) r → Reads (SpellsBoth height text) (Spells height text) r
+  from_body (Ok both) h = record { mark = outward both.0 (part_of both.1) h.mark; births = h.births }
   from_body (Err stops.Broken) h = λ m p. h m (inward m p)
   from_body (Err stops.Memory) h = tt
+
+-- a refusal is one of the mark
+pub errors_alike : (height : ℕ) (text : Bytes) (e : MarkError) → DecodesBoth height text (Err e) → Decodes height text (Err e)
+errors_alike height text (errors.BadMark h) refused = refused
+errors_alike height text errors.Memory refused = tt
 
 -- a mark can be written
 pub mark_fits : (m : Mark) (s : SystemPart) → IsMark m s → FitsText m

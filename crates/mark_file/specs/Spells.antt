@@ -1,10 +1,12 @@
 -- What decoding gives.
 use Rattle.std.specs.Prelude.{◌≡◌, ◌++◌, ℕ, List, Result, Ok, Err, map}
+use Rattle.std.specs.List.{AllByRecursion}
 use Rattle.sha2.specs.Sha256.{sha256}
 use Rattle.format_spec.specs.Bytes.{Bytes}
 use Rattle.state_spec.specs.State.{SystemPart}
 use Rattle.state_spec.specs.Manifest.{manifest_from, file_sums}
 use Rattle.state_spec.specs.Root.{root_of_meta, meta_of}
+use Rattle.sys_state.specs.System.{System, part_of}
 use Rattle.store_spec.specs.Mark.{Mark, MarkMemory, mark_body, IsMark, IsMarkText}
 use Rattle.mark_file.specs.declared.error.MarkError.{MarkError}
 use Rattle.mark_file.specs.declared.error.MarkError.TheVariants as errors
@@ -21,13 +23,24 @@ Decodes height text (Ok m) = Spells height text m
 Decodes height text (Err (errors.BadMark h)) = (h ≡ height) × ((m : Mark) → Spells height text m → ⊥)
 Decodes height text (Err errors.Memory) = Unit {0}
 
+-- the text spells this mark for the height, of a state with these parts, whose canisters were born at the height
+pub record SpellsBoth (height : ℕ) (text : Bytes) (both : Mark × System) : Type 0 where
+  pub mark : IsMarkText height text both.0 (part_of both.1)
+  pub births : AllByRecursion (λ c. c.1.birth ≡ height) both.1.canisters
+
+-- the same with the parts
+abbrev pub DecodesBoth : ℕ → Bytes → Result (Mark × System) MarkError → Type 0
+DecodesBoth height text (Ok both) = SpellsBoth height text both
+DecodesBoth height text (Err (errors.BadMark h)) = (h ≡ height) × ((m : Mark) → Spells height text m → ⊥)
+DecodesBoth height text (Err errors.Memory) = Unit {0}
+
 -- ---- on the way
 
--- a mark with this property, or there is none
-abbrev pub Reads : (Mark → Type 0) → Result Mark Stop → Type 0
-Reads P (Ok m) = P m
-Reads P (Err stops.Broken) = (m : Mark) → P m → ⊥
-Reads P (Err stops.Memory) = Unit {0}
+-- something with this property, or there is no mark with that one
+abbrev pub Reads : {X : Type 0} → (X → Type 0) → (Mark → Type 0) → Result X Stop → Type 0
+Reads P Q (Ok x) = P x
+Reads P Q (Err stops.Broken) = (m : Mark) → Q m → ⊥
+Reads P Q (Err stops.Memory) = Unit {0}
 
 -- the bytes before the hash at the end of a text
 abbrev pub Hashed : {X : Type 0} → (X → Bytes) → Bytes → Result X Stop → Type 0
@@ -43,6 +56,10 @@ pub record IsBody (height : ℕ) (body : Bytes) (m : Mark) (s : SystemPart) : Ty
 
 abbrev pub SpellsBody : ℕ → Bytes → Mark → Type 0
 SpellsBody height body m = (s : SystemPart) × IsBody height body m s
+
+pub record IsBothBody (height : ℕ) (body : Bytes) (both : Mark × System) : Type 0 where
+  pub mark : IsBody height body both.0 (part_of both.1)
+  pub births : AllByRecursion (λ c. c.1.birth ≡ height) both.1.canisters
 
 -- the root hash of a state with these parts, whose memories have these hashes
 abbrev pub root_from : SystemPart → List MarkMemory → Bytes

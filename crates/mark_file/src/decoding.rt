@@ -3,7 +3,7 @@
 ghost use Rattle.std.specs.Prelude.{◌≤◌, IfOk};
 ghost use Rattle.format_spec.specs.declared.limits.TheConstants.{MAX_HEIGHT as max_height};
 ghost use Rattle.mark_file.specs.Fits.{FitsText};
-ghost use Rattle.mark_file.specs.Spells.{Spells, Decodes, Reads, SpellsBody};
+ghost use Rattle.mark_file.specs.Spells.{Spells, SpellsBoth, Decodes, DecodesBoth, Reads, SpellsBody, IsBothBody};
 
 use crate::ending::{chunk_hashes, ending, root_hash};
 use crate::error::{MarkError, Stop};
@@ -13,6 +13,7 @@ use crate::memories::{pages_of_memories, read_mems};
 use byte_codec::{Blob, Reader};
 use format_spec::MAX_HEIGHT;
 use std::alloc::Global;
+use sys_state::SysState;
 
 impl Mark {
     /// The mark of this height that the bytes spell. Memory is taken for what was read, and not for what a count says.
@@ -24,16 +25,31 @@ impl Mark {
         ensures exact { Decodes height bytes.now result }
         ensures fits { IfOk result FitsText }
     {
+        match Mark::decode_both(alloc, height, bytes) {
+            Ok((mark, _sys)) => Ok(mark),
+            Err(error) => Err(error),
+        }
+    }
+
+    /// The same mark, and the parts of a state that its system text spells, each canister being born at this height.
+    pub fn decode_both(
+        alloc: Global,
+        height: u64,
+        bytes: &[u8],
+    ) -> Result<(Mark, SysState), MarkError>
+        ensures exact { DecodesBoth height bytes.now result }
+        ensures fits { IfOk result (λ both. FitsText both.0) }
+    {
         match read_mark(alloc, height, bytes) {
-            Ok(mark) => Ok(mark),
+            Ok(both) => Ok(both),
             Err(Stop::Broken) => Err(MarkError::BadMark(height)),
             Err(Stop::Memory) => Err(MarkError::Memory),
         }
     }
 }
 
-fn read_mark(alloc: Global, height: u64, bytes: &[u8]) -> Result<Mark, Stop>
-    ensures { Reads (Spells height bytes.now) result }
+fn read_mark(alloc: Global, height: u64, bytes: &[u8]) -> Result<(Mark, SysState), Stop>
+    ensures { Reads (SpellsBoth height bytes.now) (Spells height bytes.now) result }
 {
     if height == 0 || height > MAX_HEIGHT {
         return Err(Stop::Broken);
@@ -43,10 +59,10 @@ fn read_mark(alloc: Global, height: u64, bytes: &[u8]) -> Result<Mark, Stop>
 }
 
 // All but the hash over it.
-fn read_body(alloc: Global, height: u64, body: &[u8]) -> Result<Mark, Stop>
+fn read_body(alloc: Global, height: u64, body: &[u8]) -> Result<(Mark, SysState), Stop>
     requires from_one { 1 ≤ height }
     requires at_most { height ≤ max_height }
-    ensures { Reads (SpellsBody height body.now) result }
+    ensures { Reads (IsBothBody height body.now) (SpellsBody height body.now) result }
 {
     let mut reader = Reader::new(body);
     let system = read_head(&mut reader, height)?;
@@ -59,12 +75,15 @@ fn read_body(alloc: Global, height: u64, body: &[u8]) -> Result<Mark, Stop>
     if !same(reader.rest(), &end) {
         return Err(Stop::Broken);
     }
-    Ok(Mark {
-        height,
-        version: VERSION,
-        system: Blob::from_slice(alloc, system)?,
-        mems,
-        system_sums,
-        root,
-    })
+    Ok((
+        Mark {
+            height,
+            version: VERSION,
+            system: Blob::from_slice(alloc, system)?,
+            mems,
+            system_sums,
+            root,
+        },
+        sys,
+    ))
 }

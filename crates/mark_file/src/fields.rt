@@ -1,7 +1,7 @@
 //! The fields of a mark, each with its rule.
 
 ghost use Rattle.std.specs.Prelude.{◌≡◌, ◌==◌, ◌≤◌, ◌++◌, codes, not, nat_le, if◌then◌else◌, length, IfOk};
-ghost use Rattle.std.specs.List.{list_any};
+ghost use Rattle.std.specs.List.{list_any, AllByRecursion};
 ghost use Rattle.std.specs.Int.{w32, w64};
 ghost use Rattle.sha2.specs.Sha256.{sha256};
 ghost use Rattle.format_spec.specs.Bytes.{same_bytes};
@@ -87,9 +87,10 @@ fn read_text<'a>(reader: &mut Reader<'a>) -> Result<&'a [u8], Stop>
     }
 }
 
-/// The parts of a state that a system text spells.
+/// The parts of a state that a system text spells, each canister being born at this height.
 pub(crate) fn read_parts(alloc: Global, system: &[u8], height: u64) -> Result<SysState, Stop>
-    ensures { Gives part_of result (read_system 1 system.now) }
+    ensures gives { Gives part_of result (read_system 1 system.now) }
+    ensures births { IfOk result (λ sys. AllByRecursion (λ c. c.1.birth ≡ height) sys.canisters) }
 {
     match SysState::decode(alloc, system, height) {
         Ok(sys) => Ok(sys),

@@ -6,7 +6,7 @@ use Rattle.state_spec.specs.SystemText.{read_system}
 use Rattle.store_spec.specs.Mark.{MarkMemory, hashes_text}
 use Rattle.sys_state.specs.System.{part_of}
 use Rattle.mark_file.specs.Reading.{head_fields}
-use Rattle.mark_file.specs.Spells.{SpellsBody, root_from}
+use Rattle.mark_file.specs.Spells.{IsBody, IsBothBody, SpellsBody, root_from}
 use Rattle.mark_file.proofs.Bodies.{refused, read_memories, head_must, system_must, system_is, memories_must, hashes_fit, ends_differ, ends_agree}
 use Rattle.mark_file.proofs.decoding.read_body.Goals as goal
 
@@ -14,40 +14,40 @@ pub returns-in_err-system : goal.returns-in_err-system
 returns-in_err-system c =
     let p = err_from_is_err_and c.from_residual.result c.from_residual.ensures.1 in
     rw (p.1, p.2)
-    (refused (SpellsBody c.args.height c.args.body.now) c.in_err-system.field-0.0 (head_fields c.args.height c.new-reader.result) c.in_err-system.ensures
+    (refused (IsBothBody c.args.height c.args.body.now) (SpellsBody c.args.height c.args.body.now) c.in_err-system.field-0.0 (head_fields c.args.height c.new-reader.result) c.in_err-system.ensures
     (head_must c.args.height c.args.body.now c.requires.at_most c.new-reader.result c.new-reader.ensures))
 
 pub returns-in_err-sys : goal.returns-in_err-sys
 returns-in_err-sys c =
     let p = err_from_is_err_and c.from_residual-in_err-sys.result c.from_residual-in_err-sys.ensures.1 in
     rw (p.1, p.2)
-    (refused (SpellsBody c.args.height c.args.body.now) c.in_err-sys.field-0.0 (read_system 1 c.in_ok-system.system.now) c.in_err-sys.ensures
+    (refused (IsBothBody c.args.height c.args.body.now) (SpellsBody c.args.height c.args.body.now) c.in_err-sys.field-0.0 (read_system 1 c.in_ok-system.system.now) c.in_err-sys.ensures.gives
     (system_must c.args.height c.args.body.now c.requires.at_most c.new-reader.result c.new-reader.ensures c.in_ok-system.system.now c.read_head.new.reader c.in_ok-system.ensures))
 
 pub returns-in_err-mems : goal.returns-in_err-mems
 returns-in_err-mems c =
     let p = err_from_is_err_and c.from_residual-in_err-mems.result c.from_residual-in_err-mems.ensures.1 in
     rw (p.1, p.2)
-    (refused (SpellsBody c.args.height c.args.body.now) c.in_err-mems.field-0.0 (read_memories c.deref.result.now c.read_head.new.reader) c.in_err-mems.ensures
+    (refused (IsBothBody c.args.height c.args.body.now) (SpellsBody c.args.height c.args.body.now) c.in_err-mems.field-0.0 (read_memories c.deref.result.now c.read_head.new.reader) c.in_err-mems.ensures
     (memories_must c.args.height c.args.body.now c.requires.at_most c.new-reader.result c.new-reader.ensures c.in_ok-system.system.now c.read_head.new.reader c.in_ok-system.ensures
-    (part_of c.in_ok-sys.sys) c.in_ok-sys.ensures c.deref.result.now (c.deref.ensures.value ∙ c.in_ok-pages.ensures)))
+    (part_of c.in_ok-sys.sys) c.in_ok-sys.ensures.gives c.deref.result.now (c.deref.ensures.value ∙ c.in_ok-pages.ensures)))
 
 pub root_hash-requires-clause-text : goal.root_hash-requires-clause-text
 root_hash-requires-clause-text c =
     (system_is c.args.height c.args.body.now c.requires.at_most c.new-reader.result c.new-reader.ensures c.in_ok-system.system.now c.read_head.new.reader c.in_ok-system.ensures
-    (part_of c.in_ok-sys.sys) c.in_ok-sys.ensures (λ i. omega (arith, c.type_inv.body i))).0
+    (part_of c.in_ok-sys.sys) c.in_ok-sys.ensures.gives (λ i. omega (arith, c.type_inv.body i))).0
 
 pub root_hash-requires-clause-fit : goal.root_hash-requires-clause-fit
 root_hash-requires-clause-fit c =
     subst (λ (ms : List MarkMemory). FitSums (part_of c.in_ok-sys.sys) (map (λ (m : MarkMemory). m.sums) ms)) (sym c.deref-2.ensures.value)
     (hashes_fit c.args.height c.args.body.now c.requires.at_most c.new-reader.result c.new-reader.ensures c.in_ok-system.system.now c.read_head.new.reader c.in_ok-system.ensures
-    (part_of c.in_ok-sys.sys) c.in_ok-sys.ensures c.deref.result.now (c.deref.ensures.value ∙ c.in_ok-pages.ensures) c.in_ok-mems.mems.items c.read_mems.new.reader c.in_ok-mems.ensures
+    (part_of c.in_ok-sys.sys) c.in_ok-sys.ensures.gives c.deref.result.now (c.deref.ensures.value ∙ c.in_ok-pages.ensures) c.in_ok-mems.mems.items c.read_mems.new.reader c.in_ok-mems.ensures
     (λ i. omega (arith, c.type_inv.body i)))
 
 pub returns-then-not-same : goal.returns-then-not-same
 returns-then-not-same c =
     ends_differ c.args.height c.args.body.now c.requires.at_most c.new-reader.result c.new-reader.ensures c.in_ok-system.system.now c.read_head.new.reader c.in_ok-system.ensures
-    (part_of c.in_ok-sys.sys) c.in_ok-sys.ensures c.deref.result.now (c.deref.ensures.value ∙ c.in_ok-pages.ensures) c.in_ok-mems.mems.items c.read_mems.new.reader c.in_ok-mems.ensures
+    (part_of c.in_ok-sys.sys) c.in_ok-sys.ensures.gives c.deref.result.now (c.deref.ensures.value ∙ c.in_ok-pages.ensures) c.in_ok-mems.mems.items c.read_mems.new.reader c.in_ok-mems.ensures
     c.rest.result.now c.deref-4.result.now c.in_ok-system_sums.system_sums.items c.in_ok-root.root c.rest.ensures
     (c.deref-4.ensures.value ∙ c.in_ok-end.ensures ∙ ap (λ (hs : List Bytes). hashes_text hs ++ c.in_ok-root.root) c.deref-3.ensures.value)
     c.in_ok-system_sums.ensures (c.in_ok-root.ensures ∙ ap (root_from (part_of c.in_ok-sys.sys)) c.deref-2.ensures.value)
@@ -55,11 +55,14 @@ returns-then-not-same c =
 
 pub returns : goal.returns
 returns c =
-    subst (λ (s : Bytes). SpellsBody c.args.height c.args.body.now
-    (record { height = c.args.height; version = 1; system = s; memories = c.in_ok-mems.mems.items; system_sums = c.in_ok-system_sums.system_sums.items; root = c.in_ok-root.root })) (sym c.in_ok-from_slice.ensures)
-    (ends_agree c.args.height c.args.body.now c.requires.at_most c.new-reader.result c.new-reader.ensures c.in_ok-system.system.now c.read_head.new.reader c.in_ok-system.ensures
-    (part_of c.in_ok-sys.sys) c.in_ok-sys.ensures c.deref.result.now (c.deref.ensures.value ∙ c.in_ok-pages.ensures) c.in_ok-mems.mems.items c.read_mems.new.reader c.in_ok-mems.ensures
+    let mark = ends_agree c.args.height c.args.body.now c.requires.at_most c.new-reader.result c.new-reader.ensures c.in_ok-system.system.now c.read_head.new.reader c.in_ok-system.ensures
+    (part_of c.in_ok-sys.sys) c.in_ok-sys.ensures.gives c.deref.result.now (c.deref.ensures.value ∙ c.in_ok-pages.ensures) c.in_ok-mems.mems.items c.read_mems.new.reader c.in_ok-mems.ensures
     c.rest.result.now c.deref-4.result.now c.in_ok-system_sums.system_sums.items c.in_ok-root.root c.rest.ensures
     (c.deref-4.ensures.value ∙ c.in_ok-end.ensures ∙ ap (λ (hs : List Bytes). hashes_text hs ++ c.in_ok-root.root) c.deref-3.ensures.value)
     c.in_ok-system_sums.ensures (c.in_ok-root.ensures ∙ ap (root_from (part_of c.in_ok-sys.sys)) c.deref-2.ensures.value)
-    (λ i. omega (arith, c.type_inv.body i)) c.requires.from_one (sym c.same.ensures ∙ c.if-not-same.false))
+    (λ i. omega (arith, c.type_inv.body i)) c.requires.from_one (sym c.same.ensures ∙ c.if-not-same.false) in
+    record {
+      mark = subst (λ (s : Bytes). IsBody c.args.height c.args.body.now
+          (record { height = c.args.height; version = 1; system = s; memories = c.in_ok-mems.mems.items; system_sums = c.in_ok-system_sums.system_sums.items; root = c.in_ok-root.root }) (part_of c.in_ok-sys.sys)) (sym c.in_ok-from_slice.ensures) mark;
+      births = c.in_ok-sys.ensures.births;
+    }

@@ -1,5 +1,8 @@
-use Rattle.mark_file.proofs.Wholes.{mark_fits}
+use Rattle.mark_file.proofs.Wholes.{errors_alike}
 use Rattle.mark_file.proofs.mark.Mark.decode.Goals as goal
 
-pub returns-in-Ok-clause-fits : goal.returns-in-Ok-clause-fits
-returns-in-Ok-clause-fits c = mark_fits _ c.in-Ok.ensures.0 c.in-Ok.ensures.1.good
+pub returns-in-Ok-clause-exact : goal.returns-in-Ok-clause-exact
+returns-in-Ok-clause-exact c = (_, c.in-Ok.ensures.exact.mark)
+
+pub returns-in-Err-clause-exact : goal.returns-in-Err-clause-exact
+returns-in-Err-clause-exact c = errors_alike _ _ c.in-Err.error c.in-Err.ensures.exact
