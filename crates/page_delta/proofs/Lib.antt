@@ -22,3 +22,4 @@ pub mod Keeping
 pub mod KeepCalls
 pub mod Lives
 pub mod Reached
+pub mod InPlace

@@ -1,13 +1,13 @@
 -- What maps are kept as: roots of trees. No public clause cites this module.
-use Rattle.std.specs.Prelude.{◌≡◌, ◌≢◌, ℕ, ◌+◌, ◌^◌, ◌≤◌, ◌==◌, List, [], ◌∷◌, length, Bool, true, false, Option, Some, None, IsSome, slice_index_or, count_by, is_some, if◌then◌else◌}
+use Rattle.std.specs.Prelude.{◌≡◌, ◌≢◌, ℕ, ◌+◌, ◌%◌, ◌^◌, ◌≤◌, ◌==◌, List, [], ◌∷◌, length, Bool, true, false, Option, Some, None, IsSome, slice_index_or, count_by, is_some, if◌then◌else◌}
 use Rattle.page_pool.specs.Pool.{Pool, count_at}
 use Rattle.page_delta.specs.declared.roots.Root.{Root}
 use Rattle.page_delta.specs.declared.entry.Entry.{Entry}
 use Rattle.page_delta.specs.declared.node.Node.{Node}
 use Rattle.page_delta.specs.Totals.{total}
 use Rattle.page_delta.specs.Delta.{Pages, find, pages_in}
-use Rattle.page_delta.specs.Nodes.{node_at, level_in, pages_below}
-use Rattle.page_delta.specs.Shared.{slots_in, IsShared, IsPlaced, IsCounted, KeepsBytes}
+use Rattle.page_delta.specs.Nodes.{node_at, entry_in, level_in, pages_below}
+use Rattle.page_delta.specs.Shared.{slots_in, IsShared, IsPlaced, IsCounted, KeepsBytes, IsOwnLeaf}
 
 -- the root at an id
 abbrev pub root_at : List (Option Root) → ℕ → Option Root
@@ -50,6 +50,16 @@ pub record PutsAt (old new : List (Option Node)) (old_ids new_ids : List (Option
   pub live : IsSome (root_at new_ids id)
   pub found : (q : ℕ) → find q (pages_in (map_below new (root_at new_ids id))) ≡ (if q == page then Some entry else find q (pages_in (map_below old (root_at old_ids id))))
   pub others : (other : ℕ) → other ≢ id → map_below new (root_at new_ids other) ≡ map_below old (root_at old_ids other)
+
+-- the leaf and the slot of a page, which no other map and no other place has
+pub record IsOwnPlace (nodes : List (Option Node)) (ids : List (Option Root)) (pool : Pool) (id page leaf slot : ℕ) : Type 0 where
+  pub root : Root
+  pub root_is : root_at ids id ≡ Some root
+  pub leaf_is : IsOwnLeaf nodes root.node page leaf
+  pub entry : Entry
+  pub entry_is : entry_in (node_at nodes leaf) (page % 32) ≡ Some entry
+  pub slot_is : entry.slot ≡ slot
+  pub once : count_at pool slot ≡ 1
 
 -- the first, if it is something, and else the second
 abbrev pub or_else : Option Entry → Option Entry → Option Entry

@@ -98,3 +98,15 @@ pub record Owned (xs ys : List (Option Node)) (parent d child : ℕ) : Type 0 wh
   pub above : (m : ℕ) → level_in (node_at xs parent) ≤ level_in (node_at xs m) → m ≢ parent → node_at ys m ≡ node_at xs m
   pub looks : SameLooks xs ys
   pub places : KeepsPlaces xs ys
+
+-- the leaf of a page in the tree of a root, where it and each node on the way to it are counted once
+pub record IsOwnLeaf (nodes : List (Option Node)) (root page leaf : ℕ) : Type 0 where
+  pub upper : ℕ
+  pub lower : ℕ
+  pub upper_is : child_in (node_at nodes root) ((page / 32768) % 32) ≡ Some upper
+  pub lower_is : child_in (node_at nodes upper) ((page / 1024) % 32) ≡ Some lower
+  pub leaf_is : child_in (node_at nodes lower) ((page / 32) % 32) ≡ Some leaf
+  pub own_root : count_in (node_at nodes root) ≡ 1
+  pub own_upper : count_in (node_at nodes upper) ≡ 1
+  pub own_lower : count_in (node_at nodes lower) ≡ 1
+  pub own_leaf : count_in (node_at nodes leaf) ≡ 1

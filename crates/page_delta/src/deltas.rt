@@ -7,9 +7,9 @@ ghost use Rattle.page_delta.specs.Delta.{map_of, IsLive, pages_of, find, pages_a
 use crate::entry::Entry;
 use crate::node::Node;
 use crate::roots::{
-    Root, drop_root, fork_root, keep_pages, make_room, new_root, put_entry, stamped,
+    Root, drop_root, fork_root, keep_pages, make_room, new_root, own_place, put_entry, stamped,
 };
-use crate::tree::look;
+use crate::tree::{look, place};
 use byte_codec::NoMemory;
 use page_pool::{PageBytes, PagePool};
 use slab::Slab;
@@ -135,6 +135,12 @@ impl Deltas {
         ensures err_pool { OnErr result (pool.new ≡ pool.old) }
         ensures holds { Holds pool.new self.new }
     {
+        if let Some(own) = own_place(&self.nodes, &self.ids, pool, id.0, page) {
+            let slot = own.slot;
+            *pool.page_mut(slot) = *bytes;
+            place(&mut self.nodes, own.leaf, page % 32, Entry { slot, stamp });
+            return Ok(());
+        }
         make_room(&mut self.nodes, &mut self.ids, 4)?;
         pool.reserve(alloc, 1)?;
         let slot = pool.put(bytes);

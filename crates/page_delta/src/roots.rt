@@ -1,19 +1,19 @@
 //! Roots of trees, each under an id.
 
-ghost use Rattle.std.specs.Prelude.{length, slice_index, ◌≡◌, ◌≢◌, ℕ, ◌+◌, ◌%◌, ◌^◌, ◌<◌, ◌≤◌, [], Some, None, IsSome, OnOk, OnErr, IfOk, ◌==◌, if◌then◌else◌};
+ghost use Rattle.std.specs.Prelude.{length, slice_index, ◌≡◌, ◌≢◌, ℕ, ◌+◌, ◌%◌, ◌^◌, ◌<◌, ◌≤◌, [], Some, None, IsSome, IfSome, OnOk, OnErr, IfOk, ◌==◌, if◌then◌else◌};
 ghost use Rattle.slab.specs.Slab.{HasRoomFor, slab_len};
 ghost use Rattle.page_pool.specs.Pool.{count_at};
 ghost use Rattle.page_delta.specs.Delta.{uses, find, pages_in, pages_after};
 ghost use Rattle.page_delta.specs.Nodes.{node_at, count_in, look, pages_below};
-ghost use Rattle.page_delta.specs.Roots.{root_at, map_below, IsKept, IsHeld, AddsRoot, PutsAt, IsKeeping, HasPages, or_else};
+ghost use Rattle.page_delta.specs.Roots.{root_at, map_below, IsKept, IsHeld, AddsRoot, PutsAt, IsKeeping, HasPages, or_else, IsOwnPlace};
 ghost use Rattle.page_delta.specs.Shared.{Grows, KeepsBytes, KeepsPlaces, StandsAt, IsClosed};
 ghost use Rattle.page_delta.specs.declared.roots.Root.{Root as Held_root};
 
 use crate::entry::Entry;
 use crate::node::Node;
-use crate::tree::{copy, gap, insert, look, lower, put, raise, release};
+use crate::tree::{copy, gap, insert, look, lower, own_leaf, put, raise, release};
 use byte_codec::NoMemory;
-use page_pool::PagePool;
+use page_pool::{PagePool, SlotId};
 use slab::Slab;
 use std::alloc::Global;
 
@@ -27,6 +27,13 @@ pub(crate) const MAX_IDS: usize = 0x8000_0000;
 pub(crate) struct Root {
     pub(crate) node: usize,
     pub(crate) pages: u32,
+}
+
+// Where a page stands that no other map has, and its slot that no other leaf has.
+#[derive(Drop)]
+pub(crate) struct OwnPlace {
+    pub(crate) leaf: usize,
+    pub(crate) slot: SlotId,
 }
 
 // Takes memory for so many nodes and an id. Nothing else changes.
@@ -116,6 +123,28 @@ pub(crate) fn fork_root(
     raise(nodes, node);
     ids.insert_reserved(Root { node, pages });
     Ok(fork)
+}
+
+// Where a page of a map stands, if no other map has it and its slot is counted once.
+pub(crate) fn own_place(
+    nodes: &Slab<Node>,
+    ids: &Slab<Root>,
+    pool: &PagePool,
+    id: u32,
+    page: u32,
+) -> Option<OwnPlace>
+    requires kept { IsKept nodes.now.slots ids.now.slots }
+    requires held { IsHeld nodes.now.slots pool.now (λ slot. 0) }
+    requires live { IsSome (root_at ids.now.slots id) }
+    ensures { IfSome result (λ own. IsOwnPlace nodes.now.slots ids.now.slots pool.now id page own.leaf own.slot) }
+{
+    let leaf = own_leaf(nodes, ids[id as usize].node, page)?;
+    let entry = nodes[leaf].entry(page % 32)?;
+    if pool.count(entry.slot) != 1 {
+        return None;
+    }
+    let slot = entry.slot;
+    Some(OwnPlace { leaf, slot })
 }
 
 // Puts an entry at a page of a map. There is room for four nodes, the slot is counted for the entry, and no leaf has it at

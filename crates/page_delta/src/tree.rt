@@ -1,6 +1,6 @@
 //! Trees of nodes, which share their parts.
 
-ghost use Rattle.std.specs.Prelude.{◌≡◌, ◌≢◌, ℕ, ◌+◌, ◌-◌, ◌%◌, ◌^◌, ◌<◌, ◌≤◌, List, length, Some, None, IsSome, slice_index_or};
+ghost use Rattle.std.specs.Prelude.{◌≡◌, ◌≢◌, ℕ, ◌+◌, ◌-◌, ◌%◌, ◌^◌, ◌<◌, ◌≤◌, List, length, Some, None, IsSome, IfSome, slice_index_or};
 ghost use Rattle.slab.specs.Slab.{HasRoomFor, slab_len};
 ghost use Rattle.page_pool.specs.Pool.{count_at, IsLive};
 ghost use Rattle.page_delta.specs.declared.entry.Entry.{Entry as Held};
@@ -8,7 +8,7 @@ ghost use Rattle.page_delta.specs.declared.node.Node.{Node as Held_node};
 ghost use Rattle.page_delta.specs.Totals.{total};
 ghost use Rattle.page_delta.specs.Delta.{uses};
 ghost use Rattle.page_delta.specs.Nodes.{node_at, child_in, entry_in, width, count_in, level_in, recounted, with_child, with_entry, once, names, with_node, look};
-ghost use Rattle.page_delta.specs.Shared.{slots_in, IsShared, StandsAt, IsPlaced, IsCounted, IsClosed, Stands, SameLooks, KeepsBytes, KeepsLevels, Shrinks, Grows, Differs, Owned};
+ghost use Rattle.page_delta.specs.Shared.{slots_in, IsShared, StandsAt, IsPlaced, IsCounted, IsClosed, Stands, SameLooks, KeepsBytes, KeepsLevels, Shrinks, Grows, Differs, Owned, IsOwnLeaf};
 
 use crate::entry::Entry;
 use crate::node::Node;
@@ -25,6 +25,33 @@ pub(crate) fn look(nodes: &Slab<Node>, root: usize, page: u32) -> Option<Entry>
     let lower = nodes[upper].child(page / 1024 % 32)?;
     let leaf = nodes[lower].child(page / 32 % 32)?;
     nodes[leaf].entry(page % 32)
+}
+
+// The child of a node at a digit, where the node is counted once.
+fn own_below(nodes: &Slab<Node>, parent: usize, digit: u32) -> Option<usize>
+    requires parent { IsSome (node_at nodes.now.slots parent) }
+    requires digit { digit < 32 }
+    ensures { IfSome result (λ child. (count_in (node_at nodes.now.slots parent) ≡ 1) × (child_in (node_at nodes.now.slots parent) digit ≡ Some child)) }
+{
+    if nodes[parent].count() != 1 {
+        return None;
+    }
+    nodes[parent].child(digit)
+}
+
+// The leaf of a page, where each node on the way and the leaf are counted once.
+pub(crate) fn own_leaf(nodes: &Slab<Node>, root: usize, page: u32) -> Option<usize>
+    requires root { IsSome (node_at nodes.now.slots root) }
+    requires closed { IsClosed nodes.now.slots }
+    ensures { IfSome result (λ leaf. IsOwnLeaf nodes.now.slots root page leaf) }
+{
+    let upper = own_below(nodes, root, page / 32_768 % 32)?;
+    let lower = own_below(nodes, upper, page / 1024 % 32)?;
+    let leaf = own_below(nodes, lower, page / 32 % 32)?;
+    if nodes[leaf].count() != 1 {
+        return None;
+    }
+    Some(leaf)
 }
 
 // Counts a node once more.
@@ -223,7 +250,7 @@ fn own_child(nodes: &mut Slab<Node>, pool: &mut PagePool, parent: usize, digit: 
 }
 
 // Gives a leaf another entry at a digit.
-fn place(nodes: &mut Slab<Node>, leaf: usize, digit: u32, entry: Entry)
+pub(crate) fn place(nodes: &mut Slab<Node>, leaf: usize, digit: u32, entry: Entry)
     requires leaf { IsSome (node_at nodes.old.slots leaf) }
     requires digit { digit < 32 }
     ensures now { (node : Held_node) → node_at nodes.old.slots leaf ≡ Some node → node_at nodes.new.slots leaf ≡ Some (with_entry node digit entry) }

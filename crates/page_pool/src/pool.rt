@@ -112,6 +112,14 @@ impl PagePool {
         }
     }
 
+    /// How often a live slot is counted.
+    pub fn count(&self, slot: SlotId) -> u32
+        requires { IsLive self.now slot }
+        ensures { result ≡ count_at self.now slot }
+    {
+        self.slots[slot.0 as usize].count()
+    }
+
     /// The bytes of a live slot.
     pub fn page(&self, slot: SlotId) -> &PageBytes
         requires { IsLive self.now slot }
