@@ -3,7 +3,6 @@ use Rattle.std.proofs.Common.{ℕ, zero, suc, Bool, true, false, ◌&&◌, ◌==
 use Rattle.std.specs.List.{AllByRecursion}
 use Rattle.format_spec.specs.Bytes.{IsBytes}
 use Rattle.format_spec.proofs.ByteStrings.{take_bytes}
-use Rattle.disk_model.specs.declared.name.Name.{Name}
 use Rattle.disk_model.specs.Files.{Files}
 use Rattle.disk_model.specs.State.{DiskState}
 use Rattle.disk_model.specs.Images.{spoiled, last_from, picked, image_of}

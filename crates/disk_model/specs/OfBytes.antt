@@ -1,14 +1,14 @@
 -- Files are of bytes, on a disk and in what a crash leaves of it.
-use Rattle.std.specs.Prelude.{◌≡◌, ℕ, zero, suc, Bool, true, false, List, [], ◌∷◌, ◌++◌, map, Option, None, Some, is_some, unwrap_or}
-use Rattle.std.proofs.Common.{inl, inr, ap, sym, subst, arith, cond}
+use Rattle.std.specs.Prelude.{◌≡◌, ℕ, zero, suc, Bool, true, false, List, [], ◌∷◌, ◌++◌, map, Option, None, Some, unwrap_or}
+use Rattle.std.proofs.Common.{inl, inr, sym, subst, arith, cond}
 use Rattle.std.specs.List.{AllByRecursion}
 use Rattle.format_spec.specs.Bytes.{IsBytes}
 use Rattle.format_spec.proofs.ByteStrings.{join_bytes}
 use Rattle.disk_model.specs.declared.name.Name.{Name}
 use Rattle.disk_model.specs.declared.event.Event.{Event}
 use Rattle.disk_model.specs.Files.{Files, same_name, replaced, moved}
-use Rattle.disk_model.specs.State.{DiskState, Shows, ShowsOneOf, IsImageNow}
-use Rattle.disk_model.specs.Call.{Call, look, settle, create, append, seal, rename, remove, without, under_way, done}
+use Rattle.disk_model.specs.State.{DiskState, ShowsOneOf, IsImageNow}
+use Rattle.disk_model.specs.Call.{Call, look, settle, create, append, seal, rename, remove, under_way, done}
 use Rattle.disk_model.specs.Record.{started, call_of, after_event, state_after}
 
 -- Each file is of bytes. A name without a file counts as one of none.

@@ -1,6 +1,6 @@
 -- How many bytes calls append and read.
 use Rattle.std.specs.Prelude.{◌≡◌, ℕ, ◌+◌, ◌≤◌}
-use Rattle.std.proofs.Common.{sym, ◌∙◌, arith}
+use Rattle.std.proofs.Common.{◌∙◌, arith}
 use Rattle.disk_model.specs.Call.{Call, look, settle, create, append, seal, rename, remove, length_given, appended_after}
 use Rattle.disk_model.specs.View.{DiskView, Done}
 use Rattle.disk_model.specs.Looking.{OnlyLooks}
