@@ -1,9 +1,10 @@
 //! The folder as a disk that counts its faults.
-ghost use Rattle.std.specs.Prelude.{false, [], None};
+ghost use Rattle.std.specs.Prelude.{◌≡◌, false, [], None};
 ghost use Rattle.std.proofs.lemmas.Bool.{false≢true};
 ghost use Rattle.disk_model.specs.View.{HasCause};
 
 use crate::folder::Folder;
+use crate::lock::Lock;
 use disk_model::{Disk, DiskError, Kind, Name};
 use std::alloc::{Alloc, Global};
 use std::rt::Files;
@@ -11,16 +12,22 @@ use std::rt::Files;
 /// A real folder as a disk. It tells nothing of its files, and counts its faults.
 ///
 /// Each file is `page`, `mark`, `draft` or `stage`, and a name of 16 lower-case hexadecimal digits in that folder. Other names there are passed over.
-/// Up to 32 files stay open between calls.
+/// Up to 32 files that are read, and as many that are written, stay open between calls. From the first `settle` on the folder is locked for this disk:
+/// `settle` is a fault where another one has it.
 #[derive(Drop)]
 pub struct FolderDisk<R: Files + Alloc + Drop> {
     folder: Folder<R>,
     faults: u64,
 }
 
-impl<R: Files + Alloc + Drop> FolderDisk<R> {
+impl<R: Files + Alloc + Drop> FolderDisk<R>
+where
+    R::File: Lock,
+{
     /// The disk in the folder at this path. Nothing is looked at or made yet.
-    pub fn at(rt: R, path: String) -> FolderDisk<R> {
+    pub fn at(rt: R, path: String) -> FolderDisk<R>
+        ensures { ⟦<FolderDisk<R> as Disk>⟧.faults result ≡ 0 }
+    {
         FolderDisk {
             folder: Folder::at(rt, path),
             faults: 0,
@@ -38,7 +45,10 @@ impl<R: Files + Alloc + Drop> FolderDisk<R> {
     }
 }
 
-impl<R: Files + Alloc + Drop> Disk for FolderDisk<R> {
+impl<R: Files + Alloc + Drop> Disk for FolderDisk<R>
+where
+    R::File: Lock,
+{
     ghost tells = { false };
 
     ghost view = { λ _. record { state = record { files = λ _. None; loose = λ _. false; outcomes = [] }; past = []; appended = 0; bytes_read = 0 } };

@@ -1,7 +1,10 @@
 //! Calls on a folder of the system.
 
-use crate::names::{file_path, folder_path, folder_paths, kind_of, parse_number};
-use crate::open::Open;
+use crate::lock::{Lock, lock_file};
+use crate::names::{
+    file_path, folder_at, folder_path, folder_paths, kind_of, lock_path, parse_number,
+};
+use crate::open::{Open, OpenFiles};
 use disk_model::{DiskError, Kind, Name};
 use std::alloc::Global;
 use std::fs::{self, OpenFile, OpenOptions};
@@ -9,15 +12,14 @@ use std::io::{self, Read};
 use std::path::Path;
 use std::rt::Files;
 
-/// How many files stay open between calls at most. Reads of the layers of one memory then open no file twice.
-const MAX_OPEN: usize = 32;
-
-/// A folder with the files of a disk, and the files in it that are open, the one used last at the end.
+/// A folder with the files of a disk. Those that are open for reading are others than those open for appending.
 #[derive(Drop)]
 pub struct Folder<R: Files + Drop> {
     rt: R,
     path: String,
-    open: Vec<Open<R::File>>,
+    lock: Option<R::File>,
+    reading: OpenFiles<R::File>,
+    appending: OpenFiles<R::File>,
 }
 
 fn fault<T: Drop>(answer: io::Result<T>) -> Result<T, DiskError> {
@@ -38,6 +40,34 @@ fn parent_of(path: &str) -> &str {
         Some(parent) if !parent.as_str().is_empty() => parent.as_str(),
         _ => ".",
     }
+}
+
+// Makes a folder that is missing, and its name durable.
+fn make_folder<R: Files>(rt: &R, path: &str) -> io::Result<()> {
+    if fs::exists(rt, path)? {
+        return Ok(());
+    }
+    fs::create_dir(rt, path)?;
+    sync_folder(rt, parent_of(path))
+}
+
+// Makes the folders of a path that are missing, the outermost first.
+fn make_folders<R: Files>(rt: &R, path: &str) -> io::Result<()> {
+    for end in 1..=path.len() {
+        match path.split_at_checked(end) {
+            Some((folder, rest)) if rest.is_empty() || rest.starts_with('/') => {
+                make_folder(rt, folder)?;
+            }
+            _ => {}
+        }
+    }
+    Ok(())
+}
+
+fn to_append() -> OpenOptions {
+    let mut how = OpenOptions::new();
+    how.append(true);
+    how
 }
 
 // Adds the numbers that names spell, each of which ends in a zero byte. Other names are passed over.
@@ -71,23 +101,29 @@ impl<R: Files + Drop> Folder<R> {
         Folder {
             rt,
             path,
-            open: Vec::new(alloc),
+            lock: None,
+            reading: OpenFiles::new(alloc),
+            appending: OpenFiles::new(alloc),
         }
     }
 
-    /// Makes the folders that are missing, and syncs each of them and the one that they are in.
-    pub fn settle(&mut self, alloc: Global) -> Result<(), DiskError> {
+    /// Makes the folders that are missing, takes the lock, and syncs each folder and the one that they are in. Fault where another disk has the lock.
+    pub fn settle(&mut self, alloc: Global) -> Result<(), DiskError>
+    where
+        R::File: Lock,
+    {
         let folders = folder_paths(alloc, &self.path)?;
-        let is_new = !fault(fs::exists(&self.rt, &self.path))?;
+        let lock = lock_path(alloc, &self.path)?;
+        fault(make_folders(&self.rt, &self.path))?;
+        if self.lock.is_none() {
+            self.lock = Some(fault(lock_file(&self.rt, &lock))?);
+        }
         for folder in &folders {
-            fault(fs::create_dir_all(&self.rt, folder))?;
+            fault(make_folder(&self.rt, folder))?;
             fault(sync_folder(&self.rt, folder))?;
         }
-        fault(sync_folder(&self.rt, &self.path))?;
-        if is_new {
-            fault(sync_folder(&self.rt, parent_of(&self.path)))?;
-        }
-        Ok(())
+        fault(sync_folder(&self.rt, folder_at(&self.path)))?;
+        fault(sync_folder(&self.rt, parent_of(&self.path)))
     }
 
     /// The numbers of the files of a kind, ascending.
@@ -99,11 +135,12 @@ impl<R: Files + Drop> Folder<R> {
         Ok(numbers)
     }
 
-    /// How many bytes a file has.
+    /// How many bytes a file has. What has its name and is none, as a folder or a link, has none.
     pub fn size(&mut self, alloc: Global, name: Name) -> Result<Option<u64>, DiskError> {
         let path = file_path(alloc, &self.path, name)?;
-        match fs::metadata(&self.rt, &path) {
-            Ok(found) => Ok(Some(found.len())),
+        match fs::symlink_metadata(&self.rt, &path) {
+            Ok(found) if found.is_file() => Ok(Some(found.len())),
+            Ok(_) => Ok(Some(0)),
             Err(error) if error.kind() == io::ErrorKind::NotFound => Ok(None),
             Err(_) => Err(DiskError::Fault),
         }
@@ -117,42 +154,45 @@ impl<R: Files + Drop> Folder<R> {
         at: u64,
         into: &mut [u8],
     ) -> Result<(), DiskError> {
-        let mut open = self.take(alloc, name)?;
+        if into.is_empty() {
+            return Ok(());
+        }
+        let mut open = match self.reading.take(name) {
+            Some(open) => open,
+            None => {
+                let path = file_path(alloc, &self.path, name)?;
+                Open::new(name, fault(fs::open(&self.rt, &path))?)
+            }
+        };
         fault(open.read(at, into))?;
-        self.keep(open);
+        self.reading.keep(open);
         Ok(())
     }
 
     /// Begins a file. Fault where there is one.
     pub fn create(&mut self, alloc: Global, name: Name) -> Result<(), DiskError> {
         let path = file_path(alloc, &self.path, name)?;
-        let mut how = OpenOptions::new();
-        how.read(true).append(true).create_new(true);
+        let mut how = to_append();
+        how.create_new(true);
         let file = fault(how.open(&self.rt, &path))?;
-        self.keep(Open {
-            name,
-            file,
-            position: None,
-        });
+        self.appending.keep(Open::new(name, file));
         Ok(())
     }
 
     /// Adds bytes at the end of a file.
     pub fn append(&mut self, alloc: Global, name: Name, bytes: &[u8]) -> Result<(), DiskError> {
-        let mut open = self.take(alloc, name)?;
+        let mut open = self.take_to_append(alloc, name)?;
         fault(open.append(bytes))?;
-        self.keep(open);
+        self.appending.keep(open);
         Ok(())
     }
 
-    /// Syncs a file and its folder.
+    /// Syncs a file and its folder. Nothing more is appended to it.
     pub fn seal(&mut self, alloc: Global, name: Name) -> Result<(), DiskError> {
         let folder = folder_path(alloc, &self.path, kind_of(name))?;
-        let open = self.take(alloc, name)?;
+        let open = self.take_to_append(alloc, name)?;
         fault(open.file.sync_all())?;
-        fault(sync_folder(&self.rt, &folder))?;
-        self.keep(open);
-        Ok(())
+        fault(sync_folder(&self.rt, &folder))
     }
 
     /// Gives a file another name, and syncs the folders of both. Fault where there is a file of the new name.
@@ -161,51 +201,38 @@ impl<R: Files + Drop> Folder<R> {
         let new_path = file_path(alloc, &self.path, to)?;
         let old_folder = folder_path(alloc, &self.path, kind_of(from))?;
         let new_folder = folder_path(alloc, &self.path, kind_of(to))?;
-        if fault(fs::exists(&self.rt, &new_path))? {
+        if self.size(alloc, to)?.is_some() {
             return Err(DiskError::Fault);
         }
-        let _ = self.take_open(from);
+        self.close(from);
         fault(fs::rename(&self.rt, &old_path, &new_path))?;
         fault(sync_folder(&self.rt, &new_folder))?;
         fault(sync_folder(&self.rt, &old_folder))
     }
 
-    /// Removes a file, and syncs its folder.
+    /// Removes a file, and syncs its folder. What has its name and is none goes too, but for a folder with something in it.
     pub fn remove(&mut self, alloc: Global, name: Name) -> Result<(), DiskError> {
         let path = file_path(alloc, &self.path, name)?;
         let folder = folder_path(alloc, &self.path, kind_of(name))?;
-        let _ = self.take_open(name);
-        fault(fs::remove_file(&self.rt, &path))?;
+        self.close(name);
+        if fs::remove_file(&self.rt, &path).is_err() {
+            fault(fs::remove_dir(&self.rt, &path))?;
+        }
         fault(sync_folder(&self.rt, &folder))
     }
 
-    // Takes a file out of those that are open.
-    fn take_open(&mut self, name: Name) -> Option<Open<R::File>> {
-        let at = self.open.iter().position(|open| open.name == name)?;
-        Some(self.open.remove(at))
-    }
-
-    // Takes a file out of those that are open, or opens it.
-    fn take(&mut self, alloc: Global, name: Name) -> Result<Open<R::File>, DiskError> {
-        if let Some(open) = self.take_open(name) {
+    // Takes a file out of those that are open for appending, or opens it.
+    fn take_to_append(&mut self, alloc: Global, name: Name) -> Result<Open<R::File>, DiskError> {
+        if let Some(open) = self.appending.take(name) {
             return Ok(open);
         }
         let path = file_path(alloc, &self.path, name)?;
-        let mut how = OpenOptions::new();
-        how.read(true).append(true);
-        let file = fault(how.open(&self.rt, &path))?;
-        Ok(Open {
-            name,
-            file,
-            position: None,
-        })
+        Ok(Open::new(name, fault(to_append().open(&self.rt, &path))?))
     }
 
-    // Keeps a file open for the next call. Where there is no memory for that, it is closed.
-    fn keep(&mut self, open: Open<R::File>) {
-        if self.open.len() >= MAX_OPEN {
-            let _ = self.open.remove(0);
-        }
-        let _ = self.open.push(open);
+    // Closes a file that is open.
+    fn close(&mut self, name: Name) {
+        let _ = self.reading.take(name);
+        let _ = self.appending.take(name);
     }
 }

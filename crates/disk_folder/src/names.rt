@@ -30,11 +30,27 @@ fn number_of(name: Name) -> u64 {
     }
 }
 
+/// The folder at a path, which for an empty one is where the program is run.
+pub fn folder_at(path: &str) -> &str {
+    if path.is_empty() { "." } else { path }
+}
+
+// The path of what has this name in the folder.
+fn path_in(alloc: Global, path: &str, name: &str) -> Result<String, AllocError> {
+    let mut text = String::from_str(alloc, folder_at(path))?;
+    text.push('/')?;
+    text.push_str(name)?;
+    Ok(text)
+}
+
+/// The path of the file that is locked.
+pub fn lock_path(alloc: Global, path: &str) -> Result<String, AllocError> {
+    path_in(alloc, path, "lock")
+}
+
 /// The path of the folder of a kind, with a slash at its end.
 pub fn folder_path(alloc: Global, path: &str, kind: Kind) -> Result<String, AllocError> {
-    let mut text = String::from_str(alloc, path)?;
-    text.push('/')?;
-    text.push_str(folder_name(kind))?;
+    let mut text = path_in(alloc, path, folder_name(kind))?;
     text.push('/')?;
     Ok(text)
 }

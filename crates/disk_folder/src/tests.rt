@@ -36,6 +36,11 @@ fn a_file_is_made_sealed_renamed_read_and_removed(rt: HostRuntime) -> Result<(),
     assert_eq!(rt; into, *b"one ");
     disk.remove(alloc, MARK)?;
     assert_eq!(rt; disk.size(alloc, MARK)?, None);
+    fs::create_dir(&rt, "disk_folder_test/mark/0000000000000001")?;
+    assert_eq!(rt; disk.list(alloc, Kind::Mark)?.as_slice(), [1].as_slice());
+    assert_eq!(rt; disk.size(alloc, MARK)?, Some(0));
+    disk.read(alloc, MARK, 0, &mut [])?;
+    disk.remove(alloc, MARK)?;
     fs::remove_dir_all(&rt, PATH)?;
     Ok(())
 }
@@ -43,10 +48,12 @@ fn a_file_is_made_sealed_renamed_read_and_removed(rt: HostRuntime) -> Result<(),
 #[test]
 fn a_call_that_cannot_be_done_is_a_fault(rt: HostRuntime) -> Result<(), Fail> {
     let alloc = rt.alloc();
-    let path = "disk_folder_faults";
-    let _ = fs::remove_dir_all(&rt, path);
+    let path = "disk_folder_faults/within";
+    let _ = fs::remove_dir_all(&rt, "disk_folder_faults");
     let mut disk = FolderDisk::at(&rt, String::from_str(alloc, path)?);
     disk.settle(alloc)?;
+    let mut second = FolderDisk::at(&rt, String::from_str(alloc, path)?);
+    assert_eq!(rt; second.settle(alloc), Err(DiskError::Fault));
     disk.create(alloc, DRAFT)?;
     disk.create(alloc, MARK)?;
     assert_eq!(rt; disk.create(alloc, MARK), Err(DiskError::Fault));
@@ -57,6 +64,8 @@ fn a_call_that_cannot_be_done_is_a_fault(rt: HostRuntime) -> Result<(), Fail> {
     assert_eq!(rt; disk.remove(alloc, absent), Err(DiskError::Fault));
     let mut into = [0; 4];
     assert_eq!(rt; disk.read(alloc, MARK, 0, &mut into), Err(DiskError::Fault));
-    fs::remove_dir_all(&rt, path)?;
+    std::mem::drop(disk);
+    second.settle(alloc)?;
+    fs::remove_dir_all(&rt, "disk_folder_faults")?;
     Ok(())
 }
