@@ -4,3 +4,4 @@ pub mod Stacking
 pub mod Ids
 pub mod Levelling
 pub mod Growing
+pub mod Hashing

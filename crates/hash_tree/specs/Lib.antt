@@ -1,4 +1,5 @@
 pub mod View
+pub mod Hashes
 pub mod Levels
 pub mod Stack
 pub mod Canisters

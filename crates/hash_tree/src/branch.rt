@@ -1,26 +1,27 @@
-//! A part of a tree with its hash, so that each part is hashed once.
+//! A part of a tree with its hashes, so that each part is hashed once.
 
 ghost use Rattle.std.specs.Prelude.{◌≡◌, IfOk};
-ghost use Rattle.tree_spec.specs.Tree.{reconstruct as hash_of_tree, empty, fork, labeled, leaf};
+ghost use Rattle.tree_spec.specs.Tree.{empty, fork, labeled, leaf};
+ghost use Rattle.hash_tree.specs.Hashes.{AreHashesOf};
 ghost use Rattle.hash_tree.specs.View.{tree_view};
 
+use crate::hashes::TreeHashes;
 use crate::tree::HashTree;
 use byte_codec::{Blob, NoMemory};
-use hash_domain::{Hash32, tree_empty, tree_fork, tree_label, tree_leaf};
+use hash_domain::{tree_empty, tree_leaf};
 use std::alloc::Global;
 use std::marker::Model;
 
 #[derive(Debug, Drop)]
 pub(crate) struct Branch {
     tree: HashTree,
-    hash: Hash32,
+    hashes: TreeHashes,
 }
 
 // Contracts see the tree.
 impl Model for Branch {
-    ghost use Rattle.std.specs.Prelude.{◌≡◌};
-    ghost use Rattle.tree_spec.specs.Tree.{reconstruct};
     ghost use Rattle.hash_tree.specs.declared.tree.HashTree.{HashTree};
+    ghost use Rattle.hash_tree.specs.Hashes.{AreHashesOf};
     ghost use Rattle.hash_tree.specs.View.{tree_view};
     ghost use Rattle.hash_tree.specs.contracts.tree.HashTree as trees;
     ghost use Rattle.std.specs.Coded.{codes};
@@ -31,7 +32,7 @@ impl Model for Branch {
 
     ghost view = { λ branch. branch.tree };
 
-    ghost invariant = { λ branch. branch.hash ≡ reconstruct (tree_view branch.tree) };
+    ghost invariant = { λ branch. AreHashesOf branch.hashes (tree_view branch.tree) };
 }
 
 #[tactic(auto, unfolding(tree_spec::specs::Tree::reconstruct))]
@@ -41,7 +42,7 @@ impl Branch {
     {
         Branch {
             tree: HashTree::Empty,
-            hash: tree_empty(),
+            hashes: TreeHashes::Alone(tree_empty()),
         }
     }
 
@@ -51,7 +52,7 @@ impl Branch {
         let hash = tree_leaf(bytes.bytes());
         Branch {
             tree: HashTree::Leaf(bytes),
-            hash,
+            hashes: TreeHashes::Alone(hash),
         }
     }
 
@@ -66,11 +67,11 @@ impl Branch {
     pub(crate) fn under(self, alloc: Global, label: Blob) -> Result<Branch, NoMemory>
         ensures { IfOk result (λ t. tree_view t ≡ labeled label (tree_view self)) }
     {
-        let hash = tree_label(label.bytes(), &self.hash);
-        let Branch { tree, .. } = self;
+        let Branch { tree, hashes } = self;
+        let hashes = hashes.under(alloc, label.bytes())?;
         Ok(Branch {
             tree: HashTree::labeled(alloc, label, tree)?,
-            hash,
+            hashes,
         })
     }
 
@@ -78,12 +79,15 @@ impl Branch {
     pub(crate) fn beside(self, alloc: Global, right: Branch) -> Result<Branch, NoMemory>
         ensures { IfOk result (λ t. tree_view t ≡ fork (tree_view self) (tree_view right)) }
     {
-        let hash = tree_fork(&self.hash, &right.hash);
-        let Branch { tree: left, .. } = self;
-        let Branch { tree: right, .. } = right;
+        let Branch { tree: left, hashes } = self;
+        let Branch {
+            tree: right,
+            hashes: others,
+        } = right;
+        let hashes = hashes.beside(alloc, others)?;
         Ok(Branch {
             tree: HashTree::fork(alloc, left, right)?,
-            hash,
+            hashes,
         })
     }
 
@@ -93,9 +97,9 @@ impl Branch {
         &self.tree
     }
 
-    pub(crate) fn hash(&self) -> Hash32
-        ensures { result ≡ hash_of_tree (tree_view self.now) }
+    pub(crate) fn hashes(&self) -> &TreeHashes
+        ensures { AreHashesOf result.now (tree_view self.now) }
     {
-        self.hash
+        &self.hashes
     }
 }

@@ -5,6 +5,7 @@ ghost use Rattle.format_spec.specs.Bytes.{leb};
 ghost use Rattle.tree_spec.specs.Tree.{reconstruct as hash_of_tree};
 ghost use Rattle.tree_spec.specs.Labelled.{child_trees, labelled, state_tree};
 ghost use Rattle.sys_state.specs.System.{part_of};
+ghost use Rattle.hash_tree.specs.Hashes.{AreHashesOf};
 ghost use Rattle.hash_tree.specs.Stack.{Pushes};
 ghost use Rattle.hash_tree.specs.View.{tree_view};
 
@@ -12,6 +13,7 @@ use crate::branch::Branch;
 use crate::canisters::push_canisters;
 use crate::entries::{first_above, push_level};
 use crate::forks::take_forks;
+use crate::hashes::TreeHashes;
 use crate::tree::HashTree;
 use byte_codec::{Blob, NoMemory, Writer, leb_write};
 use hash_domain::Hash32;
@@ -19,7 +21,7 @@ use std::alloc::Global;
 use std::marker::Model;
 use sys_state::SysState;
 
-/// The tree of a state, with its hash. Contracts see the tree.
+/// The tree of a state, with the hash of each of its parts. Contracts see the tree.
 #[derive(Debug, Drop)]
 pub struct StateTree {
     whole: Branch,
@@ -66,11 +68,18 @@ impl StateTree {
         self.whole.tree()
     }
 
+    /// The hashes of the tree's parts. They are kept, and not computed again.
+    pub fn hashes(&self) -> &TreeHashes
+        ensures { AreHashesOf result.now (tree_view self.now) }
+    {
+        self.whole.hashes()
+    }
+
     /// The hash of the tree. It is kept, and not computed again.
     pub fn root(&self) -> Hash32
         ensures { result ≡ hash_of_tree (tree_view self.now) }
     {
-        self.whole.hash()
+        self.hashes().hash()
     }
 }
 

@@ -1,8 +1,9 @@
 -- The tree of a state and each witness of it can be spelled.
-use Rattle.std.proofs.Common.{ℕ, List, arith}
+use Rattle.std.proofs.Common.{ℕ, ◌≤◌, List, arith}
 use Rattle.format_spec.specs.Bytes.{Bytes}
 use Rattle.state_spec.specs.State.{SystemPart, IsSystem}
 use Rattle.tree_spec.specs.Labelled.{labelled, state_tree}
+use Rattle.tree_spec.specs.Tree.{depth}
 use Rattle.tree_spec.specs.Witness.{witness}
 use Rattle.tree_spec.specs.Cbor.{IsSpellable}
 use Rattle.soundness.proofs.StateTrees.{state_in_order, state_tree_good}
@@ -27,3 +28,7 @@ witness_spellable v s paths good =
       shallow = omega (arith, like_depth like, whole.shallow);
       sizes = like_sizes like (witness_hashes paths (labelled s) (state_in_order s good.ids_ascend)) whole.sizes;
     }
+
+pub witness_depth : (v : ℕ) (s : SystemPart) (paths : List (List Bytes)) → IsSystem v s → depth (witness s paths) ≤ 152
+unfolding witness state_tree
+witness_depth v s paths good = omega (arith, like_depth (witness_like paths (labelled s)), state_depth v s good)

@@ -1,6 +1,6 @@
 //! Laws of the definitions.
 
-ghost use Rattle.std.specs.Prelude.{◌≡◌, ◌≢◌, ◌⊎◌, ℕ, true, false, List, [], ◌∷◌, Contains, IsTrue, Ok, map};
+ghost use Rattle.std.specs.Prelude.{◌≡◌, ◌≢◌, ◌≤◌, ◌⊎◌, ℕ, true, false, List, [], ◌∷◌, Contains, IsTrue, Ok, map};
 ghost use Rattle.std.specs.List.{flat_map};
 ghost use Rattle.format_spec.specs.Bytes.{Bytes, IsBytes, AreByteStrings, parts};
 ghost use Rattle.format_spec.specs.Hashes.{Clash, root_string, piece_string, chunk_string, piece_hash, chunk_hash};
@@ -11,7 +11,7 @@ ghost use Rattle.state_spec.specs.Manifest.{manifest_of};
 ghost use Rattle.state_spec.specs.ManifestText.{IsManifest, manifest_text, read_manifest};
 ghost use Rattle.state_spec.specs.Root;
 ghost use Rattle.state_spec.specs.Root.{root_of, MetaManifest, root_of_meta, IsMeta, meta_of};
-ghost use Rattle.tree_spec.specs.Tree.{Tree, reconstruct, hashed, is_well_formed};
+ghost use Rattle.tree_spec.specs.Tree.{Tree, depth, reconstruct, hashed, is_well_formed};
 ghost use Rattle.tree_spec.specs.Whole.{IsWhole, HasHashes, IsByteTree};
 ghost use Rattle.tree_spec.specs.Lookup.{lookup, unknown};
 ghost use Rattle.tree_spec.specs.Labelled.{labelled, state_tree};
@@ -48,11 +48,15 @@ pub fn witnesses_have_the_hash()
     ensures { (s : SystemPart) (paths : List (List Bytes)) → reconstruct (witness s paths) ≡ reconstruct (state_tree s) }
 {}
 
-/// The tree of a state and each witness of it can be spelled: they are well-formed and not too deep.
+/// The tree of a state and each witness of it can be spelled: they are well-formed and not too deep. At most 152 trees lie
+/// within each other.
 pub fn witnesses_can_be_spelled()
     ensures tree { (version : ℕ) (s : SystemPart) → IsSystem version s → IsSpellable (state_tree s) }
     ensures witness { (version : ℕ) (s : SystemPart) (paths : List (List Bytes)) → IsSystem version s
         → IsSpellable (witness s paths) }
+    ensures tree_depth { (version : ℕ) (s : SystemPart) → IsSystem version s → depth (state_tree s) ≤ 152 }
+    ensures witness_depth { (version : ℕ) (s : SystemPart) (paths : List (List Bytes)) → IsSystem version s
+        → depth (witness s paths) ≤ 152 }
 {}
 
 /// A path that a witness was asked for gives in it what it gives in the tree; but where it ends at a node and no other
