@@ -1,132 +1,205 @@
 -- What a change of the slots keeps.
-use Rattle.std.proofs.Common.{◌≡◌, inl, inr, ℕ, zero, suc, ◌+◌, ◌-◌, ◌^◌, ◌<◌, List, [], ◌∷◌, ◌++◌, map, length, get_or, set, Option, Some, None, sym, ap, subst, ◌∙◌, arith, length-set, length-append, append_assoc, replicate}
-use Rattle.std.proofs.lemmas.Bool.{cases_eq, cases_lt}
-use Rattle.std.proofs.lemmas.List.{map-set, map-append, length-map, get_or-set_same, get_or-set_other, get_or_default, get_or_past, replicate_more}
-use Rattle.page_pool.specs.Pool.{Page, Pool, used_in, count_in, bytes_in, count_at, with_count, with_bytes, with_new, with_free}
-use Rattle.page_pool.specs.Chains.{page_of, slot_at, IsChain, IsSound}
+use Rattle.std.proofs.Common.{◌≡◌, inl, inr, ℕ, zero, suc, ◌+◌, ◌-◌, ◌^◌, ◌<◌, List, [], ◌∷◌, ◌++◌, map, length, get_or, set, Option, Some, None, IsSome, eqb, false, true, refl, sym, ap, subst, ◌∙◌, arith, length-set, length-append, append_assoc, replicate}
+use Rattle.std.proofs.lemmas.Bool.{cases_eq, cases_Bool, eq-eqb, eqb-true}
+use Rattle.std.proofs.lemmas.List.{map-set, map-append, length-map, replicate_more, get_or-set_same}
+use Rattle.page_pool.specs.Pool.{Page, Pool, used_in, count_in, bytes_in, count_at, with_count, with_bytes}
+use Rattle.page_pool.specs.Chains.{page_of, link_of, IsChain, IsSound}
 use Rattle.page_pool.specs.declared.slot.Slot.{Slot}
-use Rattle.page_pool.specs.declared.slot.Slot.TheVariants.{Free, Used}
-use Rattle.page_pool.proofs.ChainLemmas.{one-chain, used-no-chain, chain-set, chain-push, get-page, one_if, used-set, used-push, read-before, read-last}
+use Rattle.page_pool.proofs.Links.{no-some, link-within, one-chain, no-chain, chain-set, chain-push, one_if, used-set, used-push}
 
-pub slot-read : (slots : List Slot) (k : ℕ) (s : Slot) → k < length slots → s ≡ get_or slots k s → s ≡ slot_at slots k
-slot-read slots k s below read = read ∙ sym (get_or_default slots k (Free 0) s below)
+-- what is seen of a slot
+pub seen-at : {X : Type 0} (f : Slot → Option X) (slots : List Slot) (k : ℕ) (s : Slot) → k < length slots → s ≡ get_or slots k s → get_or (map f slots) k None ≡ f s
+seen-at f [] k s below read = absurd (omega arith)
+seen-at f (x ∷ slots) zero s below read = ap f (sym read)
+seen-at f (x ∷ slots) (suc k) s below read = seen-at f slots k s (omega arith) read
 
--- the slots after one is written
-written : (slots : List Slot) (k : ℕ) (now : Slot) → k < length slots → used_in (map page_of (set slots k now)) + one_if (page_of (slot_at slots k)) ≡ used_in (map page_of slots) + one_if (page_of now)
-written slots k now below =
-    rw (map-set, ← get-page slots k) (used-set (map page_of slots) k (page_of now) (omega (arith, length-map slots page_of)))
+pub live-within : (slots : List Slot) (k : ℕ) → IsSome (get_or (map page_of slots) k None) → k < length slots
+live-within [] k live = absurd (let e : false ≡ true = live in let no : ⊥ = cc in no)
+live-within (s ∷ slots) zero live = omega arith
+live-within (s ∷ slots) (suc k) live = let below = live-within slots k live in omega arith
 
-counted-set : (slots : List Slot) (free spare k : ℕ) (now : Slot) → IsSound slots free spare → k < length slots → ((count : ℕ) (bytes : List ℕ) → now ≡ Used count bytes → 0 < count) → (n count : ℕ) (bytes : List ℕ) → slot_at (set slots k now) n ≡ Used count bytes → 0 < count
-counted-set slots free spare k now s below positive n count bytes is = elim (cases_eq n k) [
-  | inl e ↦ positive count bytes (sym (get_or-set_same slots k now (Free 0) below) ∙ ap (λ i. slot_at (set slots k now) i) (sym e) ∙ is)
-  | inr ne ↦ s.counted n count bytes (sym (get_or-set_other slots k n now (Free 0) ne) ∙ is)
-]
+-- a free slot, and a used one
+pub free-page : (s : Slot) → s.count ≡ 0 → page_of s ≡ None
+free-page s none = rw (eq-eqb s.count 0 none) refl
 
-one-of-used : (c d : ℕ) (a b : List ℕ) → 0 < c → Used c a ≡ Used d b → 0 < d
-one-of-used c d a b p e = let same : c ≡ d = cc in omega arith
+pub free-link : (s : Slot) → s.count ≡ 0 → link_of s ≡ Some s.next
+free-link s none = rw (eq-eqb s.count 0 none) refl
 
-no-free-used : (a d : ℕ) (b : List ℕ) → Free a ≡ Used d b → 0 < d
-no-free-used a d b e = absurd (let no : ⊥ = cc in no)
+counted-test : (n : ℕ) → 0 < n → eqb n 0 ≡ false
+counted-test n some = elim (cases_Bool (eqb n 0)) [ inl h ↦ absurd (let none = eqb-true n 0 h in omega arith) | inr h ↦ h ]
+
+pub used-page : (s : Slot) → 0 < s.count → page_of s ≡ Some (record { count = s.count; bytes = s.bytes.value })
+used-page s some = rw (counted-test s.count some) refl
+
+pub used-link : (s : Slot) → 0 < s.count → link_of s ≡ None
+used-link s some = rw (counted-test s.count some) refl
+
+-- the slot that is read at an index
+pub record IsRead (slots : List Slot) (k : ℕ) (s : Slot) : Type 0 where
+  pub within : k < length slots
+  pub read : s ≡ get_or slots k s
+
+-- a live slot is used
+pub live-used : (slots : List Slot) (k : ℕ) (s : Slot) → IsSome (get_or (map page_of slots) k None) → s ≡ get_or slots k s → IsRead slots k s × (0 < s.count)
+live-used slots k s live read =
+    let below = live-within slots k live in (
+      record { within = below; read = read },
+      elim (cases_eq s.count 0) [
+        | inl none ↦ absurd (let gone : get_or (map page_of slots) k None ≡ None = seen-at page_of slots k s below read ∙ free-page s none in dead (get_or (map page_of slots) k None) gone live)
+        | inr ne ↦ omega arith
+      ],
+    )
+  where
+    dead : (o : Option Page) → o ≡ None → IsSome o → ⊥
+    dead None e live = (let no : false ≡ true = live in let bad : ⊥ = cc in bad)
+    dead (Some p) e live = cc
+
+-- the first slot of a chain is free, and names the rest of it
+pub chain-first : (slots : List Slot) (free spare : ℕ) (s : Slot) → IsChain (map link_of slots) (suc spare) free → s ≡ get_or slots free s → IsRead slots free s × (s.count ≡ 0) × IsChain (map link_of slots) spare s.next
+chain-first slots free spare s chain read =
+    let below : free < length slots = (let far = link-within (map link_of slots) free chain.0 chain.1 in omega (arith, length-map slots link_of)) in
+    let here : link_of s ≡ Some chain.0 = sym (seen-at link_of slots free s below read) ∙ chain.1 in
+    elim (cases_eq s.count 0) [
+      | inl none ↦
+          let both : Some s.next ≡ Some chain.0 = sym (free-link s none) ∙ here in
+          let next : s.next ≡ chain.0 = cc in
+          (record { within = below; read = read }, none, subst (λ i. IsChain (map link_of slots) spare i) (sym next) chain.2)
+      | inr ne ↦ absurd (no-some chain.0 (link_of s) here (used-link s (omega arith)))
+    ]
+
+-- how many are used after a slot is written
+written : (slots : List Slot) (k : ℕ) (s now : Slot) → IsRead slots k s → used_in (map page_of (set slots k now)) + one_if (page_of s) ≡ used_in (map page_of slots) + one_if (page_of now)
+written slots k s now r =
+    rw (map-set, ← seen-at page_of slots k s r.within r.read) (used-set (map page_of slots) k (page_of now) (omega (arith, length-map slots page_of, r.within)))
 
 -- the first free slot is filled
-pub sound-fill : (slots : List Slot) (free spare next : ℕ) (bytes : List ℕ) → IsSound slots free (suc spare) → slot_at slots free ≡ Free next → IsSound (set slots free (Used 1 bytes)) next spare
-sound-fill slots free spare next bytes s is =
-    let chain = s.chain in
-    let below = chain.1 in
-    let e : chain.0 ≡ next = (let a = chain.2 in cc) in
-    let rest = subst (λ i. IsChain slots spare i) e chain.3 in
+pub sound-fill : (slots : List Slot) (free spare : ℕ) (s now : Slot) → IsSound slots free (suc spare) → s ≡ get_or slots free s → 0 < now.count → IsSound (set slots free now) s.next spare
+sound-fill slots free spare s now sound read some =
+    let first = chain-first slots free spare s sound.chain read in
     record {
-      small = rw length-set s.small;
-      chain = chain-set slots free (Used 1 bytes) spare next (λ m le other. (let same = one-chain slots m (suc spare) free other chain in omega arith)) rest;
-      room = (let count = written slots free (Used 1 bytes) below in let was = ap (λ x. one_if (page_of x)) is in omega (arith, s.room, length-set slots free (Used 1 bytes)));
-      counted = counted-set slots free (suc spare) free (Used 1 bytes) s below (λ c b h. one-of-used 1 c bytes b (omega arith) h);
+      small = rw length-set sound.small;
+      chain = rw map-set (chain-set (map link_of slots) free (link_of now) spare s.next (λ m le other. (let same = one-chain (map link_of slots) m (suc spare) free other sound.chain in omega arith)) first.2);
+      room = (
+          let count = written slots free s now first.0 in
+          let was = ap one_if (free-page s first.1) in let is = ap one_if (used-page now some) in
+          omega (arith, sound.room, length-set slots free now));
     }
 
 -- a used slot is freed
-pub sound-free : (slots : List Slot) (free spare k c : ℕ) (bytes : List ℕ) → IsSound slots free spare → k < length slots → slot_at slots k ≡ Used c bytes → IsSound (set slots k (Free free)) k (suc spare)
-sound-free slots free spare k c bytes s below is = record {
-  small = rw length-set s.small;
-  chain = (free, omega (arith, length-set slots k (Free free)), get_or-set_same slots k (Free free) (Free 0) below, chain-set slots k (Free free) spare free (λ m le other. used-no-chain slots m k c bytes below is other) s.chain);
-  room = (let count = written slots k (Free free) below in let was = ap (λ x. one_if (page_of x)) is in omega (arith, s.room, length-set slots k (Free free)));
-  counted = counted-set slots free spare k (Free free) s below (λ d b h. no-free-used free d b h);
-}
+pub sound-free : (slots : List Slot) (free spare k : ℕ) (s now : Slot) → IsSound slots free spare → IsRead slots k s → 0 < s.count → now.count ≡ 0 → now.next ≡ free → IsSound (set slots k now) k (suc spare)
+sound-free slots free spare k s now sound r some none next =
+    let used : get_or (map link_of slots) k None ≡ None = seen-at link_of slots k s r.within r.read ∙ used-link s some in
+    let below : k < length (map link_of slots) = omega (arith, length-map slots link_of, r.within) in
+    record {
+      small = rw length-set sound.small;
+      chain = subst (λ (l : List (Option ℕ)). IsChain l (suc spare) k) (sym (map-set link_of slots k now)) (
+        free,
+        get_or-set_same (map link_of slots) k (link_of now) None below ∙ free-link now none ∙ ap (λ i. Some i) next,
+        chain-set (map link_of slots) k (link_of now) spare free (λ m le other. no-chain (map link_of slots) m k below used other) sound.chain,
+      );
+      room = (
+          let count = written slots k s now r in
+          let was = ap one_if (used-page s some) in let is = ap one_if (free-page now none) in
+          omega (arith, sound.room, length-set slots k now));
+    }
 
 -- a used slot is written
-pub sound-write : (slots : List Slot) (free spare k c c' : ℕ) (bytes bytes' : List ℕ) → IsSound slots free spare → k < length slots → slot_at slots k ≡ Used c bytes → 0 < c' → IsSound (set slots k (Used c' bytes')) free spare
-sound-write slots free spare k c c' bytes bytes' s below is positive = record {
-  small = rw length-set s.small;
-  chain = chain-set slots k (Used c' bytes') spare free (λ m le other. used-no-chain slots m k c bytes below is other) s.chain;
-  room = (let count = written slots k (Used c' bytes') below in let was = ap (λ x. one_if (page_of x)) is in omega (arith, s.room, length-set slots k (Used c' bytes')));
-  counted = counted-set slots free spare k (Used c' bytes') s below (λ d b h. one-of-used c' d bytes' b positive h);
-}
+pub sound-write : (slots : List Slot) (free spare k : ℕ) (s now : Slot) → IsSound slots free spare → IsRead slots k s → 0 < s.count → 0 < now.count → IsSound (set slots k now) free spare
+sound-write slots free spare k s now sound r some still =
+    let used : get_or (map link_of slots) k None ≡ None = seen-at link_of slots k s r.within r.read ∙ used-link s some in
+    let below : k < length (map link_of slots) = omega (arith, length-map slots link_of, r.within) in
+    record {
+      small = rw length-set sound.small;
+      chain = rw map-set (chain-set (map link_of slots) k (link_of now) spare free (λ m le other. no-chain (map link_of slots) m k below used other) sound.chain);
+      room = (
+          let count = written slots k s now r in
+          let was = ap one_if (used-page s some) in let is = ap one_if (used-page now still) in
+          omega (arith, sound.room, length-set slots k now));
+    }
 
 -- one more free slot at the end
-pub sound-push : (slots : List Slot) (free spare : ℕ) → IsSound slots free spare → length slots + 1 < 2 ^ 32 → IsSound (slots ++ Free (length slots + 1) ∷ []) free (spare + 1)
-sound-push slots free spare s small = record {
-  small = omega (arith, length-append slots (Free (length slots + 1) ∷ []));
-  chain = (let e : suc spare ≡ spare + 1 = omega arith in subst (λ m. IsChain (slots ++ Free (length slots + 1) ∷ []) m free) e (chain-push slots spare free s.chain));
-  room = rw (map-append, used-push) (omega (arith, s.room, length-append slots (Free (length slots + 1) ∷ [])));
-  counted = λ n c b is. elim (cases_lt n (length slots)) [
-    | inl below ↦ s.counted n c b (sym (read-before slots (Free (length slots + 1)) n below) ∙ is)
-    | inr above ↦ elim (cases_eq n (length slots)) [
-      | inl e ↦ no-free-used (length slots + 1) c b (sym (ap (λ i. slot_at (slots ++ Free (length slots + 1) ∷ []) i) e ∙ read-last slots (Free (length slots + 1))) ∙ is)
-      | inr past ↦ no-free-used 0 c b (sym (get_or_past (slots ++ Free (length slots + 1) ∷ []) n (Free 0) (omega (arith, length-append slots (Free (length slots + 1) ∷ [])))) ∙ is)
-    ]
-  ];
+pub sound-push : (slots : List Slot) (free spare : ℕ) (last : Slot) → IsSound slots free spare → last.count ≡ 0 → last.next ≡ length slots + 1 → length slots + 1 < 2 ^ 32 → IsSound (slots ++ last ∷ []) free (suc spare)
+sound-push slots free spare last sound none next small = record {
+  small = omega (arith, length-append slots (last ∷ []));
+  chain =
+      subst (λ (l : List (Option ℕ)). IsChain l (suc spare) free)
+      (sym (map-append link_of slots (last ∷ []) ∙ ap (λ (o : Option ℕ). map link_of slots ++ o ∷ []) (free-link last none)))
+      (chain-push (map link_of slots) spare free last.next (omega (arith, length-map slots link_of)) sound.chain);
+  room = rw (map-append, free-page last none, used-push) (omega (arith, sound.room, length-append slots (last ∷ [])));
 }
 
 -- what a contract sees of these fields
 abbrev pub seen : List Slot → ℕ → Pool
 seen slots spare = record { slots = map page_of slots; spare = spare }
 
-pub is-used : (slots : List Slot) (k c : ℕ) (bytes : List ℕ) (s : Slot) → k < length slots → s ≡ get_or slots k s → s ≡ Used c bytes → slot_at slots k ≡ Used c bytes
-is-used slots k c bytes s below read is = sym (slot-read slots k s below read) ∙ is
+pub seen-set : (slots : List Slot) (spare k : ℕ) (now : Slot) (page : Option Page) → page_of now ≡ page → map page_of (set slots k now) ≡ set (map page_of slots) k page
+seen-set slots spare k now page is = map-set page_of slots k now ∙ ap (λ (p : Option Page). set (map page_of slots) k p) is
 
-pub sound-put : (slots : List Slot) (free spare next : ℕ) (bytes : List ℕ) (s : Slot) → IsSound slots free spare → 0 < spare → s ≡ get_or slots free s → s ≡ Free next → IsSound (set slots free (Used 1 bytes)) next (spare - 1)
-sound-put slots free zero next bytes s sound some read is = absurd (omega arith)
-sound-put slots free (suc spare) next bytes s sound some read is =
-    let below = sound.chain.1 in
-    let e : suc spare - 1 ≡ spare = omega arith in
-    rw e (sound-fill slots free spare next bytes sound (sym (slot-read slots free s below read) ∙ is))
+pub page-is : (slots : List Slot) (k : ℕ) (s : Slot) → IsRead slots k s → 0 < s.count → get_or (map page_of slots) k None ≡ Some (record { count = s.count; bytes = s.bytes.value })
+page-is slots k s r some = seen-at page_of slots k s r.within r.read ∙ used-page s some
 
-pub seen-put : (slots : List Slot) (free spare : ℕ) (bytes : List ℕ) → seen (set slots free (Used 1 bytes)) (spare - 1) ≡ with_new (seen slots spare) free bytes
-seen-put slots free spare bytes = ap (λ (pages : List (Option Page)). let p : Pool = record { slots = pages; spare = spare - 1 } in p) (map-set page_of slots free (Used 1 bytes))
+pub seen-push : (slots : List Slot) (last : Slot) (before : List (Option Page)) (n : ℕ) → last.count ≡ 0 → map page_of slots ≡ before ++ replicate n None → map page_of (slots ++ last ∷ []) ≡ before ++ replicate (n + 1) None
+seen-push slots last before n none is =
+    map-append page_of slots (last ∷ []) ∙ ap (λ (p : Option Page). map page_of slots ++ p ∷ []) (free-page last none)
+    ∙ ap (λ (pages : List (Option Page)). pages ++ None ∷ []) is ∙ append_assoc before (replicate n None) (None ∷ [])
+    ∙ ap (λ (pages : List (Option Page)). before ++ pages) (replicate_more n None)
 
-pub seen-free : (slots : List Slot) (free spare k : ℕ) → seen (set slots k (Free free)) (spare + 1) ≡ with_free (seen slots spare) k
-seen-free slots free spare k = ap (λ (pages : List (Option Page)). let p : Pool = record { slots = pages; spare = spare + 1 } in p) (map-set page_of slots k (Free free))
+-- the first free slot
+module _ (slots : List Slot) (free spare : ℕ) (sound : IsSound slots free spare) (some : 0 < spare) where
+  pub put-within : free < length slots
+  put-within = within spare sound.chain some
+    where
+      within : (n : ℕ) → IsChain (map link_of slots) n free → 0 < n → free < length slots
+      within zero chain low = absurd (omega arith)
+      within (suc n) chain low = let far = link-within (map link_of slots) free chain.0 chain.1 in omega (arith, length-map slots link_of)
 
-pub seen-count : (slots : List Slot) (spare k c now : ℕ) (bytes : List ℕ) → slot_at slots k ≡ Used c bytes → seen (set slots k (Used now bytes)) spare ≡ with_count (seen slots spare) k now
-seen-count slots spare k c now bytes is =
-    let page : get_or (map page_of slots) k None ≡ page_of (Used c bytes) = get-page slots k ∙ ap page_of is in
-    ap (λ (pages : List (Option Page)). let p : Pool = record { slots = pages; spare = spare } in p)
-    (map-set page_of slots k (Used now bytes) ∙ ap (λ (b : List ℕ). set (map page_of slots) k (Some (record { count = now; bytes = b }))) (sym (ap bytes_in page)))
+  pub put-free : (s : Slot) → s ≡ get_or slots free s → get_or (map page_of slots) free None ≡ None
+  put-free s read = go spare sound.chain some
+    where
+      go : (n : ℕ) → IsChain (map link_of slots) n free → 0 < n → get_or (map page_of slots) free None ≡ None
+      go zero chain low = absurd (omega arith)
+      go (suc n) chain low =
+          let first = chain-first slots free n s chain read in
+          seen-at page_of slots free s first.0.within read ∙ free-page s first.1
 
-pub count-is : (slots : List Slot) (spare k c : ℕ) (bytes : List ℕ) → slot_at slots k ≡ Used c bytes → count_at (seen slots spare) k ≡ c
-count-is slots spare k c bytes is = ap count_in (get-page slots k ∙ ap page_of is)
+  pub sound-put : (s now : Slot) → s ≡ get_or slots free s → 0 < now.count → IsSound (set slots free now) s.next (spare - 1)
+  sound-put s now read filled =
+      let more : spare ≡ suc (spare - 1) = omega arith in
+      sound-fill slots free (spare - 1) s now (subst (λ n. IsSound slots free n) more sound) read filled
+
+-- the pages that a contract sees after a slot is written
+pub seen-page : (slots : List Slot) (spare k : ℕ) (now : Slot) (page : Option Page) → page_of now ≡ page → seen (set slots k now) spare ≡ record { slots = set (map page_of slots) k page; spare = spare }
+seen-page slots spare k now page is =
+    ap (λ (pages : List (Option Page)). let p : Pool = record { slots = pages; spare = spare } in p) (seen-set slots spare k now page is)
+
+module _ (slots : List Slot) (spare k : ℕ) (s : Slot) (r : IsRead slots k s) (some : 0 < s.count) where
+  pub count-is : count_at (seen slots spare) k ≡ s.count
+  count-is = ap count_in (page-is slots k s r some)
+
+  pub bytes-is : bytes_in (get_or (map page_of slots) k None) ≡ s.bytes.value
+  bytes-is = ap bytes_in (page-is slots k s r some)
+
+  -- another count, and other bytes
+  pub seen-count : (now : Slot) → 0 < now.count → now.bytes.value ≡ s.bytes.value → seen (set slots k now) spare ≡ with_count (seen slots spare) k now.count
+  seen-count now still same =
+      seen-page slots spare k now (Some (record { count = now.count; bytes = bytes_in (get_or (map page_of slots) k None) }))
+      (used-page now still ∙ ap (λ (b : List ℕ). let p : Option Page = Some (record { count = now.count; bytes = b }) in p) (same ∙ sym bytes-is))
+
+  pub seen-bytes : (now : Slot) → now.count ≡ s.count → seen (set slots k now) spare ≡ with_bytes (seen slots spare) k now.bytes.value
+  seen-bytes now same =
+      seen-page slots spare k now (Some (record { count = count_in (get_or (map page_of slots) k None); bytes = now.bytes.value }))
+      (used-page now (omega arith) ∙ ap (λ (n : ℕ). let p : Option Page = Some (record { count = n; bytes = now.bytes.value }) in p) (same ∙ sym count-is))
 
 -- where a slot is used, not all are free
-pub spare-small : (slots : List Slot) (free spare k c : ℕ) (bytes : List ℕ) → IsSound slots free spare → k < length slots → slot_at slots k ≡ Used c bytes → spare < length slots
-spare-small slots free spare k c bytes s below is =
-    let count = written slots k (Free 0) below in
-    let was = ap (λ x. one_if (page_of x)) is in
-    omega (arith, s.room)
+pub spare-small : (slots : List Slot) (free spare k : ℕ) (s : Slot) → IsSound slots free spare → IsRead slots k s → 0 < s.count → spare < length slots
+spare-small slots free spare k s sound r some =
+    let freed : Slot = record s { count = 0 } in
+    let count = written slots k s freed r in
+    let was = ap one_if (used-page s some) in
+    let is = ap one_if (free-page freed refl) in
+    omega (arith, sound.room)
 
-empty-last : (n : ℕ) → replicate {A = Option Page} n None ++ None ∷ [] ≡ replicate (n + 1) None
-empty-last n = replicate_more n None
-
--- the pages that a contract sees, with one more free slot
-pub seen-push : (slots : List Slot) (next : ℕ) (before : List (Option Page)) (n : ℕ) → map page_of slots ≡ before ++ replicate n None → map page_of (slots ++ Free next ∷ []) ≡ before ++ replicate (n + 1) None
-seen-push slots next before n is =
-    map-append page_of slots (Free next ∷ []) ∙ ap (λ (pages : List (Option Page)). pages ++ None ∷ []) is ∙ append_assoc before (replicate n None) (None ∷ []) ∙ ap (λ (pages : List (Option Page)). before ++ pages) (empty-last n)
-
-pub sound-push-at : (slots : List Slot) (free spare more at : ℕ) → at ≡ length slots → IsSound slots free (spare + more) → length slots + 1 < 2 ^ 32 → IsSound (slots ++ Free (at + 1) ∷ []) free (spare + (more + 1))
-sound-push-at slots free spare more at is s small =
-    let e : spare + more + 1 ≡ spare + (more + 1) = omega arith in
-    subst (λ i. IsSound (slots ++ Free (i + 1) ∷ []) free (spare + (more + 1))) (sym is) (subst (λ m. IsSound (slots ++ Free (length slots + 1) ∷ []) free m) e (sound-push slots free (spare + more) s small))
-
--- a used slot with other bytes
-pub seen-bytes : (slots : List Slot) (spare k c : ℕ) (before now : List ℕ) → slot_at slots k ≡ Used c before → seen (set slots k (Used c now)) spare ≡ with_bytes (seen slots spare) k now
-seen-bytes slots spare k c before now is =
-    let page : get_or (map page_of slots) k None ≡ page_of (Used c before) = get-page slots k ∙ ap page_of is in
-    ap (λ (pages : List (Option Page)). let p : Pool = record { slots = pages; spare = spare } in p)
-    (map-set page_of slots k (Used c now) ∙ ap (λ (n : ℕ). set (map page_of slots) k (Some (record { count = n; bytes = now }))) (sym (ap count_in page)))
+pub sound-push-at : (slots : List Slot) (free spare more : ℕ) (last : Slot) → IsSound slots free (spare + more) → last.count ≡ 0 → last.next ≡ length slots + 1 → length slots + 1 < 2 ^ 32 → IsSound (slots ++ last ∷ []) free (spare + (more + 1))
+sound-push-at slots free spare more last sound none next small =
+    let e : suc (spare + more) ≡ spare + (more + 1) = omega arith in
+    subst (λ m. IsSound (slots ++ last ∷ []) free m) e (sound-push slots free (spare + more) last sound none next small)

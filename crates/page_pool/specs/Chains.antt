@@ -1,28 +1,26 @@
 -- How a `PagePool` lays out its slots: the free ones are a chain by index, whose last names the end of the
 -- slots. No public clause cites this module.
-use Rattle.std.specs.Prelude.{◌≡◌, ℕ, zero, suc, ◌+◌, ◌^◌, ◌<◌, List, map, length, Option, Some, None, slice_index_or}
+use Rattle.std.specs.Prelude.{◌≡◌, ℕ, zero, suc, ◌+◌, ◌^◌, ◌<◌, ◌==◌, List, map, length, Option, Some, None, slice_index_or, if◌then◌else◌}
 use Rattle.page_pool.specs.Pool.{Page, used_in}
 use Rattle.page_pool.specs.declared.slot.Slot.{Slot}
-use Rattle.page_pool.specs.declared.slot.Slot.TheVariants.{Free, Used}
 
 -- the page of a slot, if it is used
 abbrev pub page_of : Slot → Option Page
-page_of (Free next) = None
-page_of (Used count bytes) = Some (record { count = count; bytes = bytes })
+page_of slot =
+    if slot.count == 0 then None else Some (record { count = slot.count; bytes = slot.bytes.value })
 
--- the slot at an index
-abbrev pub slot_at : List Slot → ℕ → Slot
-slot_at slots index = slice_index_or slots index (Free 0)
+-- what a slot names as the next free one, if it is free
+abbrev pub link_of : Slot → Option ℕ
+link_of slot = if slot.count == 0 then Some slot.next else None
 
 -- from this index on, so many free slots each name the next, and the last names the end of the slots
-abbrev pub IsChain : List Slot → ℕ → ℕ → Type 0
-IsChain slots zero index = index ≡ length slots
-IsChain slots (suc count) index =
-    (next : ℕ) × (index < length slots) × (slot_at slots index ≡ Free next) × IsChain slots count next
+abbrev pub IsChain : List (Option ℕ) → ℕ → ℕ → Type 0
+IsChain links zero index = index ≡ length links
+IsChain links (suc count) index =
+    (next : ℕ) × (slice_index_or links index None ≡ Some next) × IsChain links count next
 
--- the slots that are not used are the chain, and each used one is counted
+-- the slots that are not used are the chain
 pub record IsSound (slots : List Slot) (free spare : ℕ) : Type 0 where
   pub small : length slots < 2 ^ 32
-  pub chain : IsChain slots spare free
+  pub chain : IsChain (map link_of slots) spare free
   pub room : used_in (map page_of slots) + spare ≡ length slots
-  pub counted : (n count : ℕ) (bytes : List ℕ) → slot_at slots n ≡ Used count bytes → 0 < count

@@ -1,8 +1,8 @@
 //! A pool of pages.
 
-ghost use Rattle.std.specs.Prelude.{◌≡◌, ◌≢◌, ℕ, ◌+◌, ◌-◌, ◌^◌, ◌<◌, ◌≤◌, [], length, None, OnOk, OnErr, IsOk};
+ghost use Rattle.std.specs.Prelude.{◌≡◌, ◌≢◌, ◌+◌, ◌-◌, ◌^◌, ◌<◌, ◌≤◌, [], length, None, OnOk, OnErr, IsOk, IfOk, vec_len};
 ghost use Rattle.std.specs.Borrow.{sem};
-ghost use Rattle.page_pool.specs.Pool.{page_at, used_in, IsLive, count_at, bytes_at, with_count, with_new, with_free, with_room};
+ghost use Rattle.page_pool.specs.Pool.{page_at, used_in, IsLive, count_at, bytes_at, with_count, with_new, with_free, with_room, IsCopied};
 
 use crate::slot::{PageBytes, Slot, SlotId};
 use byte_codec::NoMemory;
@@ -47,7 +47,7 @@ impl PagePool {
     }
 
     /// Makes room for so many pages, so that putting them needs no memory.
-    pub fn reserve(&mut self, _alloc: Global, n: u32) -> Result<(), NoMemory>
+    pub fn reserve(&mut self, alloc: Global, n: u32) -> Result<(), NoMemory>
         ensures ok { OnOk result (self.new ≡ with_room self.old (n - self.old.spare)) }
         ensures err { OnErr result (self.new ≡ self.old) }
         ensures room { n ≤ self.old.spare → IsOk result }
@@ -59,10 +59,16 @@ impl PagePool {
         if more as usize > u32::MAX as usize - self.slots.len() {
             return Err(NoMemory);
         }
+        let mut pages = zero_pages(alloc, more)?;
         self.slots.reserve(more as usize)?;
-        for _ in 0..more {
+        while let Some(bytes) = pages.pop() {
             let next = self.slots.len() as u32 + 1;
-            self.slots.push_reserved(Slot::Free { next });
+            let slot = Slot {
+                count: 0,
+                next,
+                bytes,
+            };
+            self.slots.push_reserved(slot);
         }
         self.spare = n;
         Ok(())
@@ -75,14 +81,13 @@ impl PagePool {
         ensures within { result < length self.old.slots }
         ensures put { self.new ≡ with_new self.old result bytes.now }
     {
-        let slot = self.free;
-        self.free = self.slots[slot as usize].next();
-        self.slots[slot as usize] = Slot::Used {
-            count: 1,
-            bytes: *bytes,
-        };
+        let free = self.free;
+        let slot = &mut self.slots[free as usize];
+        slot.count = 1;
+        *slot.bytes = *bytes;
+        self.free = slot.next;
         self.spare -= 1;
-        SlotId(slot)
+        SlotId(free)
     }
 
     /// Counts a page once more.
@@ -91,9 +96,7 @@ impl PagePool {
         requires room { count_at self.old slot + 1 < 2 ^ 32 }
         ensures { self.new ≡ with_count self.old slot (count_at self.old slot + 1) }
     {
-        let shared = &mut self.slots[slot.0 as usize];
-        let count = shared.count();
-        shared.set_count(count + 1);
+        self.slots[slot.0 as usize].count += 1;
     }
 
     /// Counts a page once less. At the last count its slot is free again.
@@ -102,13 +105,12 @@ impl PagePool {
         ensures last { count_at self.old slot ≡ 1 → self.new ≡ with_free self.old slot }
         ensures shared { count_at self.old slot ≢ 1 → self.new ≡ with_count self.old slot (count_at self.old slot - 1) }
     {
-        let count = self.slots[slot.0 as usize].count();
-        if count == 1 {
-            self.slots[slot.0 as usize] = Slot::Free { next: self.free };
+        let shared = &mut self.slots[slot.0 as usize];
+        shared.count -= 1;
+        if shared.count == 0 {
+            shared.next = self.free;
             self.free = slot.0;
             self.spare += 1;
-        } else {
-            self.slots[slot.0 as usize].set_count(count - 1);
         }
     }
 
@@ -117,7 +119,7 @@ impl PagePool {
         requires { IsLive self.now slot }
         ensures { result ≡ count_at self.now slot }
     {
-        self.slots[slot.0 as usize].count()
+        self.slots[slot.0 as usize].count
     }
 
     /// The bytes of a live slot.
@@ -126,7 +128,7 @@ impl PagePool {
         ensures bytes { result.now ≡ bytes_at self.now slot }
         ensures counted { 0 < count_at self.now slot }
     {
-        self.slots[slot.0 as usize].bytes()
+        &self.slots[slot.0 as usize].bytes
     }
 
     /// A slot with the same bytes that may be written: this one where it has the count 1, and else a copy.
@@ -134,10 +136,9 @@ impl PagePool {
         requires live { IsLive self.old slot }
         requires room { count_at self.old slot ≢ 1 → 0 < self.old.spare }
         ensures own { count_at self.old slot ≡ 1 → (result ≡ slot) × (self.new ≡ self.old) }
-        ensures copy { count_at self.old slot ≢ 1 → (page_at self.old result ≡ None) × (result < length self.old.slots) × (self.new ≡ with_new (with_count self.old slot (count_at self.old slot - 1)) result (bytes_at self.old slot)) }
+        ensures copy { count_at self.old slot ≢ 1 → IsCopied self.old self.new slot result }
     {
-        let count = self.slots[slot.0 as usize].count();
-        if count == 1 {
+        if self.count(slot) == 1 {
             return slot;
         }
         let bytes = *self.page(slot);
@@ -152,7 +153,7 @@ impl PagePool {
         ensures* writes_back { sem 𝓛 (lends_page self.entry slot result) }
         ensures value { result.now ≡ bytes_at self.old slot }
     {
-        self.slots[slot.0 as usize].bytes_mut()
+        &mut self.slots[slot.0 as usize].bytes
     }
 
     /// How many slots are live.
@@ -162,4 +163,15 @@ impl PagePool {
     {
         self.slots.len() as u32 - self.spare
     }
+}
+
+// So many pages of zeros.
+fn zero_pages(alloc: Global, count: u32) -> Result<Vec<Box<PageBytes>>, NoMemory>
+    ensures { IfOk result (λ pages. vec_len pages ≡ count) }
+{
+    let mut pages = Vec::with_capacity(alloc, count as usize)?;
+    for _ in 0..count {
+        pages.push_reserved(Box::new(alloc, [0; 4096])?);
+    }
+    Ok(pages)
 }
