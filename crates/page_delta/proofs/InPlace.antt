@@ -7,7 +7,7 @@ use Rattle.page_delta.specs.Totals.{total}
 use Rattle.page_delta.specs.Delta.{Pages, find, pages_in, read_of, uses, Sets}
 use Rattle.page_delta.specs.Nodes.{node_at, child_in, entry_in, count_in, level_in, look, with_entry}
 use Rattle.page_delta.specs.Shared.{slots_in, StandsAt, IsShared, KeepsLevels, Owned, Differs}
-use Rattle.page_delta.specs.Roots.{root_at, map_below, roots, IsKept, IsHeld, PutsAt, IsOwnPlace}
+use Rattle.page_delta.specs.Roots.{root_at, map_below, roots, IsKept, IsHeld, PutsOwn, PutsAt, IsOwnPlace}
 use Rattle.page_delta.specs.declared.entry.Entry.{Entry}
 use Rattle.page_delta.specs.declared.node.Node.{Node}
 use Rattle.page_delta.specs.declared.roots.Root.{Root}
@@ -155,17 +155,28 @@ module _ (xs : List (Option Node)) (ids : List (Option Root)) (pool : Pool) (id 
         let same : uses s (Some o.entry) ≡ uses s (Some entry) = ap (λ i. one i s) (o.slot_is ∙ sym is) in
         omega arith
 
+    puts : PutsOwn xs ys ids ids (λ s. c0 s + uses s (Some entry)) id page entry (Some o.entry)
+    puts = record {
+      mid = xs;
+      root = o.root.node;
+      live = some-live (root_at ids id) o.root o.root_is;
+      rooted = λ r r_is. (let both : Some r ≡ Some o.root = sym r_is ∙ o.root_is in let same : r ≡ o.root = cc in ap (λ (i : Root). i.node) same);
+      kept = k;
+      own = o.leaf_is.own_root;
+      maps = λ other. refl;
+      before_is = look_is;
+      differs = differs ys entry now rest;
+      levels = levels ys entry now rest;
+      placed = inserted-placed xs xs xs xs ys o.root.node o.leaf_is.upper o.leaf_is.lower leaf page entry upper_own lower_own leaf_own top c0 hands z c0 hands z c0 hands z k.shared k.shared k.shared now rest k.placed (subst (λ s. StandsAt xs s (page % 32)) (o.slot_is ∙ sym is) (stands-found xs leaf (page % 32) o.entry k.placed o.entry_is));
+      shared = subst (λ (e : Option Entry). IsShared ys (λ s. c0 s + uses s (Some entry)) hands (λ s. 0 + uses s e)) look_is (shared_now ys entry now rest);
+      few = few;
+    }
+
     pub kept-in-place : IsKept ys ids
-    kept-in-place =
-        kept-same xs xs ys ids ids id page o.root.node entry o.root k o.root_is refl o.leaf_is.own_root (λ other. refl) (differs ys entry now rest) (levels ys entry now rest) low
-        (λ s. c0 s + uses s (Some entry)) (λ s. 0 + uses s (look 3 xs (Some o.root.node) page)) (shared_now ys entry now rest) few o.entry look_is
-        (inserted-placed xs xs xs xs ys o.root.node o.leaf_is.upper o.leaf_is.lower leaf page entry upper_own lower_own leaf_own top c0 hands z c0 hands z c0 hands z k.shared k.shared k.shared now rest k.placed
-        (subst (λ s. StandsAt xs s (page % 32)) (o.slot_is ∙ sym is) (stands-found xs leaf (page % 32) o.entry k.placed o.entry_is)))
+    kept-in-place = kept-same puts low
 
     put : PutsAt xs ys ids ids id page entry
-    put =
-        puts-same xs xs ys ids ids id page o.root.node entry o.root k o.root_is refl o.leaf_is.own_root (λ other. refl) (differs ys entry now rest) (levels ys entry now rest) low
-        (λ s. c0 s + uses s (Some entry)) (λ s. 0 + uses s (look 3 xs (Some o.root.node) page)) (shared_now ys entry now rest) few o.entry look_is
+    put = puts-same puts low
 
     page_here : page_at (with_bytes pool slot bytes) slot ≡ Some (record { count = count_at pool slot; bytes = bytes })
     page_here =

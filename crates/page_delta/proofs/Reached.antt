@@ -1,5 +1,5 @@
 -- What a leaf has, some map has.
-use Rattle.std.proofs.Common.{◌≡◌, ◌≢◌, inl, inr, ℕ, zero, suc, ◌+◌, ◌*◌, ◌/◌, ◌%◌, ◌^◌, ◌<◌, List, [], ◌∷◌, length, get_or, Option, Some, None, IsSome, refl, sym, ap, ◌∙◌, arith}
+use Rattle.std.proofs.Common.{◌≡◌, ◌≢◌, inl, inr, ℕ, zero, suc, ◌+◌, ◌*◌, ◌/◌, ◌%◌, ◌^◌, ◌<◌, List, [], ◌∷◌, length, get_or, Option, Some, None, IsSome, is_some, count_by, refl, sym, ap, ◌∙◌, arith}
 use Rattle.std.proofs.lemmas.Bool.{cases_eq}
 use Rattle.page_delta.specs.Totals.{total}
 use Rattle.page_delta.specs.Delta.{find, pages_in, uses}
@@ -10,8 +10,8 @@ use Rattle.page_delta.specs.declared.entry.Entry.{Entry}
 use Rattle.page_delta.specs.declared.node.Node.{Node}
 use Rattle.page_delta.specs.declared.node.Node.TheVariants.{Branch, Leaf}
 use Rattle.page_delta.specs.declared.roots.Root.{Root}
-use Rattle.page_delta.proofs.Sums.{total-place}
-use Rattle.page_delta.proofs.Sharing.{some-none, one-other}
+use Rattle.page_delta.proofs.Sums.{total-place, total-none, total-present, present}
+use Rattle.page_delta.proofs.Sharing.{some-none, cases-option, some-live, one-other}
 use Rattle.page_delta.proofs.Inserting.{high-live}
 use Rattle.page_delta.proofs.Lookups.{find-below}
 
@@ -173,3 +173,25 @@ module _ (nodes : List (Option Node)) (ids : List (Option Root)) (k : IsKept nod
             ∙ ap (λ n. look 3 nodes (Some n) page) r.3 ∙ at;
         is = u.is;
       }
+
+  -- where no id is live, no node is
+  no-node : ((id : ℕ) → root_at ids id ≡ None) → (key : ℕ) → IsSome (node_at nodes key) → ⊥
+  no-node none key live =
+      let loose : (n : ℕ) → total (roots n) ids ≡ 0 = λ n. total-none (roots n) refl ids (λ id. ap (roots n) (none id)) in
+      let p1 = named-by key live (loose key) in
+      let z1 = p1.level in
+      let p2 = named-by p1.node (high-live (node_at nodes p1.node) (omega arith)) (loose p1.node) in
+      let z2 = p2.level in
+      let p3 = named-by p2.node (high-live (node_at nodes p2.node) (omega arith)) (loose p2.node) in
+      let z3 = p3.level in
+      let p4 = named-by p3.node (high-live (node_at nodes p3.node) (omega arith)) (loose p3.node) in
+      let z4 = p4.level in
+      let flat = k.shared.flat p4.node in
+      omega arith
+
+  pub no-nodes : ((id : ℕ) → root_at ids id ≡ None) → count_by is_some nodes ≡ 0
+  no-nodes none =
+      sym (total-present nodes) ∙ total-none (present 1) refl nodes (λ key. elim (cases-option (node_at nodes key)) [
+        | inl gone ↦ ap (present 1) gone
+        | inr here ↦ absurd (no-node none key (some-live (node_at nodes key) here.0 here.1))
+      ])

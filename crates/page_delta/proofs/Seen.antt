@@ -1,5 +1,5 @@
 -- What a contract sees of nodes and ids.
-use Rattle.std.proofs.Common.{◌≡◌, inl, inr, ℕ, zero, suc, ◌+◌, ◌/◌, ◌%◌, ◌^◌, ◌<◌, ◌≤◌, List, [], ◌∷◌, map, get_or, Option, Some, None, IsSome, refl, sym, ap, subst, ◌∙◌, arith}
+use Rattle.std.proofs.Common.{◌≡◌, inl, inr, ℕ, zero, suc, ◌+◌, ◌/◌, ◌%◌, ◌^◌, ◌<◌, ◌≤◌, List, [], ◌∷◌, map, get_or, Option, Some, None, IsSome, is_some, count_by, refl, sym, ap, subst, ◌∙◌, arith}
 use Rattle.std.proofs.lemmas.Bool.{cases_lt}
 use Rattle.page_pool.specs.Pool.{Pool, Page, count_at, bytes_at, used_in, IsLive as IsLiveSlot}
 use Rattle.page_delta.specs.Totals.{total}
@@ -28,7 +28,7 @@ total-leaves slot [] = refl
 total-leaves slot (x ∷ xs) = ap (λ n. uses_in slot (leaf_of x) + n) (total-leaves slot xs)
 
 abbrev pub seen : List (Option Node) → List (Option Root) → Deltas
-seen nodes ids = record { maps = map (map_below nodes) ids; leaves = map leaf_of nodes }
+seen nodes ids = record { maps = map (map_below nodes) ids; leaves = map leaf_of nodes; nodes = count_by is_some nodes }
 
 pub map-seen : (nodes : List (Option Node)) (ids : List (Option Root)) (id : ℕ) → map_of (seen nodes ids) id ≡ map_below nodes (root_at ids id)
 map-seen nodes ids id = get-map (map_below nodes) refl ids id

@@ -9,10 +9,11 @@ use Rattle.page_delta.specs.Totals.{total}
 abbrev pub Pages : Type 0
 Pages = List (ℕ × Entry)
 
--- the map of each live id, and the places of each leaf node
+-- the map of each live id, the places of each leaf node, and how many nodes there are
 pub record Deltas : Type 0 where
   pub maps : List (Option Pages)
   pub leaves : List (Option (List (Option Entry)))
+  pub nodes : ℕ
 
 -- the map of an id, if it is live
 abbrev pub map_of : Deltas → ℕ → Option Pages

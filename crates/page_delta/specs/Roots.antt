@@ -5,9 +5,9 @@ use Rattle.page_delta.specs.declared.roots.Root.{Root}
 use Rattle.page_delta.specs.declared.entry.Entry.{Entry}
 use Rattle.page_delta.specs.declared.node.Node.{Node}
 use Rattle.page_delta.specs.Totals.{total}
-use Rattle.page_delta.specs.Delta.{Pages, find, pages_in}
-use Rattle.page_delta.specs.Nodes.{node_at, entry_in, level_in, pages_below}
-use Rattle.page_delta.specs.Shared.{slots_in, IsShared, IsPlaced, IsCounted, KeepsBytes, IsOwnLeaf}
+use Rattle.page_delta.specs.Delta.{Pages, find, pages_in, uses}
+use Rattle.page_delta.specs.Nodes.{node_at, entry_in, count_in, level_in, look, pages_below}
+use Rattle.page_delta.specs.Shared.{slots_in, IsShared, IsPlaced, IsCounted, KeepsBytes, KeepsLevels, Differs, IsOwnLeaf}
 
 -- the root at an id
 abbrev pub root_at : List (Option Root) → ℕ → Option Root
@@ -45,6 +45,27 @@ pub record AddsRoot (old new : List (Option Node)) (old_ids new_ids : List (Opti
   pub others : (other : ℕ) → other ≢ id → map_below new (root_at new_ids other) ≡ map_below old (root_at old_ids other)
   pub held : (slot : ℕ) → total (slots_in slot) new ≡ total (slots_in slot) old
 
+-- an id that was dead has the map of another, and nothing else has changed
+abbrev pub ForksRoot : List (Option Node) → List (Option Node) → List (Option Root) → List (Option Root) → ℕ → ℕ → Type 0
+ForksRoot old new old_ids new_ids id fork =
+    (root : Root) → root_at old_ids id ≡ Some root → AddsRoot old new old_ids new_ids fork (pages_below old root.node)
+
+-- the tree of an id, whose root no other id has, has an entry at a page; `mid` are the nodes when that root was made
+pub record PutsOwn (old new : List (Option Node)) (old_ids ids : List (Option Root)) (counts : ℕ → ℕ) (id page : ℕ) (entry : Entry) (before : Option Entry) : Type 0 where
+  pub mid : List (Option Node)
+  pub root : ℕ
+  pub live : IsSome (root_at ids id)
+  pub rooted : (r : Root) → root_at ids id ≡ Some r → r.node ≡ root
+  pub kept : IsKept mid ids
+  pub own : count_in (node_at mid root) ≡ 1
+  pub maps : (other : ℕ) → map_below mid (root_at ids other) ≡ map_below old (root_at old_ids other)
+  pub before_is : look 3 mid (Some root) page ≡ before
+  pub differs : Differs 3 mid new root page entry
+  pub levels : KeepsLevels mid new
+  pub placed : IsPlaced new
+  pub shared : IsShared new counts (λ key. total (roots key) ids) (λ slot. 0 + uses slot before)
+  pub few : count_by is_some new ≤ 2 ^ 26
+
 -- a map has an entry at a page, and nothing else has changed
 pub record PutsAt (old new : List (Option Node)) (old_ids new_ids : List (Option Root)) (id page : ℕ) (entry : Entry) : Type 0 where
   pub live : IsSome (root_at new_ids id)
@@ -65,6 +86,12 @@ pub record IsOwnPlace (nodes : List (Option Node)) (ids : List (Option Root)) (p
 abbrev pub or_else : Option Entry → Option Entry → Option Entry
 or_else None second = second
 or_else (Some entry) second = Some entry
+
+-- a map has the entry of another at a page, if that has one, and else its own
+abbrev pub TakesPage : List (Option Node) → List (Option Node) → List (Option Root) → List (Option Root) → ℕ → ℕ → ℕ → Type 0
+TakesPage old new old_ids new_ids id kept page =
+    (q : ℕ) → find q (pages_in (map_below new (root_at new_ids kept)))
+    ≡ (if q == page then or_else (find page (pages_in (map_below old (root_at old_ids id)))) (find q (pages_in (map_below old (root_at old_ids kept)))) else find q (pages_in (map_below old (root_at old_ids kept))))
 
 -- the list has the page
 abbrev pub among : ℕ → List ℕ → Bool

@@ -2,7 +2,7 @@
 use Rattle.std.specs.Prelude.{◌≡◌, ◌≢◌, ℕ, zero, suc, ◌+◌, ◌/◌, ◌%◌, ◌^◌, ◌<◌, ◌≤◌, List, Option, Some, IsSome, count_by, is_some}
 use Rattle.slab.specs.Slab.{Slab, slab_len}
 use Rattle.page_pool.specs.Pool.{Pool, count_at, bytes_at, IsLive as IsLiveSlot}
-use Rattle.page_delta.specs.Delta.{uses_in}
+use Rattle.page_delta.specs.Delta.{uses, uses_in}
 use Rattle.page_delta.specs.Totals.{total}
 use Rattle.page_delta.specs.Nodes.{node_at, child_in, entry_in, count_in, level_in, width, names, leaf_of, look}
 use Rattle.page_delta.specs.declared.entry.Entry.{Entry}
@@ -22,6 +22,11 @@ pub record IsShared (nodes : List (Option Node)) (counts hands loose : ℕ → �
   pub alive : (key : ℕ) → IsSome (node_at nodes key) → 0 < count_in (node_at nodes key)
   pub counted : (key : ℕ) → count_in (node_at nodes key) ≡ hands key + total (names key) nodes
   pub held : (slot : ℕ) → counts slot ≡ loose slot + total (slots_in slot) nodes
+
+-- where the slot of one entry was counted loose, that of another is
+abbrev pub SwapsEntry : List (Option Node) → List (Option Node) → (ℕ → ℕ) → (ℕ → ℕ) → Option Entry → Option Entry → Type 0
+SwapsEntry old new old_counts new_counts before now =
+    (hands loose : ℕ → ℕ) → IsShared old old_counts hands (λ slot. loose slot + uses slot before) → IsShared new new_counts hands (λ slot. loose slot + uses slot now)
 
 -- no leaf has the slot at another place
 abbrev pub StandsAt : List (Option Node) → ℕ → ℕ → Type 0

@@ -38,7 +38,7 @@ pub struct Deltas {
 }
 
 impl Model for Deltas {
-    ghost use Rattle.std.specs.Prelude.{map};
+    ghost use Rattle.std.specs.Prelude.{map, count_by, is_some};
     ghost use Rattle.page_delta.specs.Delta.{Deltas as Maps};
 
     ghost Value = { Maps };
@@ -49,6 +49,7 @@ impl Model for Deltas {
     ghost view = { λ s. record {
       maps = map (map_below s.nodes.slots) s.ids.slots;
       leaves = map leaf_of s.nodes.slots;
+      nodes = count_by is_some s.nodes.slots;
     } };
 
     ghost invariant = { λ s. IsKept s.nodes.slots s.ids.slots };
@@ -57,7 +58,7 @@ impl Model for Deltas {
 impl Deltas {
     /// No maps.
     pub fn new(alloc: Global) -> Deltas
-        ensures { result ≡ record { maps = []; leaves = [] } }
+        ensures { result ≡ record { maps = []; leaves = []; nodes = 0 } }
     {
         Deltas {
             nodes: Slab::new(alloc),
@@ -141,7 +142,7 @@ impl Deltas {
             place(&mut self.nodes, own.leaf, page % 32, Entry { slot, stamp });
             return Ok(());
         }
-        make_room(&mut self.nodes, &mut self.ids, 4)?;
+        make_room(&mut self.nodes, 4)?;
         pool.reserve(alloc, 1)?;
         let slot = pool.put(bytes);
         put_entry(
@@ -162,6 +163,7 @@ impl Deltas {
         ensures dropped { Drops pool.old pool.new self.old self.new id }
         ensures holds { Holds pool.new self.new }
         ensures all { ((other : ℕ) → map_of self.new other ≡ None) → used_in pool.new.slots ≡ 0 }
+        ensures all_nodes { ((other : ℕ) → map_of self.new other ≡ None) → self.new.nodes ≡ 0 }
     {
         drop_root(&mut self.nodes, &mut self.ids, pool, id.0);
     }

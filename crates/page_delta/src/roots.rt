@@ -3,10 +3,10 @@
 ghost use Rattle.std.specs.Prelude.{length, slice_index, ◌≡◌, ◌≢◌, ℕ, ◌+◌, ◌%◌, ◌^◌, ◌<◌, ◌≤◌, [], Some, None, IsSome, IfSome, OnOk, OnErr, IfOk, ◌==◌, if◌then◌else◌};
 ghost use Rattle.slab.specs.Slab.{HasRoomFor, slab_len};
 ghost use Rattle.page_pool.specs.Pool.{count_at};
-ghost use Rattle.page_delta.specs.Delta.{uses, find, pages_in, pages_after};
-ghost use Rattle.page_delta.specs.Nodes.{node_at, count_in, look, pages_below};
-ghost use Rattle.page_delta.specs.Roots.{root_at, map_below, IsKept, IsHeld, AddsRoot, PutsAt, IsKeeping, HasPages, or_else, IsOwnPlace};
-ghost use Rattle.page_delta.specs.Shared.{Grows, KeepsBytes, KeepsPlaces, StandsAt, IsClosed};
+ghost use Rattle.page_delta.specs.Delta.{uses, pages_after};
+ghost use Rattle.page_delta.specs.Nodes.{node_at, count_in, pages_below};
+ghost use Rattle.page_delta.specs.Roots.{root_at, map_below, IsKept, IsHeld, AddsRoot, ForksRoot, PutsOwn, PutsAt, IsKeeping, HasPages, TakesPage, IsOwnPlace};
+ghost use Rattle.page_delta.specs.Shared.{Grows, KeepsBytes, KeepsPlaces, StandsAt, IsClosed, IsCounted};
 ghost use Rattle.page_delta.specs.declared.roots.Root.{Root as Held_root};
 
 use crate::entry::Entry;
@@ -36,26 +36,35 @@ pub(crate) struct OwnPlace {
     pub(crate) slot: SlotId,
 }
 
-// Takes memory for so many nodes and an id. Nothing else changes.
-pub(crate) fn make_room(
-    nodes: &mut Slab<Node>,
-    ids: &mut Slab<Root>,
-    more: usize,
-) -> Result<(), NoMemory>
+// Takes memory for so many nodes. Nothing else changes.
+pub(crate) fn make_room(nodes: &mut Slab<Node>, more: usize) -> Result<(), NoMemory>
     requires { more < 2 ^ 10 }
     ensures nodes { nodes.new.slots ≡ nodes.old.slots }
-    ensures ids { ids.new.slots ≡ ids.old.slots }
     ensures room { OnOk result (HasRoomFor nodes.new more) }
-    ensures room_id { OnOk result (HasRoomFor ids.new 1) }
     ensures few { OnOk result (slab_len nodes.new + more ≤ 2 ^ 26) }
-    ensures few_ids { OnOk result (slab_len ids.new + 1 ≤ 2 ^ 31) }
 {
-    if nodes.len() >= MAX_NODES - more || ids.len() >= MAX_IDS {
+    if nodes.len() >= MAX_NODES - more {
         return Err(NoMemory);
     }
     nodes.reserve(more)?;
-    ids.reserve(1)?;
     Ok(())
+}
+
+// Takes memory for an id, and answers it. Nothing else changes.
+fn make_id(ids: &mut Slab<Root>) -> Result<u32, NoMemory>
+    ensures ids { ids.new.slots ≡ ids.old.slots }
+    ensures room { OnOk result (HasRoomFor ids.new 1) }
+    ensures few { OnOk result (slab_len ids.new + 1 ≤ 2 ^ 31) }
+    ensures id { IfOk result (λ id. id ≡ ids.new.vacant_key) }
+{
+    if ids.len() >= MAX_IDS {
+        return Err(NoMemory);
+    }
+    ids.reserve(1)?;
+    let Ok(id) = u32::try_from(ids.vacant_key()) else {
+        return Err(NoMemory);
+    };
+    Ok(id)
 }
 
 // The root of an id, which no other id has: the one that it has, or a copy.
@@ -93,10 +102,8 @@ pub(crate) fn new_root(nodes: &mut Slab<Node>, ids: &mut Slab<Root>) -> Result<u
     ensures err { OnErr result (nodes.new.slots ≡ nodes.old.slots) }
     ensures err_ids { OnErr result (ids.new.slots ≡ ids.old.slots) }
 {
-    make_room(nodes, ids, 1)?;
-    let Ok(id) = u32::try_from(ids.vacant_key()) else {
-        return Err(NoMemory);
-    };
+    make_room(nodes, 1)?;
+    let id = make_id(ids)?;
     let node = put(nodes, Node::empty(3));
     ids.insert_reserved(Root { node, pages: 0 });
     Ok(id)
@@ -111,14 +118,11 @@ pub(crate) fn fork_root(
     requires kept { IsKept nodes.old.slots ids.old.slots }
     requires live { IsSome (root_at ids.old.slots id) }
     ensures kept { IsKept nodes.new.slots ids.new.slots }
-    ensures added { IfOk result (λ fork. (root : Held_root) → root_at ids.old.slots id ≡ Some root → AddsRoot nodes.old.slots nodes.new.slots ids.old.slots ids.new.slots fork (pages_below nodes.old.slots root.node)) }
+    ensures added { IfOk result (λ fork. ForksRoot nodes.old.slots nodes.new.slots ids.old.slots ids.new.slots id fork) }
     ensures err { OnErr result (nodes.new.slots ≡ nodes.old.slots) }
     ensures err_ids { OnErr result (ids.new.slots ≡ ids.old.slots) }
 {
-    make_room(nodes, ids, 0)?;
-    let Ok(fork) = u32::try_from(ids.vacant_key()) else {
-        return Err(NoMemory);
-    };
+    let fork = make_id(ids)?;
     let Root { node, pages } = ids[id as usize];
     raise(nodes, node);
     ids.insert_reserved(Root { node, pages });
@@ -147,6 +151,32 @@ pub(crate) fn own_place(
     Some(OwnPlace { leaf, slot })
 }
 
+// Puts an entry at a page of the tree of an id, whose root is made its own, and answers what was there before. There is
+// room for four nodes, the slot is counted for the entry, and no leaf has it at another place.
+fn put_own(
+    nodes: &mut Slab<Node>,
+    ids: &mut Slab<Root>,
+    pool: &mut PagePool,
+    id: u32,
+    page: u32,
+    entry: Entry,
+) -> Option<Entry>
+    requires kept { IsKept nodes.old.slots ids.old.slots }
+    requires held { IsHeld nodes.old.slots pool.old (λ slot. uses slot (Some entry)) }
+    requires live { IsSome (root_at ids.old.slots id) }
+    requires placed { StandsAt nodes.old.slots entry.slot (page % 32) }
+    requires room { HasRoomFor nodes.old 4 }
+    requires few { slab_len nodes.old + 4 ≤ 2 ^ 26 }
+    ensures puts { PutsOwn nodes.old.slots nodes.new.slots ids.old.slots ids.new.slots (count_at pool.new) id page entry result }
+    ensures counted { IsCounted pool.new }
+    ensures keeps { KeepsBytes pool.old pool.new }
+{
+    let root = own_root(nodes, ids, pool, id as usize);
+    let before = look(nodes, root, page);
+    insert(nodes, pool, root, page, entry);
+    before
+}
+
 // Puts an entry at a page of a map. There is room for four nodes, the slot is counted for the entry, and no leaf has it at
 // another place.
 pub(crate) fn put_entry(
@@ -169,10 +199,7 @@ pub(crate) fn put_entry(
     ensures put { PutsAt nodes.old.slots nodes.new.slots ids.old.slots ids.new.slots id page entry }
     ensures keeps { KeepsBytes pool.old pool.new }
 {
-    let root = own_root(nodes, ids, pool, id as usize);
-    let before = look(nodes, root, page);
-    insert(nodes, pool, root, page, entry);
-    match before {
+    match put_own(nodes, ids, pool, id, page, entry) {
         Some(before) => pool.release(before.slot),
         None => ids[id as usize].pages += 1,
     }
@@ -240,11 +267,11 @@ pub(crate) fn keep_page(
     ensures kept { IsKept nodes.new.slots ids.new.slots }
     ensures held { IsHeld nodes.new.slots pool.new (λ slot. 0) }
     ensures live { IsSome (root_at ids.new.slots kept) }
-    ensures found { OnOk result ((q : ℕ) → find q (pages_in (map_below nodes.new.slots (root_at ids.new.slots kept))) ≡ (if q == page then or_else (find page (pages_in (map_below nodes.old.slots (root_at ids.old.slots id)))) (find q (pages_in (map_below nodes.old.slots (root_at ids.old.slots kept)))) else find q (pages_in (map_below nodes.old.slots (root_at ids.old.slots kept))))) }
+    ensures found { OnOk result (TakesPage nodes.old.slots nodes.new.slots ids.old.slots ids.new.slots id kept page) }
     ensures others { (other : ℕ) → other ≢ kept → map_below nodes.new.slots (root_at ids.new.slots other) ≡ map_below nodes.old.slots (root_at ids.old.slots other) }
     ensures keeps { KeepsBytes pool.old pool.new }
 {
-    make_room(nodes, ids, 4)?;
+    make_room(nodes, 4)?;
     if let Some(entry) = look(nodes, ids[id as usize].node, page) {
         pool.retain(entry.slot);
         put_entry(nodes, ids, pool, kept, page, entry);

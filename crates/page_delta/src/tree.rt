@@ -8,7 +8,7 @@ ghost use Rattle.page_delta.specs.declared.node.Node.{Node as Held_node};
 ghost use Rattle.page_delta.specs.Totals.{total};
 ghost use Rattle.page_delta.specs.Delta.{uses};
 ghost use Rattle.page_delta.specs.Nodes.{node_at, child_in, entry_in, width, count_in, level_in, recounted, with_child, with_entry, once, names, with_node, look};
-ghost use Rattle.page_delta.specs.Shared.{slots_in, IsShared, StandsAt, IsPlaced, IsCounted, IsClosed, Stands, SameLooks, KeepsBytes, KeepsLevels, Shrinks, Grows, Differs, Owned, IsOwnLeaf};
+ghost use Rattle.page_delta.specs.Shared.{slots_in, IsShared, StandsAt, IsPlaced, IsCounted, IsClosed, Stands, SameLooks, KeepsBytes, KeepsLevels, Shrinks, Grows, Differs, Owned, IsOwnLeaf, SwapsEntry};
 
 use crate::entry::Entry;
 use crate::node::Node;
@@ -273,7 +273,7 @@ pub(crate) fn insert(
     requires own { count_in (node_at nodes.old.slots root) ≡ 1 }
     requires room { HasRoomFor nodes.old 3 }
     requires few { slab_len nodes.old + 3 ≤ 2 ^ 26 }
-    ensures shared { (hands loose : ℕ → ℕ) → IsShared nodes.old.slots (count_at pool.old) hands (λ slot. loose slot + uses slot (Some entry)) → IsShared nodes.new.slots (count_at pool.new) hands (λ slot. loose slot + uses slot (look 3 nodes.old.slots (Some root) page)) }
+    ensures shared { SwapsEntry nodes.old.slots nodes.new.slots (count_at pool.old) (count_at pool.new) (Some entry) (look 3 nodes.old.slots (Some root) page) }
     ensures differs { Differs 3 nodes.old.slots nodes.new.slots root page entry }
     ensures placed { IsPlaced nodes.old.slots → StandsAt nodes.old.slots entry.slot (page % 32) → IsPlaced nodes.new.slots }
     ensures levels { KeepsLevels nodes.old.slots nodes.new.slots }

@@ -18,7 +18,7 @@ look-requires-clause-closed c = rw c.make_room.ensures.nodes (kept-closed c.args
 
 pub retain-requires-clause-live : goal.retain-requires-clause-live
 retain-requires-clause-live c =
-    let row = rw c.make_room.ensures.ids at c.index.ensures in
+    let row = c.index.ensures in
     let seen = c.look.ensures ∙ ap (λ (n : List (Option Node)). look 3 n (Some c.index.result.now.node) c.args.page) c.make_room.ensures.nodes in
     live-of-count c.args.pool.now c.in-Some.entry.slot (found-at c.args.nodes.now.slots c.args.ids.now.slots c.args.pool.now c.args.id c.args.page c.index.result.now c.in-Some.entry row c.requires.page (sym seen ∙ c.in-Some.is) c.requires.held).1
 
@@ -29,7 +29,7 @@ retain-requires-clause-room c =
 
 pub put_entry-requires-clause-held : goal.put_entry-requires-clause-held
 put_entry-requires-clause-held c =
-    let row = rw c.make_room.ensures.ids at c.index.ensures in
+    let row = c.index.ensures in
     let seen = c.look.ensures ∙ ap (λ (n : List (Option Node)). look 3 n (Some c.index.result.now.node) c.args.page) c.make_room.ensures.nodes in
     let pos = (found-at c.args.nodes.now.slots c.args.ids.now.slots c.args.pool.now c.args.id c.args.page c.index.result.now c.in-Some.entry row c.requires.page (sym seen ∙ c.in-Some.is) c.requires.held).1 in
     rw c.make_room.ensures.nodes (held-more c.args.nodes.now.slots c.args.pool.now c.retain.new.self c.in-Some.entry c.requires.held pos c.retain.ensures).0
@@ -42,22 +42,22 @@ put_entry-requires-clause-placed c =
 
 pub returns-in-Some-clause-keeps : goal.returns-in-Some-clause-keeps
 returns-in-Some-clause-keeps c =
-    let row = rw c.make_room.ensures.ids at c.index.ensures in
+    let row = c.index.ensures in
     let seen = c.look.ensures ∙ ap (λ (n : List (Option Node)). look 3 n (Some c.index.result.now.node) c.args.page) c.make_room.ensures.nodes in
     let pos = (found-at c.args.nodes.now.slots c.args.ids.now.slots c.args.pool.now c.args.id c.args.page c.index.result.now c.in-Some.entry row c.requires.page (sym seen ∙ c.in-Some.is) c.requires.held).1 in
     keeps-trans c.args.pool.now c.retain.new.self c.put_entry.new.pool (held-more c.args.nodes.now.slots c.args.pool.now c.retain.new.self c.in-Some.entry c.requires.held pos c.retain.ensures).1 c.put_entry.ensures.keeps
 
 pub returns-in-Some-clause-found : goal.returns-in-Some-clause-found
 returns-in-Some-clause-found c = λ q.
-    let row = rw c.make_room.ensures.ids at c.index.ensures in
+    let row = c.index.ensures in
     let seen = c.look.ensures ∙ ap (λ (n : List (Option Node)). look 3 n (Some c.index.result.now.node) c.args.page) c.make_room.ensures.nodes in
     let is = (found-at c.args.nodes.now.slots c.args.ids.now.slots c.args.pool.now c.args.id c.args.page c.index.result.now c.in-Some.entry row c.requires.page (sym seen ∙ c.in-Some.is) c.requires.held).0 in
-    let put = rw (c.make_room.ensures.nodes, c.make_room.ensures.ids) at c.put_entry.ensures.put in
+    let put = rw c.make_room.ensures.nodes at c.put_entry.ensures.put in
     put-found-at q c.args.page (find c.args.page (pages_in (map_below c.args.nodes.now.slots (root_at c.args.ids.now.slots c.args.id)))) (find q (pages_in (map_below c.args.nodes.now.slots (root_at c.args.ids.now.slots c.args.kept)))) (find q (pages_in (map_below c.put_entry.new.nodes.slots (root_at c.put_entry.new.ids.slots c.args.kept)))) c.in-Some.entry is (put.found q)
 
 pub returns-in_default-clause-found : goal.returns-in_default-clause-found
 returns-in_default-clause-found c = λ q.
-    let row = rw c.make_room.ensures.ids at c.index.ensures in
+    let row = c.index.ensures in
     let seen = c.look.ensures ∙ ap (λ (n : List (Option Node)). look 3 n (Some c.index.result.now.node) c.args.page) c.make_room.ensures.nodes in
     let is = ap (λ (m : Option Pages). find c.args.page (pages_in m)) (ap (map_below c.args.nodes.now.slots) row) ∙ find-below c.args.nodes.now.slots c.index.result.now.node c.args.page c.requires.page ∙ sym seen ∙ c.in_default.is in
-    rw (c.make_room.ensures.nodes, c.make_room.ensures.ids) (pass-found-at q c.args.page (find c.args.page (pages_in (map_below c.args.nodes.now.slots (root_at c.args.ids.now.slots c.args.id)))) (find q (pages_in (map_below c.args.nodes.now.slots (root_at c.args.ids.now.slots c.args.kept)))) is)
+    rw c.make_room.ensures.nodes (pass-found-at q c.args.page (find c.args.page (pages_in (map_below c.args.nodes.now.slots (root_at c.args.ids.now.slots c.args.id)))) (find q (pages_in (map_below c.args.nodes.now.slots (root_at c.args.ids.now.slots c.args.kept)))) is)

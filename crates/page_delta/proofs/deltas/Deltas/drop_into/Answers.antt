@@ -1,6 +1,7 @@
 use Rattle.std.proofs.Common.{sym, subst}
 use Rattle.page_delta.specs.Delta.{Holds}
 use Rattle.page_delta.proofs.Seen.{held-seen, seen-held, all-dead, unused}
+use Rattle.page_delta.proofs.Reached.{no-nodes}
 use Rattle.page_delta.proofs.Calls.{drops}
 use Rattle.page_delta.proofs.deltas.Deltas.drop_into.Goals as goal
 
@@ -19,3 +20,7 @@ returns-clause-holds c = seen-held c.drop_root.new.nodes.slots c.drop_root.new.i
 pub returns-clause-all : goal.returns-clause-all
 returns-clause-all c = λ none.
     unused c.drop_root.new.pool c.drop_root.ensures.held.counted (c.drop_root.ensures.none (all-dead c.drop_root.new.nodes.slots c.drop_root.new.ids.slots none))
+
+pub returns-clause-all_nodes : goal.returns-clause-all_nodes
+returns-clause-all_nodes c = λ none.
+    no-nodes c.drop_root.new.nodes.slots c.drop_root.new.ids.slots c.drop_root.ensures.kept (all-dead c.drop_root.new.nodes.slots c.drop_root.new.ids.slots none)

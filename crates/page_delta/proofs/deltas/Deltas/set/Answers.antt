@@ -45,7 +45,7 @@ pub returns-clause-set : goal.returns-clause-set
 returns-clause-set c =
     let h0 = held-seen c.self.inside.nodes.slots c.self.inside.ids.slots c.args.pool.now (subst (λ d. Holds c.args.pool.now d) (sym c.self.view_is) c.requires.holds) in
     let entry : Entry = record { slot = c.put-slot.result; stamp = c.args.stamp } in
-    let put = rw (c.make_room.ensures.nodes, c.make_room.ensures.ids) at c.put_entry.ensures.put in
+    let put = rw c.make_room.ensures.nodes at c.put_entry.ensures.put in
     rw (← c.self.view_is, ← c.id.view_is) (sets c.args.pool.now c.reserve.new.self c.put-slot.new.self c.put-slot.result (1 - c.args.pool.now.spare) c.args.bytes.now c.in_ok-reserve.ensures.ok c.put-slot.ensures.free c.put-slot.ensures.within c.put-slot.ensures.put c.self.inside.nodes.slots c.put_entry.new.nodes.slots c.self.inside.ids.slots c.put_entry.new.ids.slots c.put_entry.new.pool c.id.inside.0 c.args.page c.args.stamp entry refl refl h0 c.put_entry.ensures.held put c.put_entry.ensures.keeps)
 
 pub returns-clause-holds : goal.returns-clause-holds
@@ -53,9 +53,9 @@ returns-clause-holds c = seen-held c.put_entry.new.nodes.slots c.put_entry.new.i
 
 pub returns-in_err-make_room-clause-holds : goal.returns-in_err-make_room-clause-holds
 returns-in_err-make_room-clause-holds c =
-    seen-unchanged c.self.inside.nodes.slots c.make_room.new.nodes.slots c.self.inside.ids.slots c.make_room.new.ids.slots c.args.pool.now c.make_room.ensures.nodes c.make_room.ensures.ids (subst (λ d. Holds c.args.pool.now d) (sym c.self.view_is) c.requires.holds)
+    seen-unchanged c.self.inside.nodes.slots c.make_room.new.nodes.slots c.self.inside.ids.slots c.self.inside.ids.slots c.args.pool.now c.make_room.ensures.nodes refl (subst (λ d. Holds c.args.pool.now d) (sym c.self.view_is) c.requires.holds)
 
 pub returns-in_err-reserve-clause-holds : goal.returns-in_err-reserve-clause-holds
 returns-in_err-reserve-clause-holds c =
-    let same = seen-unchanged c.self.inside.nodes.slots c.make_room.new.nodes.slots c.self.inside.ids.slots c.make_room.new.ids.slots c.args.pool.now c.make_room.ensures.nodes c.make_room.ensures.ids (subst (λ d. Holds c.args.pool.now d) (sym c.self.view_is) c.requires.holds) in
+    let same = seen-unchanged c.self.inside.nodes.slots c.make_room.new.nodes.slots c.self.inside.ids.slots c.self.inside.ids.slots c.args.pool.now c.make_room.ensures.nodes refl (subst (λ d. Holds c.args.pool.now d) (sym c.self.view_is) c.requires.holds) in
     rw c.in_err-reserve.ensures.err same
