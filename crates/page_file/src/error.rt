@@ -6,15 +6,19 @@ ghost use Rattle.page_file.specs.Errors.{page_error};
 use byte_codec::NoMemory;
 use disk_model::DiskError;
 use std::alloc::AllocError;
+use thiserror::Error;
 
 /// Why a call on a page file failed.
-#[derive(Clone, Copy, Debug, PartialEq, Eq)]
+#[derive(Clone, Copy, Debug, PartialEq, Eq, Error)]
 pub enum PageError {
     /// The page file of this number is absent, or its bytes are no page file.
+    #[error("page file {0} is absent or bad")]
     BadPage(u64),
     /// The disk failed, and has counted that.
+    #[error("the disk failed")]
     Fault,
     /// Memory ran out.
+    #[error("memory ran out")]
     Memory,
 }
 

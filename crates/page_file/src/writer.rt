@@ -1,11 +1,13 @@
 //! Writing a page file.
-ghost use Rattle.std.specs.Prelude.{◌≡◌, ◌+◌, ◌<◌, ◌++◌, [], true, length, IsTrue, OnOk, IfOk, IsErr, IsErrOf};
+ghost use Rattle.std.specs.Prelude.{◌≡◌, ◌⊎◌, ◌+◌, ◌<◌, ◌++◌, [], true, length, IsTrue, OnOk, IfOk, IsErr, IsErrOf};
 ghost use Rattle.format_spec.specs.declared.limits.TheConstants.{PAGE_SIZE};
 ghost use Rattle.format_spec.specs.Bytes.{Bytes};
 ghost use Rattle.store_spec.specs.PageFile.{index_length};
 ghost use Rattle.disk_model.specs.declared.name.Name.TheVariants.{Page};
 ghost use Rattle.disk_model.specs.Files.{same_name};
 ghost use Rattle.disk_model.specs.State.{IsAbsent, IsLoose, IsSettled};
+ghost use Rattle.disk_model.specs.Call.{create};
+ghost use Rattle.disk_model.specs.View.{Done};
 ghost use Rattle.disk_model.specs.Frame.{TouchesOnly};
 ghost use Rattle.page_file.specs.Errors.{HasCause, NoBadPage};
 ghost use Rattle.page_file.specs.Files.{IsWriting, IsFinished};
@@ -37,7 +39,8 @@ impl Model for PageWriter {
 
 impl PageWriter {
     /// Begins a page file: creates it and appends what stands before the pages. There is no file of this number yet.
-    /// Fault where the disk failed, Memory where memory ran out.
+    /// Fault where the disk failed: then there is no such file, or it is loose. Memory where memory ran out: then the disk is as before, or has the
+    /// file, empty and loose.
     pub fn begin<D: Disk>(
         alloc: Global,
         disk: &mut D,
@@ -49,6 +52,7 @@ impl PageWriter {
         ensures writer { IfOk result (λ writer. writer ≡ record { number = number; index = index; added = 0 }) }
         ensures begun { IsTrue D.tells → IfOk result (λ writer. IsWriting writer [] (D.view disk.new).state) }
         ensures loose { IsTrue D.tells → IsErrOf result PageError.Fault → (D.view disk.new).state.loose (Page number) ≡ true }
+        ensures memory { IsTrue D.tells → IsErrOf result PageError.Memory → (D.view disk.new ≡ D.view disk.old) ⊎ Done (create (Page number)) (D.view disk.old) (D.view disk.new) }
         ensures appended { IsTrue D.tells → OnOk result ((D.view disk.new).appended ≡ (D.view disk.old).appended + index_length index) }
         ensures read { IsTrue D.tells → (D.view disk.new).bytes_read ≡ (D.view disk.old).bytes_read }
         ensures touches { IsTrue D.tells → TouchesOnly (same_name (Page number)) (D.view disk.old) (D.view disk.new) }
@@ -68,7 +72,7 @@ impl PageWriter {
     }
 
     /// Adds the bytes of the next page of the index. Fewer than all were added, and the file is as this writer left it.
-    /// Fault where the disk failed, Memory where memory ran out.
+    /// Fault where the disk failed, Memory where memory ran out: then the disk is as before.
     pub fn add<D: Disk>(
         &mut self,
         alloc: Global,
@@ -82,6 +86,7 @@ impl PageWriter {
         ensures added { IsTrue D.tells → OnOk result ((pages : Bytes) → IsWriting self.old pages (D.view disk.old).state → IsWriting self.new (pages ++ page.now) (D.view disk.new).state) }
         ensures there { IsTrue D.tells → OnOk result (IsLoose (D.view disk.new).state (Page self.old.number)) }
         ensures loose { IsTrue D.tells → (D.view disk.new).state.loose (Page self.old.number) ≡ true }
+        ensures memory { IsTrue D.tells → IsErrOf result PageError.Memory → D.view disk.new ≡ D.view disk.old }
         ensures appended { IsTrue D.tells → OnOk result ((D.view disk.new).appended ≡ (D.view disk.old).appended + PAGE_SIZE) }
         ensures read { IsTrue D.tells → (D.view disk.new).bytes_read ≡ (D.view disk.old).bytes_read }
         ensures touches { IsTrue D.tells → TouchesOnly (same_name (Page self.old.number)) (D.view disk.old) (D.view disk.new) }
@@ -94,7 +99,7 @@ impl PageWriter {
         Ok(())
     }
 
-    /// Seals the file, to which all pages were added. Fault where the disk failed, Memory where memory ran out.
+    /// Seals the file, to which all pages were added. Fault where the disk failed, Memory where memory ran out: then the disk is as before.
     pub fn finish<D: Disk>(self, alloc: Global, disk: &mut D) -> Result<PageFile, PageError>
         requires all { self.added ≡ length self.index.numbers }
         requires loose { IsTrue D.tells → IsLoose (D.view disk.old).state (Page self.number) }
@@ -102,6 +107,7 @@ impl PageWriter {
         ensures file { IfOk result (λ file. file ≡ record { number = self.number; index = self.index }) }
         ensures finished { IsTrue D.tells → IfOk result (λ file. (pages : Bytes) → IsWriting self pages (D.view disk.old).state → IsFinished file pages (D.view disk.new).state) }
         ensures loose { IsTrue D.tells → IsErr result → (D.view disk.new).state.loose (Page self.number) ≡ true }
+        ensures memory { IsTrue D.tells → IsErrOf result PageError.Memory → D.view disk.new ≡ D.view disk.old }
         ensures appended { IsTrue D.tells → OnOk result ((D.view disk.new).appended ≡ (D.view disk.old).appended) }
         ensures read { IsTrue D.tells → (D.view disk.new).bytes_read ≡ (D.view disk.old).bytes_read }
         ensures touches { IsTrue D.tells → TouchesOnly (same_name (Page self.number)) (D.view disk.old) (D.view disk.new) }
