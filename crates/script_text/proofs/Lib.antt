@@ -1,9 +1,8 @@
 pub mod Each
-pub mod Fits
 pub mod Hashes
 pub mod Ids
 pub mod Joined
 pub mod Lines
 pub mod Numerals
+pub mod OtherWords
 pub mod PathCounts
-pub mod WordCounts

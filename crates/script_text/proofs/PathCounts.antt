@@ -2,7 +2,8 @@
 use Rattle.std.proofs.Common.{◌≡◌, ◌≤◌, ◌&&◌, nat_le, ℕ, suc, Bool, true, false, List, [], ◌∷◌, length, map, Option, Some, None, refl, ◌∙◌, ap, sym}
 use Rattle.std.proofs.lemmas.Bool.{leb-true}
 use Rattle.std.proofs.lemmas.List.{length-map}
-use Rattle.std.specs.Option.{option_and_then}
+use Rattle.std.specs.Option.{IfSome, option_and_then}
+use Rattle.std.specs.Prelude.{if◌then◌else◌}
 use Rattle.format_spec.specs.Bytes.{Bytes}
 use Rattle.format_spec.specs.declared.limits.TheConstants.{MAX_PATHS}
 use Rattle.script_text.specs.Words.{each_of, onto, path_of, is_path_count, paths_of, such_that}
@@ -46,3 +47,14 @@ pub some_paths : {W : Type 0} (bytes : W → Bytes) (words : List W) (paths : Li
 some_paths bytes words paths h e =
     let same = length-each path_of (map bytes words) paths (sym e) ∙ length-map words bytes in
     rw (← e, ap is_path_count same ∙ h) refl
+
+pub paths_within : (words : List Bytes) → IfSome (paths_of words) (λ paths. (1 ≤ length paths) × (length paths ≤ MAX_PATHS))
+paths_within words = within (each_of path_of words)
+  where
+    counted : (paths : List (List Bytes)) (good : Bool) → is_path_count (length paths) ≡ good → IfSome (if good then Some paths else None) (λ found. (1 ≤ length found) × (length found ≤ MAX_PATHS))
+    counted paths true e = path_count (length paths) e
+    counted paths false e = tt
+
+    within : (found : Option (List (List Bytes))) → IfSome (such_that (λ paths. is_path_count (length paths)) found) (λ paths. (1 ≤ length paths) × (length paths ≤ MAX_PATHS))
+    within None = tt
+    within (Some paths) = counted paths (is_path_count (length paths)) refl

@@ -1,3 +1,5 @@
+//! What lines ask for.
+
 use crate::path_list::Paths;
 use byte_codec::Blob;
 use hash_domain::Hash32;

@@ -1,10 +1,10 @@
 //! The forms of lines: the words behind the first one, read.
 
 ghost use Rattle.std.specs.Prelude.{◌≡◌, IfOk, map};
-ghost use Rattle.script_text.specs.Commands.{canister_of, drop_of, grow_of, write_of, module_command_of, certify_of};
+ghost use Rattle.script_text.specs.Commands.{alone as alone_of, canister_of, drop_of, grow_of, write_of, module_command_of, certify_of};
 ghost use Rattle.script_text.specs.Commands.{time_of, put_of, del_of, read_of, forget_of};
 ghost use Rattle.script_text.specs.Commands.{root_of, scratch_of, tree_of, manifest_of, purge_of, reset_of};
-ghost use Rattle.script_text.specs.Commands.{witness_of, check_of};
+ghost use Rattle.script_text.specs.Commands.{witness_of, check_of, FitsForm, FoundFits};
 
 use crate::command::Command;
 use crate::paths::{read_path, read_paths};
@@ -17,25 +17,37 @@ use format_spec::{MAX_CERTIFIED, MAX_READ, MAX_VALUE};
 use std::alloc::Global;
 
 /// `canister ID`
-pub fn canister(id: &[u8]) -> Option<Command>
-    ensures { result ≡ canister_of id.now }
+pub fn canister(rest: &[&[u8]]) -> Option<Command>
+    ensures command { result ≡ canister_of (map (λ word. word.now) rest.now) }
+    ensures fits { FoundFits result }
 {
+    let [id] = rest else {
+        return None;
+    };
     let id = read_id(id)?;
     Some(Command::Canister { id })
 }
 
 /// `drop ID`
-pub fn drop(id: &[u8]) -> Option<Command>
-    ensures { result ≡ drop_of id.now }
+pub fn drop(rest: &[&[u8]]) -> Option<Command>
+    ensures command { result ≡ drop_of (map (λ word. word.now) rest.now) }
+    ensures fits { FoundFits result }
 {
+    let [id] = rest else {
+        return None;
+    };
     let id = read_id(id)?;
     Some(Command::Remove { id })
 }
 
 /// `grow ID MEM N`
-pub fn grow(id: &[u8], mem: &[u8], pages: &[u8]) -> Option<Command>
-    ensures { result ≡ grow_of id.now mem.now pages.now }
+pub fn grow(rest: &[&[u8]]) -> Option<Command>
+    ensures command { result ≡ grow_of (map (λ word. word.now) rest.now) }
+    ensures fits { FoundFits result }
 {
+    let [id, mem, pages] = rest else {
+        return None;
+    };
     let id = read_id(id)?;
     let mem = read_mem(mem)?;
     let pages = read_number(pages)?;
@@ -43,15 +55,13 @@ pub fn grow(id: &[u8], mem: &[u8], pages: &[u8]) -> Option<Command>
 }
 
 /// `write ID MEM OFFSET HEX`
-pub fn write(
-    alloc: Global,
-    id: &[u8],
-    mem: &[u8],
-    offset: &[u8],
-    bytes: &[u8],
-) -> Result<Option<Command>, NoMemory>
-    ensures { IfOk result (λ found. found ≡ write_of id.now mem.now offset.now bytes.now) }
+pub fn write(alloc: Global, rest: &[&[u8]]) -> Result<Option<Command>, NoMemory>
+    ensures command { IfOk result (λ found. found ≡ write_of (map (λ word. word.now) rest.now)) }
+    ensures fits { IfOk result FoundFits }
 {
+    let [id, mem, offset, bytes] = rest else {
+        return Ok(None);
+    };
     let Some(id) = read_id(id) else {
         return Ok(None);
     };
@@ -73,9 +83,13 @@ pub fn write(
 }
 
 /// `module ID HEX` and `module ID none`
-pub fn module(alloc: Global, id: &[u8], bytes: &[u8]) -> Result<Option<Command>, NoMemory>
-    ensures { IfOk result (λ found. found ≡ module_command_of id.now bytes.now) }
+pub fn module(alloc: Global, rest: &[&[u8]]) -> Result<Option<Command>, NoMemory>
+    ensures command { IfOk result (λ found. found ≡ module_command_of (map (λ word. word.now) rest.now)) }
+    ensures fits { IfOk result FoundFits }
 {
+    let [id, bytes] = rest else {
+        return Ok(None);
+    };
     let Some(id) = read_id(id) else {
         return Ok(None);
     };
@@ -86,9 +100,13 @@ pub fn module(alloc: Global, id: &[u8], bytes: &[u8]) -> Result<Option<Command>,
 }
 
 /// `certify ID HEX`
-pub fn certify(alloc: Global, id: &[u8], bytes: &[u8]) -> Result<Option<Command>, NoMemory>
-    ensures { IfOk result (λ found. found ≡ certify_of id.now bytes.now) }
+pub fn certify(alloc: Global, rest: &[&[u8]]) -> Result<Option<Command>, NoMemory>
+    ensures command { IfOk result (λ found. found ≡ certify_of (map (λ word. word.now) rest.now)) }
+    ensures fits { IfOk result FoundFits }
 {
+    let [id, bytes] = rest else {
+        return Ok(None);
+    };
     let Some(id) = read_id(id) else {
         return Ok(None);
     };
@@ -99,17 +117,25 @@ pub fn certify(alloc: Global, id: &[u8], bytes: &[u8]) -> Result<Option<Command>
 }
 
 /// `time N`
-pub fn time(time: &[u8]) -> Option<Command>
-    ensures { result ≡ time_of time.now }
+pub fn time(rest: &[&[u8]]) -> Option<Command>
+    ensures command { result ≡ time_of (map (λ word. word.now) rest.now) }
+    ensures fits { FoundFits result }
 {
+    let [time] = rest else {
+        return None;
+    };
     let time = read_number(time)?;
     Some(Command::Time { time })
 }
 
 /// `put PATH HEX`
-pub fn put(alloc: Global, path: &[u8], value: &[u8]) -> Result<Option<Command>, NoMemory>
-    ensures { IfOk result (λ found. found ≡ put_of path.now value.now) }
+pub fn put(alloc: Global, rest: &[&[u8]]) -> Result<Option<Command>, NoMemory>
+    ensures command { IfOk result (λ found. found ≡ put_of (map (λ word. word.now) rest.now)) }
+    ensures fits { IfOk result FoundFits }
 {
+    let [path, value] = rest else {
+        return Ok(None);
+    };
     let Some(path) = read_path(alloc, path)? else {
         return Ok(None);
     };
@@ -120,9 +146,13 @@ pub fn put(alloc: Global, path: &[u8], value: &[u8]) -> Result<Option<Command>, 
 }
 
 /// `del PATH`
-pub fn del(alloc: Global, path: &[u8]) -> Result<Option<Command>, NoMemory>
-    ensures { IfOk result (λ found. found ≡ del_of path.now) }
+pub fn del(alloc: Global, rest: &[&[u8]]) -> Result<Option<Command>, NoMemory>
+    ensures command { IfOk result (λ found. found ≡ del_of (map (λ word. word.now) rest.now)) }
+    ensures fits { IfOk result FoundFits }
 {
+    let [path] = rest else {
+        return Ok(None);
+    };
     let Some(path) = read_path(alloc, path)? else {
         return Ok(None);
     };
@@ -130,9 +160,13 @@ pub fn del(alloc: Global, path: &[u8]) -> Result<Option<Command>, NoMemory>
 }
 
 /// `read HL ID MEM OFFSET LEN`
-pub fn read(at: &[u8], id: &[u8], mem: &[u8], offset: &[u8], len: &[u8]) -> Option<Command>
-    ensures { result ≡ read_of at.now id.now mem.now offset.now len.now }
+pub fn read(rest: &[&[u8]]) -> Option<Command>
+    ensures command { result ≡ read_of (map (λ word. word.now) rest.now) }
+    ensures fits { FoundFits result }
 {
+    let [at, id, mem, offset, len] = rest else {
+        return None;
+    };
     let at = read_at(at)?;
     let id = read_id(id)?;
     let mem = read_mem(mem)?;
@@ -148,65 +182,97 @@ pub fn read(at: &[u8], id: &[u8], mem: &[u8], offset: &[u8], len: &[u8]) -> Opti
 }
 
 /// `forget H`
-pub fn forget(height: &[u8]) -> Option<Command>
-    ensures { result ≡ forget_of height.now }
+pub fn forget(rest: &[&[u8]]) -> Option<Command>
+    ensures command { result ≡ forget_of (map (λ word. word.now) rest.now) }
+    ensures fits { FoundFits result }
 {
+    let [height] = rest else {
+        return None;
+    };
     let height = read_height(height)?;
     Some(Command::Forget { height })
 }
 
 /// `root HL`
-pub fn root(at: &[u8]) -> Option<Command>
-    ensures { result ≡ root_of at.now }
+pub fn root(rest: &[&[u8]]) -> Option<Command>
+    ensures command { result ≡ root_of (map (λ word. word.now) rest.now) }
+    ensures fits { FoundFits result }
 {
+    let [at] = rest else {
+        return None;
+    };
     let at = read_at(at)?;
     Some(Command::Root { at })
 }
 
 /// `scratch HL`
-pub fn scratch(at: &[u8]) -> Option<Command>
-    ensures { result ≡ scratch_of at.now }
+pub fn scratch(rest: &[&[u8]]) -> Option<Command>
+    ensures command { result ≡ scratch_of (map (λ word. word.now) rest.now) }
+    ensures fits { FoundFits result }
 {
+    let [at] = rest else {
+        return None;
+    };
     let at = read_at(at)?;
     Some(Command::Scratch { at })
 }
 
 /// `tree HL`
-pub fn tree(at: &[u8]) -> Option<Command>
-    ensures { result ≡ tree_of at.now }
+pub fn tree(rest: &[&[u8]]) -> Option<Command>
+    ensures command { result ≡ tree_of (map (λ word. word.now) rest.now) }
+    ensures fits { FoundFits result }
 {
+    let [at] = rest else {
+        return None;
+    };
     let at = read_at(at)?;
     Some(Command::Tree { at })
 }
 
 /// `manifest HL`
-pub fn manifest(at: &[u8]) -> Option<Command>
-    ensures { result ≡ manifest_of at.now }
+pub fn manifest(rest: &[&[u8]]) -> Option<Command>
+    ensures command { result ≡ manifest_of (map (λ word. word.now) rest.now) }
+    ensures fits { FoundFits result }
 {
+    let [at] = rest else {
+        return None;
+    };
     let at = read_at(at)?;
     Some(Command::Manifest { at })
 }
 
 /// `purge H`
-pub fn purge(height: &[u8]) -> Option<Command>
-    ensures { result ≡ purge_of height.now }
+pub fn purge(rest: &[&[u8]]) -> Option<Command>
+    ensures command { result ≡ purge_of (map (λ word. word.now) rest.now) }
+    ensures fits { FoundFits result }
 {
+    let [height] = rest else {
+        return None;
+    };
     let height = read_height(height)?;
     Some(Command::Purge { height })
 }
 
 /// `reset H`
-pub fn reset(height: &[u8]) -> Option<Command>
-    ensures { result ≡ reset_of height.now }
+pub fn reset(rest: &[&[u8]]) -> Option<Command>
+    ensures command { result ≡ reset_of (map (λ word. word.now) rest.now) }
+    ensures fits { FoundFits result }
 {
+    let [height] = rest else {
+        return None;
+    };
     let height = read_height(height)?;
     Some(Command::Reset { height })
 }
 
 /// `witness HL PATH ..`
-pub fn witness(alloc: Global, at: &[u8], paths: &[&[u8]]) -> Result<Option<Command>, NoMemory>
-    ensures { IfOk result (λ found. found ≡ witness_of at.now (map (λ word. word.now) paths.now)) }
+pub fn witness(alloc: Global, rest: &[&[u8]]) -> Result<Option<Command>, NoMemory>
+    ensures command { IfOk result (λ found. found ≡ witness_of (map (λ word. word.now) rest.now)) }
+    ensures fits { IfOk result FoundFits }
 {
+    let [at, paths @ ..] = rest else {
+        return Ok(None);
+    };
     let Some(at) = read_at(at) else {
         return Ok(None);
     };
@@ -217,14 +283,13 @@ pub fn witness(alloc: Global, at: &[u8], paths: &[&[u8]]) -> Result<Option<Comma
 }
 
 /// `check ROOT HEX PATH`
-pub fn check(
-    alloc: Global,
-    root: &[u8],
-    bytes: &[u8],
-    path: &[u8],
-) -> Result<Option<Command>, NoMemory>
-    ensures { IfOk result (λ found. found ≡ check_of root.now bytes.now path.now) }
+pub fn check(alloc: Global, rest: &[&[u8]]) -> Result<Option<Command>, NoMemory>
+    ensures command { IfOk result (λ found. found ≡ check_of (map (λ word. word.now) rest.now)) }
+    ensures fits { IfOk result FoundFits }
 {
+    let [root, bytes, path] = rest else {
+        return Ok(None);
+    };
     let Some(root) = read_hash(root) else {
         return Ok(None);
     };
@@ -235,4 +300,13 @@ pub fn check(
         return Ok(None);
     };
     Ok(Some(Command::Check { root, bytes, path }))
+}
+
+/// A line of one word.
+pub fn alone(command: Command, rest: &[&[u8]]) -> Option<Command>
+    requires fits { FitsForm command }
+    ensures command { result ≡ alone_of command (map (λ word. word.now) rest.now) }
+    ensures fits { FoundFits result }
+{
+    if rest.is_empty() { Some(command) } else { None }
 }

@@ -3,7 +3,6 @@
 
 mod command;
 mod forms;
-mod keywords;
 mod numbers;
 mod parsing;
 mod path_list;

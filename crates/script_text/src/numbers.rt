@@ -1,3 +1,5 @@
+//! Numbers in replies.
+
 ghost use Rattle.std.specs.Prelude.{◌≡◌};
 
 use std::marker::Model;
@@ -8,7 +10,6 @@ pub struct Numbers {
     items: Vec<u64>,
 }
 
-// Contracts see the list.
 impl Model for Numbers {
     ghost use Rattle.std.specs.Prelude.{List, ℕ};
 

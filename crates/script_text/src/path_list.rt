@@ -1,3 +1,5 @@
+//! Paths in commands.
+
 ghost use Rattle.std.specs.Prelude.{◌≡◌};
 
 use std::marker::Model;
@@ -7,7 +9,6 @@ use sys_state::Path;
 #[derive(Debug, Drop)]
 pub struct Paths(Vec<Path>);
 
-// Contracts see the list.
 impl Model for Paths {
     ghost use Rattle.std.specs.Prelude.{List, ℕ};
 

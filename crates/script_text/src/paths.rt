@@ -1,7 +1,8 @@
 //! The paths of entries, read.
 
-ghost use Rattle.std.specs.Prelude.{◌≡◌, ◌==◌, IfOk, map, option_map};
+ghost use Rattle.std.specs.Prelude.{◌≡◌, ◌==◌, ◌≤◌, IfOk, IfSome, length, map, option_map};
 ghost use Rattle.std.specs.List.{list_all, slice_split};
+ghost use Rattle.format_spec.specs.declared.limits.TheConstants.{MAX_PATHS};
 ghost use Rattle.state_spec.specs.State.{is_label};
 ghost use Rattle.byte_codec.specs.Hex.{bytes_of_hex};
 ghost use Rattle.script_text.specs.Words.{is_label_byte, plain_label, such_that, label_of, each_of, path_by, path_of, is_path_count, paths_of};
@@ -135,7 +136,8 @@ fn read_each_path(alloc: Global, words: &[&[u8]]) -> Result<Option<Vec<Path>>, N
 
 /// 1 to 64 paths, one a word.
 pub fn read_paths(alloc: Global, words: &[&[u8]]) -> Result<Option<Paths>, NoMemory>
-    ensures { IfOk result (λ paths. paths ≡ paths_of (map (λ word. word.now) words.now)) }
+    ensures paths { IfOk result (λ found. found ≡ paths_of (map (λ word. word.now) words.now)) }
+    ensures within { IfOk result (λ found. IfSome found (λ paths. (1 ≤ length paths) × (length paths ≤ MAX_PATHS))) }
 {
     if !is_good_count(words.len()) {
         return Ok(None);

@@ -1,3 +1,5 @@
+//! What lines are answered.
+
 use crate::numbers::Numbers;
 use byte_codec::Blob;
 use hash_domain::Hash32;

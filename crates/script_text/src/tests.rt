@@ -67,7 +67,8 @@ const BAD: &[&str] = &[
 
 fn check(rt: &impl Abort, alloc: Global, lines: &[&str], fits: bool) -> Result<(), Fail> {
     for line in lines {
-        assert_eq!(rt; parse(alloc, line.as_bytes())?.is_some(), fits);
+        let line = parse_line(alloc, line.as_bytes())?;
+        assert_eq!(rt; matches!(line, Parsed::Line(_)), fits);
     }
     Ok(())
 }
@@ -88,9 +89,7 @@ fn lines_fit_their_forms(rt: HostRuntime) -> Result<(), Fail> {
 }
 
 fn check_text(rt: &impl Abort, alloc: Global, reply: &Reply, text: &str) -> Result<(), Fail> {
-    let mut out = Vec::new(alloc);
-    write_reply(alloc, reply, &mut out)?;
-    assert_eq!(rt; out.as_slice(), text.as_bytes());
+    assert_eq!(rt; reply_text(alloc, reply)?.bytes(), text.as_bytes());
     Ok(())
 }
 

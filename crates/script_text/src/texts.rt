@@ -6,7 +6,7 @@ ghost use Rattle.hex.specs.Hex.{encode_lower};
 ghost use Rattle.script_text.specs.Texts.{hex_or_dash, numbers_text, refusal_text, reply_text as text_of, bad_line_text};
 
 use crate::reply::{Refusal, Reply};
-use byte_codec::{Blob, NoMemory, hex_text};
+use byte_codec::{Blob, NoMemory};
 use hash_domain::Hash32;
 use itoa::Buffer;
 use std::alloc::Global;
@@ -18,16 +18,28 @@ fn write_number(number: u64, out: &mut Vec<u8>) -> Result<(), NoMemory>
     Ok(())
 }
 
+// Two digits for each byte.
+fn write_digits(bytes: &[u8], out: &mut Vec<u8>) -> Result<(), NoMemory>
+    ensures { OnOk result (out.new.items ≡ out.old.items ++ encode_lower bytes.now) }
+{
+    let start = out.len();
+    let Some(end) = start.checked_add(bytes.len() * 2) else {
+        return Err(NoMemory);
+    };
+    out.resize(end, 0)?;
+    hex::encode_to_slice(bytes, &mut out[start..]).unwrap();
+    Ok(())
+}
+
 // Hexadecimal, or `-` for no bytes.
-fn write_hex(alloc: Global, bytes: &[u8], out: &mut Vec<u8>) -> Result<(), NoMemory>
+fn write_hex(bytes: &[u8], out: &mut Vec<u8>) -> Result<(), NoMemory>
     ensures { OnOk result (out.new.items ≡ out.old.items ++ hex_or_dash bytes.now) }
 {
     if bytes.is_empty() {
         out.push(b'-')?;
         return Ok(());
     }
-    out.extend_from_slice(hex_text(alloc, bytes)?.bytes())?;
-    Ok(())
+    write_digits(bytes, out)
 }
 
 // A name and a number.
@@ -69,23 +81,22 @@ fn write_list(name: &[u8], numbers: &[u64], out: &mut Vec<u8>) -> Result<(), NoM
 }
 
 // A name and hexadecimal.
-fn write_hash(alloc: Global, name: &[u8], hash: &Hash32, out: &mut Vec<u8>) -> Result<(), NoMemory>
+fn write_hash(name: &[u8], hash: &Hash32, out: &mut Vec<u8>) -> Result<(), NoMemory>
     ensures { OnOk result (out.new.items ≡ out.old.items ++ (name.now ++ encode_lower hash.now)) }
 {
     out.extend_from_slice(name)?;
-    out.extend_from_slice(hex_text(alloc, hash.bytes())?.bytes())?;
-    Ok(())
+    write_digits(hash.bytes(), out)
 }
 
 // A name and bytes.
-fn write_bytes(alloc: Global, name: &[u8], bytes: &Blob, out: &mut Vec<u8>) -> Result<(), NoMemory>
+fn write_bytes(name: &[u8], bytes: &Blob, out: &mut Vec<u8>) -> Result<(), NoMemory>
     ensures { OnOk result (out.new.items ≡ out.old.items ++ (name.now ++ hex_or_dash bytes.now)) }
 {
     out.extend_from_slice(name)?;
-    write_hex(alloc, bytes.bytes(), out)
+    write_hex(bytes.bytes(), out)
 }
 
-fn write_refusal(alloc: Global, refusal: &Refusal, out: &mut Vec<u8>) -> Result<(), NoMemory>
+fn write_refusal(refusal: &Refusal, out: &mut Vec<u8>) -> Result<(), NoMemory>
     ensures { OnOk result (out.new.items ≡ out.old.items ++ refusal_text refusal.now) }
 {
     match refusal {
@@ -106,28 +117,23 @@ fn write_refusal(alloc: Global, refusal: &Refusal, out: &mut Vec<u8>) -> Result<
         Refusal::ManyMarks => out.extend_from_slice(b"ManyMarks")?,
         Refusal::LastHeight => out.extend_from_slice(b"LastHeight")?,
         Refusal::BadWitness(place) => write_count(b"BadWitness ", *place, out)?,
-        Refusal::WrongRoot(found) => write_hash(alloc, b"WrongRoot ", found, out)?,
+        Refusal::WrongRoot(found) => write_hash(b"WrongRoot ", found, out)?,
     }
     Ok(())
 }
 
-fn write_round(alloc: Global, height: u64, tree: &Hash32, out: &mut Vec<u8>) -> Result<(), NoMemory>
+fn write_round(height: u64, tree: &Hash32, out: &mut Vec<u8>) -> Result<(), NoMemory>
     ensures { OnOk result (out.new.items ≡ out.old.items ++ text_of (Reply.Round height tree.now)) }
 {
     write_count(b"round ", height, out)?;
-    write_hash(alloc, b" tree ", tree, out)
+    write_hash(b" tree ", tree, out)
 }
 
-fn write_published(
-    alloc: Global,
-    height: u64,
-    root: &Hash32,
-    out: &mut Vec<u8>,
-) -> Result<(), NoMemory>
+fn write_published(height: u64, root: &Hash32, out: &mut Vec<u8>) -> Result<(), NoMemory>
     ensures { OnOk result (out.new.items ≡ out.old.items ++ text_of (Reply.Published height root.now)) }
 {
     write_count(b"published ", height, out)?;
-    write_hash(alloc, b" root ", root, out)
+    write_hash(b" root ", root, out)
 }
 
 fn write_heights(
@@ -161,36 +167,36 @@ fn write_manifest(
 }
 
 /// Appends the text of a reply, without a line feed.
-pub fn write_reply(alloc: Global, reply: &Reply, out: &mut Vec<u8>) -> Result<(), NoMemory>
+pub fn write_reply(reply: &Reply, out: &mut Vec<u8>) -> Result<(), NoMemory>
     ensures { OnOk result (out.new.items ≡ out.old.items ++ text_of reply.now) }
 {
     match reply {
         Reply::Fine => out.extend_from_slice(b"ok")?,
-        Reply::Bytes(bytes) => write_bytes(alloc, b"data ", bytes, out)?,
-        Reply::Round { height, tree } => write_round(alloc, *height, tree, out)?,
-        Reply::Published { height, root } => write_published(alloc, *height, root, out)?,
+        Reply::Bytes(bytes) => write_bytes(b"data ", bytes, out)?,
+        Reply::Round { height, tree } => write_round(*height, tree, out)?,
+        Reply::Published { height, root } => write_published(*height, root, out)?,
         Reply::Heights {
             live,
             memory,
             published,
         } => write_heights(*live, memory.items(), published.items(), out)?,
-        Reply::Root(root) => write_hash(alloc, b"root ", root, out)?,
-        Reply::Scratch(root) => write_hash(alloc, b"scratch ", root, out)?,
-        Reply::Tree(root) => write_hash(alloc, b"tree ", root, out)?,
+        Reply::Root(root) => write_hash(b"root ", root, out)?,
+        Reply::Scratch(root) => write_hash(b"scratch ", root, out)?,
+        Reply::Tree(root) => write_hash(b"tree ", root, out)?,
         Reply::Manifest {
             files,
             chunks,
             pieces,
             bytes,
         } => write_manifest(*files, *chunks, *pieces, *bytes, out)?,
-        Reply::Witness(bytes) => write_bytes(alloc, b"witness ", bytes, out)?,
-        Reply::Found(bytes) => write_bytes(alloc, b"found ", bytes, out)?,
+        Reply::Witness(bytes) => write_bytes(b"witness ", bytes, out)?,
+        Reply::Found(bytes) => write_bytes(b"found ", bytes, out)?,
         Reply::Absent => out.extend_from_slice(b"absent")?,
         Reply::Unknown => out.extend_from_slice(b"unknown")?,
         Reply::Error => out.extend_from_slice(b"error")?,
         Reply::Refused(refusal) => {
             out.extend_from_slice(b"refused ")?;
-            write_refusal(alloc, refusal, out)?;
+            write_refusal(refusal, out)?;
         }
     }
     Ok(())
@@ -201,7 +207,7 @@ pub fn reply_text(alloc: Global, reply: &Reply) -> Result<Blob, NoMemory>
     ensures { IfOk result (λ text. text ≡ text_of reply.now) }
 {
     let mut text = Vec::new(alloc);
-    write_reply(alloc, reply, &mut text)?;
+    write_reply(reply, &mut text)?;
     Ok(Blob::from_vec(text))
 }
 

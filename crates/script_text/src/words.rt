@@ -1,7 +1,8 @@
 //! The words of a line, read.
 
-ghost use Rattle.std.specs.Prelude.{◌≡◌, IfOk, map};
+ghost use Rattle.std.specs.Prelude.{◌≡◌, ◌≤◌, IfOk, IfSome, length, map};
 ghost use Rattle.std.specs.List.{list_all};
+ghost use Rattle.format_spec.specs.declared.limits.TheConstants.{MAX_MODULE};
 ghost use Rattle.byte_codec.specs.Hex.{is_lower_digit};
 ghost use Rattle.script_text.specs.Script.{words};
 ghost use Rattle.script_text.specs.Words.{is_digit, is_number, number_of, number_up_to, hex_of, hex_up_to, id_of, hash_of, mem_of};
@@ -139,7 +140,8 @@ pub fn read_at(word: &[u8]) -> Option<HeightOrLive>
 
 /// A number that is at most this.
 pub fn read_number_up_to(most: u64, word: &[u8]) -> Option<u64>
-    ensures { result ≡ number_up_to most word.now }
+    ensures number { result ≡ number_up_to most word.now }
+    ensures within { IfSome result (λ number. number ≤ most) }
 {
     let number = read_number(word)?;
     if number <= most { Some(number) } else { None }
@@ -147,7 +149,8 @@ pub fn read_number_up_to(most: u64, word: &[u8]) -> Option<u64>
 
 /// At most so many bytes in hexadecimal, or `-` for none.
 pub fn read_hex_up_to(alloc: Global, most: usize, word: &[u8]) -> Result<Option<Blob>, NoMemory>
-    ensures { IfOk result (λ bytes. bytes ≡ hex_up_to most word.now) }
+    ensures bytes { IfOk result (λ found. found ≡ hex_up_to most word.now) }
+    ensures within { IfOk result (λ found. IfSome found (λ bytes. length bytes ≤ most)) }
 {
     let Some(bytes) = read_hex(alloc, word)? else {
         return Ok(None);
@@ -160,7 +163,8 @@ pub fn read_hex_up_to(alloc: Global, most: usize, word: &[u8]) -> Result<Option<
 
 /// A module in hexadecimal, or `none`.
 pub fn read_module(alloc: Global, word: &[u8]) -> Result<Option<Option<Blob>>, NoMemory>
-    ensures { IfOk result (λ found. found ≡ module_of word.now) }
+    ensures module { IfOk result (λ found. found ≡ module_of word.now) }
+    ensures within { IfOk result (λ found. IfSome found (λ known. IfSome known (λ wasm. length wasm ≤ MAX_MODULE))) }
 {
     if word == b"none".as_slice() {
         return Ok(Some(None));

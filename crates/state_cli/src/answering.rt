@@ -37,7 +37,7 @@ fn answer_command<D: Disk>(
         Ok(reply) => reply,
         Err(halt) => return Err(LineError::from(halt)),
     };
-    write_reply(alloc, &reply, out)?;
+    write_reply(&reply, out)?;
     out.push(b'\n')?;
     Ok(())
 }
