@@ -59,7 +59,6 @@ seen-adds n n' ids ids' id pages a = record {
   fresh = map-seen n ids id ∙ ap (map_below n) a.fresh;
   here = map-seen n' ids' id ∙ a.here;
   others = λ other ne. map-seen n' ids' other ∙ a.others other ne ∙ sym (map-seen n ids other);
-  held = λ slot. total-leaves slot n' ∙ a.held slot ∙ sym (total-leaves slot n);
 }
 
 -- what a tree has at a page stands in a node

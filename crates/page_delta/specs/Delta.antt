@@ -99,7 +99,6 @@ pub record Adds (old new : Deltas) (id : ℕ) (pages : Pages) : Type 0 where
   pub fresh : map_of old id ≡ None
   pub here : map_of new id ≡ Some pages
   pub others : (other : ℕ) → other ≢ id → map_of new other ≡ map_of old other
-  pub held : (slot : ℕ) → total (uses_in slot) new.leaves ≡ total (uses_in slot) old.leaves
 
 -- a page of one map has these bytes and this stamp, and nothing else reads otherwise
 pub record Sets (old_pool new_pool : Pool) (old new : Deltas) (id page : ℕ) (bytes : List ℕ) (stamp : ℕ) : Type 0 where

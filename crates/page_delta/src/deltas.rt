@@ -112,6 +112,7 @@ impl Deltas {
         ensures holds { Holds pool.new self.new }
         ensures pool { pool.new ≡ pool.old }
     {
+        // The pool is lent and not used, and a call on it tells the proof what it has.
         let _used = pool.used();
         let fork = fork_root(&mut self.nodes, &mut self.ids, id.0)?;
         Ok(DeltaId(fork))
