@@ -48,6 +48,22 @@ within_zero k n t e =
       | inr le ↦ let same : n % 128 + 128 ≡ 0 = (head_is (n % 128 + 128) 0 (leb_within k (n / 128)) t (sym (within_more k n le) ∙ e)).0 in absurd (omega arith)
     ]
 
+-- a spelling in front of a byte with its high bit set and more
+pub within_tail : (k n b : ℕ) (s rest : Bytes) → 128 ≤ b → b ∷ s ≡ leb_within (suc k) n ++ rest → (128 ≤ n) × (s ≡ leb_within k (n / 128) ++ rest)
+within_tail k n b s rest large e =
+    elim (cases_lt n 128) [
+      | inl lt ↦ let same : b ≡ n = (head_is b n s rest (e ∙ ap (λ (t : Bytes). t ++ rest) (within_last k n lt))).0 in absurd (omega arith)
+      | inr le ↦ (le, (head_is b (n % 128 + 128) s (leb_within k (n / 128) ++ rest) (e ∙ ap (λ (t : Bytes). t ++ rest) (within_more k n le))).1)
+    ]
+
+-- a spelling in front of a text that begins with 0 is that of 0
+pub within_front : (k n : ℕ) (s rest : Bytes) → 0 ∷ s ≡ leb_within (suc k) n ++ rest → n ≡ 0
+within_front k n s rest e =
+    elim (cases_lt n 128) [
+      | inl lt ↦ sym (head_is 0 n s rest (e ∙ ap (λ (t : Bytes). t ++ rest) (within_last k n lt))).0
+      | inr le ↦ let same : 0 ≡ n % 128 + 128 = (head_is 0 (n % 128 + 128) s (leb_within k (n / 128) ++ rest) (e ∙ ap (λ (t : Bytes). t ++ rest) (within_more k n le))).0 in absurd (omega arith)
+    ]
+
 -- ---- read
 
 pub tail_is : (s : Bytes) → take (length s - 1) (drop 1 s) ≡ drop 1 s
@@ -87,12 +103,20 @@ pub front_zero : (k size : ℕ) (s : Bytes) → 1 ≤ k → 1 ≤ length s → 1
 front_zero zero size s some full large found = absurd (omega arith)
 front_zero (suc k) size [] some full large found = absurd (omega arith)
 front_zero (suc k) size (b ∷ s) some full large found = (
-  suc size,
-  (let short : size ≤ length s = found.1 in omega arith),
-  λ n more lt e.
-      let r = within_rest (suc k) n b (take size s ++ more) large e in
+  (
+    suc size,
+    (let short : size ≤ length s = found.1 in omega arith),
+    λ n more lt e.
+        let r = within_rest (suc k) n b (take size s ++ more) large e in
+        let z : 0 ∷ [] ≡ take size s = found.2 in
+        let q : n / 128 ≡ 0 = within_zero k (n / 128) more (r.1 ∙ ap (λ (t : Bytes). t ++ more) (sym z)) in
+        absurd (let le : 128 ≤ n = r.0 in omega arith),
+  ),
+  λ n rest lt e.
+      let r = within_tail (suc k) n b s rest large e in
       let z : 0 ∷ [] ≡ take size s = found.2 in
-      let q : n / 128 ≡ 0 = within_zero k (n / 128) more (r.1 ∙ ap (λ (t : Bytes). t ++ more) (sym z)) in
+      let f : s ≡ 0 ∷ drop size s = sym (take-append-drop size s) ∙ ap (λ (t : Bytes). t ++ drop size s) (sym z) in
+      let q : n / 128 ≡ 0 = within_front k (n / 128) (drop size s) rest (sym f ∙ r.1) in
       absurd (let le : 128 ≤ n = r.0 in omega arith),
 )
 
@@ -113,18 +137,23 @@ front_refused Short k (b ∷ s) some full large byte found =
     )
 front_refused Long k (b ∷ s) some full large byte found =
     let limit = limit_more k some in (
-      suc found.0,
-      (let short : found.0 ≤ length s = found.1 in omega arith),
-      λ n more lt e.
-          let r = within_rest k n b (take found.0 s ++ more) large e in
-          found.2 (n / 128) more (let le : 128 ≤ n = r.0 in omega arith) r.1,
+      (
+        suc found.0.0,
+        (let short : found.0.0 ≤ length s = found.0.1 in omega arith),
+        λ n more lt e.
+            let r = within_rest k n b (take found.0.0 s ++ more) large e in
+            found.0.2 (n / 128) more (let le : 128 ≤ n = r.0 in omega arith) r.1,
+      ),
+      λ n rest lt e.
+          let r = within_tail k n b s rest large e in
+          found.1 (n / 128) rest (let le : 128 ≤ n = r.0 in omega arith) r.1,
     )
 
 -- the spelling in at most ten bytes is the spelling
 pub front_is : (e : LebError) (old : Cursor) → FindsLeb 10 old.rest (Err e) → ReadsLeb old old (Err e)
 unfolding leb
 front_is Short old found = ((found.0, found.1, found.3, found.4, found.5), refl)
-front_is Long old found = ((found.0, found.1, λ begins. found.2 begins.0 begins.1 begins.2 begins.3), refl)
+front_is Long old found = (((found.0.0, found.0.1, λ begins. found.0.2 begins.0 begins.1 begins.2 begins.3), λ n rest lt e. found.1 n rest lt e), refl)
 
 pub front_taken : (n size : ℕ) (old : Cursor) → FindsLeb 10 old.rest (Ok (n, size)) → ReadsLeb old (record { at = old.at + size; rest = drop size old.rest }) (Ok n)
 unfolding leb

@@ -1,3 +1,6 @@
 pub mod LebSteps
+pub mod LebAnswers
 pub mod HexDigits
 pub mod Strings
+pub mod Stops
+pub mod Judged

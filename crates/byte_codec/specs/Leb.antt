@@ -9,9 +9,11 @@ use Rattle.byte_codec.specs.declared.error.LebError.TheVariants.{Short, Long}
 abbrev pub IsCutLeb : Bytes → Type 0
 IsCutLeb s = (n : ℕ) × (more : Bytes) × (n < 2 ^ 64) × (leb n ≡ s ++ more) × (more ≢ [])
 
--- no shortest spelling begins with this front of the input, nor with all of it
+-- no shortest spelling begins with some front of the input, and none stands in front of it
 abbrev pub IsNoLeb : Bytes → Type 0
-IsNoLeb s = (k : ℕ) × (k ≤ length s) × (BeginsLeb (take k s) → ⊥)
+IsNoLeb s =
+    ((k : ℕ) × (k ≤ length s) × (BeginsLeb (take k s) → ⊥))
+    × ((n : ℕ) (rest : Bytes) → n < 2 ^ 64 → s ≡ leb n ++ rest → ⊥)
 
 -- the number whose spelling was taken; elsewhere the reader stays
 abbrev pub ReadsLeb : Cursor → Cursor → Result ℕ LebError → Type 0
@@ -32,5 +34,5 @@ FindsLeb k s (Ok found) =
 FindsLeb k s (Err Short) =
     (n : ℕ) × (more : Bytes) × (1 ≤ n) × (n < leb_limit k) × (leb_within k n ≡ s ++ more) × (more ≢ [])
 FindsLeb k s (Err Long) =
-    (j : ℕ) × (j ≤ length s)
-    × ((n : ℕ) (more : Bytes) → n < leb_limit k → leb_within k n ≡ take j s ++ more → ⊥)
+    ((j : ℕ) × (j ≤ length s) × ((n : ℕ) (more : Bytes) → n < leb_limit k → leb_within k n ≡ take j s ++ more → ⊥))
+    × ((n : ℕ) (rest : Bytes) → n < leb_limit k → s ≡ leb_within k n ++ rest → ⊥)

@@ -1,6 +1,7 @@
 //! Byte strings.
 
 ghost use Rattle.std.specs.Prelude.{◌≡◌, IfOk, bytes_eq};
+ghost use Rattle.format_spec.specs.Bytes.{IsBytes};
 ghost use Rattle.std.specs.Cmp.{partial_equiv_from_equiv};
 ghost use Rattle.std.specs.Cmp.Lexicographic.{nat_list_eq_equiv};
 
@@ -26,7 +27,8 @@ impl Model for Blob {
 impl Blob {
     /// A copy of these bytes.
     pub fn from_slice(alloc: Global, bytes: &[u8]) -> Result<Blob, NoMemory>
-        ensures { IfOk result (λ blob. blob ≡ bytes.now) }
+        ensures value { IfOk result (λ blob. blob ≡ bytes.now) }
+        ensures bytes { IsBytes bytes.now }
     {
         Ok(Blob {
             bytes: Vec::from_slice(alloc, bytes)?,
@@ -42,9 +44,10 @@ impl Blob {
 
     /// The bytes.
     pub fn bytes(&self) -> &[u8]
-        ensures { result.now ≡ self.now }
+        ensures value { result.now ≡ self.now }
+        ensures bytes { IsBytes result.now }
     {
-        &self.bytes
+        all_of(&self.bytes)
     }
 
     /// A byte string of the same bytes.
@@ -53,6 +56,14 @@ impl Blob {
     {
         Blob::from_slice(alloc, &self.bytes)
     }
+}
+
+// It is of a slice that the check knows that its elements are bytes.
+fn all_of(bytes: &[u8]) -> &[u8]
+    ensures value { result.now ≡ bytes.now }
+    ensures bytes { IsBytes result.now }
+{
+    bytes
 }
 
 impl PartialEq for Blob {

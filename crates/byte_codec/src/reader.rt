@@ -1,7 +1,8 @@
 //! A text read field by field, with the place of the next byte.
 
-ghost use Rattle.std.specs.Prelude.{◌≡◌, ◌≤◌, ◌+◌, length, drop};
+ghost use Rattle.std.specs.Prelude.{◌≡◌, ◌≤◌, ◌+◌, length, take, drop, IfOk};
 ghost use Rattle.std.specs.Int.{w16, w32, w64};
+ghost use Rattle.format_spec.specs.Bytes.{IsBytes};
 ghost use Rattle.format_spec.specs.Fields.{Cursor, number, byte, block, string8, string16, string32};
 ghost use Rattle.byte_codec.specs.Gives.{GivesForm};
 
@@ -51,9 +52,10 @@ impl<'a> Reader<'a> {
 
     /// The bytes that are left.
     pub fn rest(&self) -> &'a [u8]
-        ensures { result.now ≡ self.now.rest }
+        ensures value { result.now ≡ self.now.rest }
+        ensures bytes { IsBytes result.now }
     {
-        &self.bytes[self.at..]
+        part_of(self.bytes, self.at, self.bytes.len() - self.at)
     }
 
     /// Leaves out n bytes.
@@ -117,19 +119,22 @@ impl<'a> Reader<'a> {
 
     /// The next n bytes. Short where fewer are left.
     pub fn bytes(&mut self, n: usize) -> Result<&'a [u8], Short>
-        ensures { GivesForm (λ x. x.now) (block n) self.old self.new result }
+        ensures read { GivesForm (λ x. x.now) (block n) self.old self.new result }
+        ensures size { IfOk result (λ x. length x.now ≡ n) }
+        ensures bytes { IfOk result (λ x. IsBytes x.now) }
     {
         if self.bytes.len() - self.at < n {
             return Err(Short);
         }
-        let block = &self.bytes[self.at..self.at + n];
+        let block = part_of(self.bytes, self.at, n);
         self.at += n;
         Ok(block)
     }
 
     /// A string behind its length in one byte, together one field. Short where length or string is cut.
     pub fn string8(&mut self) -> Result<&'a [u8], Short>
-        ensures { GivesForm (λ x. x.now) string8 self.old self.new result }
+        ensures read { GivesForm (λ x. x.now) string8 self.old self.new result }
+        ensures bytes { IfOk result (λ x. IsBytes x.now) }
     {
         if self.bytes.len() == self.at {
             return Err(Short);
@@ -138,14 +143,15 @@ impl<'a> Reader<'a> {
         if self.bytes.len() - self.at < 1 + n {
             return Err(Short);
         }
-        let string = &self.bytes[self.at + 1..self.at + 1 + n];
+        let string = part_of(self.bytes, self.at + 1, n);
         self.at += 1 + n;
         Ok(string)
     }
 
     /// A string behind its length in two bytes, together one field. Short where length or string is cut.
     pub fn string16(&mut self) -> Result<&'a [u8], Short>
-        ensures { GivesForm (λ x. x.now) string16 self.old self.new result }
+        ensures read { GivesForm (λ x. x.now) string16 self.old self.new result }
+        ensures bytes { IfOk result (λ x. IsBytes x.now) }
     {
         let left = self.bytes.len() - self.at;
         if left < 2 {
@@ -157,14 +163,15 @@ impl<'a> Reader<'a> {
         if left - 2 < n {
             return Err(Short);
         }
-        let string = &self.bytes[self.at + 2..self.at + 2 + n];
+        let string = part_of(self.bytes, self.at + 2, n);
         self.at += 2 + n;
         Ok(string)
     }
 
     /// A string behind its length in four bytes, together one field. Short where length or string is cut.
     pub fn string32(&mut self) -> Result<&'a [u8], Short>
-        ensures { GivesForm (λ x. x.now) string32 self.old self.new result }
+        ensures read { GivesForm (λ x. x.now) string32 self.old self.new result }
+        ensures bytes { IfOk result (λ x. IsBytes x.now) }
     {
         let left = self.bytes.len() - self.at;
         if left < 4 {
@@ -176,8 +183,17 @@ impl<'a> Reader<'a> {
         if left - 4 < n {
             return Err(Short);
         }
-        let string = &self.bytes[self.at + 4..self.at + 4 + n];
+        let string = part_of(self.bytes, self.at + 4, n);
         self.at += 4 + n;
         Ok(string)
     }
+}
+
+// The n bytes from a place on.
+fn part_of(bytes: &[u8], at: usize, n: usize) -> &[u8]
+    requires { at + n ≤ length bytes.now }
+    ensures value { result.now ≡ take n (drop at bytes.now) }
+    ensures bytes { IsBytes result.now }
+{
+    &bytes[at..at + n]
 }

@@ -1,4 +1,4 @@
-//! The limits, for code and for definitions.
+//! The limits and the sizes of the formats' parts, for code and for definitions.
 
 /// Bytes in a page of memory.
 pub const PAGE_SIZE: usize = 4096;
@@ -48,6 +48,18 @@ pub const MAX_DEPTH: usize = 256;
 pub const MAX_ANSWER: usize = 1_048_622;
 /// Bytes in a hash.
 pub const HASH_SIZE: usize = 32;
+/// The version of system texts, manifests, meta-manifests and marks.
+pub const VERSION: u32 = 1;
+/// Bytes of a manifest's text before its first file row: name, version and number of files.
+pub const MANIFEST_HEAD: usize = 12;
+/// Bytes of a file's row apart from its name: the name's length, the size and the hash.
+pub const FILE_ROW: usize = 41;
+/// Bytes of a chunk's row: the file's number, the size, the offset and the hash.
+pub const CHUNK_ROW: usize = 48;
+/// Bytes of a meta-manifest's text before the first hash: version and number of pieces.
+pub const META_HEAD: usize = 8;
+/// Bytes of an ask's text.
+pub const ASK_SIZE: usize = 45;
 /// Heights that are kept in memory at one time.
 pub const MAX_HEIGHTS: usize = 16;
 /// Peers that a sync asks.

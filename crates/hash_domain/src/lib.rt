@@ -11,6 +11,6 @@ mod trees;
 
 pub use chunk_sum::ChunkSum;
 pub use chunks::{ChunkHasher, chunk_hash, plain_hash};
-pub use hash32::Hash32;
-pub use manifests::{file_hash, piece_hash, root_hash};
+pub use hash32::{Hash32, read_hash};
+pub use manifests::{file_hash, piece_hash, root_hash, root_hash_of_text};
 pub use trees::{tree_empty, tree_fork, tree_label, tree_leaf};

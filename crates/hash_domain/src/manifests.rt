@@ -1,14 +1,18 @@
 //! The hashes of files by their chunks, of pieces of a manifest, and of a whole manifest by its pieces.
 
-ghost use Rattle.std.specs.Prelude.{◌≡◌, ◌<◌, ◌^◌, ◌++◌, length};
+ghost use Rattle.std.specs.Prelude.{◌≡◌, ◌<◌, ◌^◌, ◌++◌, codes, length};
 ghost use Rattle.sha2.specs.Hashers.{Holds256};
+ghost use Rattle.sha2.specs.Sha256.{sha256};
 ghost use Rattle.format_spec.specs.Bytes.{Bytes};
-ghost use Rattle.format_spec.specs.Hashes.{chunk_sum_text};
+ghost use Rattle.format_spec.specs.Hashes.{chunk_sum_text, separated};
 ghost use Rattle.format_spec.specs.Hashes.{file_hash as hash_of_file, piece_hash as hash_of_piece, root_hash as hash_of_root};
 
 use crate::chunk_sum::ChunkSum;
 use crate::hash32::Hash32;
 use sha2::{Digest, Sha256};
+
+/// The name before a meta-manifest, behind its length.
+const ROOT: &[u8] = b"\x16ic-state-meta-manifest";
 
 /// The hash of a file that has these chunks.
 #[tactic(auto, unfolding(format_spec::specs::Hashes::file_hash))]
@@ -52,12 +56,22 @@ pub fn root_hash(version: u32, pieces: &[Hash32]) -> Hash32
     ensures { result ≡ hash_of_root version pieces.now }
 {
     let mut hasher = Sha256::new();
-    hasher.update(b"\x16ic-state-meta-manifest".as_slice());
+    hasher.update(ROOT);
     hasher.update(version.to_be_bytes());
     hasher.update((pieces.len() as u32).to_be_bytes());
     for piece in pieces {
         add_hash(&mut hasher, piece);
     }
+    Hash32(hasher.finalize())
+}
+
+/// The root hash by a meta-manifest's text: the hash of the text behind its name.
+pub fn root_hash_of_text(text: &[u8]) -> Hash32
+    ensures { result ≡ sha256 (separated (codes "ic-state-meta-manifest") text.now) }
+{
+    let mut hasher = Sha256::new();
+    hasher.update(ROOT);
+    hasher.update(text);
     Hash32(hasher.finalize())
 }
 

@@ -7,10 +7,10 @@ use Rattle.format_spec.specs.Fields.{Cursor, each}
 use Rattle.format_spec.proofs.Each.{each_more, each_ends}
 use Rattle.state_spec.specs.Manifest.{ChunkRow}
 use Rattle.state_spec.specs.ManifestText.{Slot, slot_of, chunk_after}
-use Rattle.manifest.specs.declared.error.ManifestError.{ManifestError}
-use Rattle.manifest.specs.Gives.{Fails}
+use Rattle.byte_codec.specs.declared.error.FieldError.{FieldError}
+use Rattle.byte_codec.specs.Gives.{Fails}
 use Rattle.manifest.specs.Reading.{chunk_in}
-use Rattle.manifest.proofs.FileLoops.{stops}
+use Rattle.byte_codec.proofs.Stops.{stops}
 
 by_slot : (wanted : List Slot) (before : List ChunkRow) (c : Cursor) → chunk_after wanted before c ≡ chunk_in (slice_get wanted (length before)) c
 unfolding chunk_after chunk_in
@@ -25,7 +25,7 @@ module _ (wanted : List Slot) (i : ℕ) (rows : List ChunkRow) (start now : Curs
       let count : length rows ≡ i = sym (length-map rows slot_of) ∙ ap length slots_are ∙ omega (arith, length-take i wanted) in
       by_slot wanted rows now ∙ ap (λ (o : Option Slot). chunk_in o now) (ap (slice_get wanted) count ∙ get_is wanted i slot more here) ∙ e
 
-  pub chunk_stops : (e : ManifestError) → Fails e (chunk_in (Some slot) now) → Fails e (each (chunk_after wanted) (length wanted) [] start)
+  pub chunk_stops : (e : FieldError) → Fails e (chunk_in (Some slot) now) → Fails e (each (chunk_after wanted) (length wanted) [] start)
   chunk_stops e failed =
       stops e (chunk_after wanted) (length wanted) i rows now (each (chunk_after wanted) (length wanted) [] start) more
       (subst (Fails e) (sym (chunk_next (chunk_in (Some slot) now) refl)) failed) so_far

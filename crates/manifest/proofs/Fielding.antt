@@ -12,49 +12,10 @@ use Rattle.state_spec.specs.State.{is_id}
 use Rattle.state_spec.specs.Files.{heap_name}
 use Rattle.state_spec.specs.ManifestText.{decoded, id_in, is_next_heap}
 use Rattle.manifest.specs.Reading.{only_id}
-use Rattle.format_spec.proofs.Readings.{same_bytes_is, ok_is}
+use Rattle.format_spec.proofs.Readings.{same_bytes_is}
+use Rattle.byte_codec.proofs.Judged.{field_keeps}
 
-front_length : (n : ℕ) (s : Bytes) → n ≤ length s → length (take n s) ≡ n
-front_length n s le = omega (arith, length-take n s)
-
-pub block_length : (n : ℕ) (c : Cursor) (x : Bytes) (d : Cursor) → field (block n) any c ≡ Ok (x, d) → length x ≡ n
-block_length n c x d e = go (nat_lt (length c.rest) n) refl e
-  where
-    go : (b : Bool) → nat_lt (length c.rest) n ≡ b → field (block n) any c ≡ Ok (x, d) → length x ≡ n
-    go true is h = absurd (let other = rw is at h in cc)
-    go false is h =
-        let long : n ≤ length c.rest = ltb-false (length c.rest) n is in
-        let read = rw is at h in
-        let same : take n c.rest ≡ x = ap (λ (p : Bytes × Cursor). p.0) (ok_is (take n c.rest, record { at = c.at + n; rest = drop n c.rest }) (x, d) read) in
-        sym (ap length same) ∙ front_length n c.rest long
-
--- ---- a field that was read, judged by its rule
-
-module _ {X : Type 0} (form : Form X) (rule : X → Bool) (c : Cursor) (x : X) (d : Cursor) where
-  let_through : (b : Bool) (place : ℕ) (v : X × Cursor) → b ≡ true → cond b (Ok v) (Err place) ≡ Ok v
-  let_through b place v e = rw e refl
-
-  keeps : (o : Option (X × ℕ)) → judged any o c ≡ Ok (x, d) → rule x ≡ true → judged rule o c ≡ Ok (x, d)
-  keeps None e good = absurd cc
-  keeps (Some v) e good =
-      let at : ℕ = c.at + v.1 in
-      let same = ok_is (v.0, record { at = at; rest = drop v.1 c.rest }) (x, d) e in
-      let good' : rule v.0 ≡ true = ap (λ (p : X × Cursor). rule p.0) same ∙ good in
-      let_through (rule v.0) c.at (v.0, record { at = at; rest = drop v.1 c.rest }) good' ∙ ap (λ (p : X × Cursor). Ok p) same
-
-  pub field_keeps : field form any c ≡ Ok (x, d) → rule x ≡ true → field form rule c ≡ Ok (x, d)
-  field_keeps e good = keeps (form c.rest) e good
-
-  breaks : (o : Option (X × ℕ)) → judged any o c ≡ Ok (x, d) → rule x ≡ false → judged rule o c ≡ Err c.at
-  breaks None e bad = absurd cc
-  breaks (Some v) e bad =
-      let at : ℕ = c.at + v.1 in
-      let same = ok_is (v.0, record { at = at; rest = drop v.1 c.rest }) (x, d) e in
-      let bad' : rule v.0 ≡ false = ap (λ (p : X × Cursor). rule p.0) same ∙ bad in
-      rw bad' refl
-
-  pub field_breaks : field form any c ≡ Ok (x, d) → rule x ≡ false → field form rule c ≡ Err c.at
-  field_breaks e bad = breaks (form c.rest) e bad
+-- ---- names
 
 -- the name that was looked for, in place of the equal one that was read
 pub name_is : (rule : Bytes → Bool) (c : Cursor) (name wanted : Bytes) (d : Cursor) → field string8 any c ≡ Ok (name, d) → same_bytes name wanted ≡ true → rule name ≡ true

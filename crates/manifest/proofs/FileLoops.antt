@@ -6,21 +6,14 @@ use Rattle.std.proofs.lemmas.List.{length-append, map_push}
 use Rattle.std.proofs.lemmas.List.Sums.{sum_by-append}
 use Rattle.format_spec.specs.Bytes.{Bytes, same_bytes}
 use Rattle.format_spec.specs.Fields.{Reading, Cursor, each}
-use Rattle.format_spec.proofs.Each.{each_more, each_stops, each_ends}
+use Rattle.format_spec.proofs.Each.{each_more, each_ends}
 use Rattle.state_spec.specs.Files.{system_name}
 use Rattle.state_spec.specs.Manifest.{FileRow}
 use Rattle.state_spec.specs.ManifestText.{file_after, id_in, last_id, all_sizes, is_next_heap, is_its_stable, is_memory_size, is_system_size}
-use Rattle.manifest.specs.declared.error.ManifestError.{ManifestError}
-use Rattle.manifest.specs.declared.error.ManifestError.TheVariants as errors
-use Rattle.manifest.specs.Gives.{Fails}
+use Rattle.byte_codec.specs.declared.error.FieldError.{FieldError}
+use Rattle.byte_codec.specs.Gives.{Fails}
+use Rattle.byte_codec.proofs.Stops.{stops}
 use Rattle.manifest.specs.Reading.{file_with, heap_row, stable_row, system_row}
-
--- ---- a loop that stops at an error
-
-pub stops : {X : Type 0} (e : ManifestError) (next : List X → Reading X) (count i : ℕ) (before : List X) (c : Cursor) (all : Result (List X × Cursor) ℕ) → i < count
-    → Fails e (next before c) → each next (count - i) before c ≡ all → Fails e all
-stops errors.Memory next count i before c all lt failed so_far = tt
-stops (errors.BadManifest place) next count i before c all lt failed so_far = sym so_far ∙ each_stops next count i before c place lt failed
 
 -- ---- which row comes next
 
@@ -95,7 +88,7 @@ module _ (count pairs : ℕ) (files : List FileRow) (last : Option Bytes) (total
       ∙ ap (λ (o : Option Bytes). heap_row o (all_sizes files) now) (sym read.last_is)
       ∙ ap (λ (t : ℕ). heap_row last t now) (sym read.total_is) ∙ e
 
-  pub heap_stops : (e : ManifestError) → Fails e (heap_row last total now) → Fails e (each (file_after 1 count) count [] start)
+  pub heap_stops : (e : FieldError) → Fails e (heap_row last total now) → Fails e (each (file_after 1 count) count [] start)
   heap_stops e failed =
       let len = read.length_is in
       stops e (file_after 1 count) count (2 * pairs) files now (each (file_after 1 count) count [] start) (omega arith)
@@ -115,7 +108,7 @@ module _ (count pairs : ℕ) (files : List FileRow) (last : Option Bytes) (total
         ap (λ (m : Reading FileRow). m mid) (at_stable count (files ++ heap ∷ []) id (omega arith) (omega arith) (last_more files heap ∙ named))
         ∙ ap (λ (t : ℕ). stable_row id t mid) (sizes_more files heap ∙ ap (λ (t : ℕ). t + heap.size) (sym read.total_is)) ∙ e
 
-    pub stable_stops : (e : ManifestError) → Fails e (stable_row id (total + heap.size) mid) → Fails e (each (file_after 1 count) count [] start)
+    pub stable_stops : (e : FieldError) → Fails e (stable_row id (total + heap.size) mid) → Fails e (each (file_after 1 count) count [] start)
     stable_stops e failed =
         let len = read.length_is in
         stops e (file_after 1 count) count (2 * pairs + 1) (files ++ heap ∷ []) mid (each (file_after 1 count) count [] start) (omega arith)
@@ -144,7 +137,7 @@ module _ (count pairs : ℕ) (files : List FileRow) (last : Option Bytes) (total
   system_next : (r : Result (FileRow × Cursor) ℕ) → system_row now ≡ r → file_after 1 count files now ≡ r
   system_next r e = let len = read.length_is in ap (λ (m : Reading FileRow). m now) (at_system count files (omega arith)) ∙ e
 
-  pub system_stops : (e : ManifestError) → Fails e (system_row now) → Fails e (each (file_after 1 count) count [] start)
+  pub system_stops : (e : FieldError) → Fails e (system_row now) → Fails e (each (file_after 1 count) count [] start)
   system_stops e failed =
       let len = read.length_is in
       stops e (file_after 1 count) count (2 * pairs) files now (each (file_after 1 count) count [] start) (omega arith)

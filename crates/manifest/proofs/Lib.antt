@@ -10,3 +10,5 @@ pub mod Slotting
 pub mod ChunkLoops
 pub mod Judging
 pub mod PieceLoops
+pub mod Metas
+pub mod Counting

@@ -1,7 +1,14 @@
--- What a call that reads gave, against the reading that it stands for.
+-- What reading a manifest gave, against the reading that it stands for.
 use Rattle.std.specs.Prelude.{◌≡◌, ℕ, Result, Ok, Err}
+use Rattle.byte_codec.specs.declared.error.FieldError.{FieldError}
+use Rattle.byte_codec.specs.declared.error.FieldError.TheVariants as fields
 use Rattle.manifest.specs.declared.error.ManifestError.{ManifestError}
 use Rattle.manifest.specs.declared.error.ManifestError.TheVariants.{BadManifest, Memory}
+
+-- what becomes of an error of a field
+abbrev pub error_of : FieldError → ManifestError
+error_of (fields.Bad place) = BadManifest place
+error_of fields.Memory = Memory
 
 -- memory ran out, or the place is that of the reading
 abbrev pub Fails : {X : Type 0} → ManifestError → Result X ℕ → Type 0

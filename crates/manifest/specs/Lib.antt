@@ -3,3 +3,4 @@ pub mod Adding
 pub mod Gives
 pub mod Reading
 pub mod Cases
+pub mod Counts

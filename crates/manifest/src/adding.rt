@@ -95,8 +95,10 @@ fn add_chunks(chunks: &mut Vec<ChunkRow>, file: u32, sums: &[ChunkSum]) -> Resul
     Ok(())
 }
 
-fn size_of_pages(pages: u32) -> u64
-    ensures { result ≡ pages * PAGE_SIZE }
+/// The bytes of so many pages.
+pub(crate) fn size_of_pages(pages: u32) -> u64
+    ensures value { result ≡ pages * PAGE_SIZE }
+    ensures fits { result < 2 ^ 44 }
 {
     u64::from(pages) * PAGE_SIZE as u64
 }

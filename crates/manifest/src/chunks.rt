@@ -3,14 +3,13 @@
 ghost use Rattle.std.specs.Prelude.{◌≡◌, [], length, map, IfOk, Some};
 ghost use Rattle.format_spec.specs.Fields.{each};
 ghost use Rattle.state_spec.specs.ManifestText.{chunk_after, slot_of};
-ghost use Rattle.manifest.specs.Gives.{Gives};
+ghost use Rattle.byte_codec.specs.Gives.{Gives};
 ghost use Rattle.manifest.specs.Reading.{chunk_in};
 
-use crate::error::ManifestError;
-use crate::fields::{read_be32, read_be64, read_hash};
 use crate::rows::ChunkRow;
 use crate::slots::Slot;
-use byte_codec::Reader;
+use byte_codec::{FieldError, Reader, read_be32, read_be64};
+use hash_domain::read_hash;
 use std::alloc::Global;
 
 /// The rows of chunks in these slots.
@@ -18,7 +17,7 @@ pub(crate) fn read_chunks(
     alloc: Global,
     reader: &mut Reader,
     slots: &[Slot],
-) -> Result<Vec<ChunkRow>, ManifestError>
+) -> Result<Vec<ChunkRow>, FieldError>
     ensures rows { Gives (λ rows. (rows.items, reader.new)) result (each (chunk_after slots.now) (length slots.now) [] reader.old) }
     ensures slots { IfOk result (λ rows. map slot_of rows.items ≡ slots.now) }
 {
@@ -31,7 +30,7 @@ pub(crate) fn read_chunks(
 
 // The row of a chunk in this slot.
 #[tactic(auto, unfolding(crate::specs::Reading::chunk_in))]
-fn read_chunk(reader: &mut Reader, slot: &Slot) -> Result<ChunkRow, ManifestError>
+fn read_chunk(reader: &mut Reader, slot: &Slot) -> Result<ChunkRow, FieldError>
     ensures row { Gives (λ row. (row, reader.new)) result (chunk_in (Some slot.now) reader.old) }
     ensures slot { IfOk result (λ row. slot_of row ≡ slot.now) }
 {

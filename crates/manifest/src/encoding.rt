@@ -7,17 +7,11 @@ ghost use Rattle.manifest.specs.Fits.{FitsText};
 
 use crate::rows::{ChunkRow, FileRow, Manifest};
 use byte_codec::{Blob, NoMemory, Writer};
+use format_spec::{CHUNK_ROW, FILE_ROW, MANIFEST_HEAD};
 use std::alloc::Global;
 
 /// What the text begins with.
 pub(crate) const MAGIC: &[u8] = b"ICMF";
-
-/// Bytes in the text beside the rows.
-const FRAME: usize = 16;
-/// Bytes in the row of a file beside its name.
-const FILE_ROW: usize = 41;
-/// Bytes in the row of a chunk.
-const CHUNK_ROW: usize = 48;
 
 impl Manifest {
     /// Its text, of which there is one.
@@ -25,9 +19,9 @@ impl Manifest {
     pub fn encode(&self, alloc: Global) -> Result<Blob, NoMemory>
         requires { FitsText self.now }
         ensures value { IfOk result (λ text. text ≡ manifest_text self.now) }
-        ensures size { IfOk result (λ text. length text ≤ 16 + 296 * length self.now.files + 48 * length self.now.chunks) }
+        ensures size { IfOk result (λ text. length text ≤ MANIFEST_HEAD + 4 + (FILE_ROW + 255) * length self.now.files + CHUNK_ROW * length self.now.chunks) }
     {
-        let size = FRAME + CHUNK_ROW * self.chunks.len();
+        let size = MANIFEST_HEAD + 4 + CHUNK_ROW * self.chunks.len();
         let mut out = Writer::with_capacity(alloc, size.saturating_add(files_size(&self.files)))?;
         out.bytes(MAGIC)?;
         out.be32(self.version)?;
@@ -53,7 +47,7 @@ fn files_size(files: &[FileRow]) -> usize {
 fn write_files(out: &mut Writer, files: &[FileRow]) -> Result<(), NoMemory>
     requires { AllByRecursion (λ row. length row.name < 256) files.now }
     ensures text { OnOk result (out.new ≡ out.old ++ flat_map file_row_text files.now) }
-    ensures size { OnOk result (length out.new ≤ length out.old + 296 * length files.now) }
+    ensures size { OnOk result (length out.new ≤ length out.old + (FILE_ROW + 255) * length files.now) }
 {
     for row in files {
         write_file(out, row)?;
@@ -64,7 +58,7 @@ fn write_files(out: &mut Writer, files: &[FileRow]) -> Result<(), NoMemory>
 fn write_file(out: &mut Writer, row: &FileRow) -> Result<(), NoMemory>
     requires { length row.now.name < 256 }
     ensures text { OnOk result (out.new ≡ out.old ++ file_row_text row.now) }
-    ensures size { OnOk result (length out.new ≤ length out.old + 296) }
+    ensures size { OnOk result (length out.new ≤ length out.old + (FILE_ROW + 255)) }
 {
     let name = row.name.bytes();
     out.u8(name.len() as u8)?;
@@ -76,7 +70,7 @@ fn write_file(out: &mut Writer, row: &FileRow) -> Result<(), NoMemory>
 
 fn write_chunks(out: &mut Writer, chunks: &[ChunkRow]) -> Result<(), NoMemory>
     ensures text { OnOk result (out.new ≡ out.old ++ flat_map chunk_row_text chunks.now) }
-    ensures size { OnOk result (length out.new ≤ length out.old + 48 * length chunks.now) }
+    ensures size { OnOk result (length out.new ≤ length out.old + CHUNK_ROW * length chunks.now) }
 {
     for row in chunks {
         write_chunk(out, row)?;
@@ -86,7 +80,7 @@ fn write_chunks(out: &mut Writer, chunks: &[ChunkRow]) -> Result<(), NoMemory>
 
 fn write_chunk(out: &mut Writer, row: &ChunkRow) -> Result<(), NoMemory>
     ensures text { OnOk result (out.new ≡ out.old ++ chunk_row_text row.now) }
-    ensures size { OnOk result (length out.new ≤ length out.old + 48) }
+    ensures size { OnOk result (length out.new ≤ length out.old + CHUNK_ROW) }
 {
     out.be32(row.file)?;
     out.be32(row.size)?;

@@ -1,79 +1,54 @@
 //! The fields of a manifest's text, each with its rule and the place where it is refused.
 
-ghost use Rattle.std.specs.Prelude.{◌≡◌, ◌==◌, ◌<◌, ◌≤◌, ◌^◌, ◌+◌, ◌*◌, ◌%◌, ◌&&◌, nat_le, nat_lt, codes, length, IfOk, OnOk, Some};
+ghost use Rattle.std.specs.Prelude.{◌≡◌, ◌==◌, ◌<◌, ◌≤◌, ◌^◌, ◌+◌, ◌*◌, ◌%◌, ◌&&◌, nat_le, nat_lt, length, IfOk, OnOk, Some};
 ghost use Rattle.std.specs.Int.{w32, w64};
 ghost use Rattle.std.specs.List.{before_first, position};
 ghost use Rattle.hex.specs.Hex.{decode_of};
 ghost use Rattle.format_spec.specs.Bytes.{same_bytes, is_after, bytes_cmp};
-ghost use Rattle.format_spec.specs.Fields.{field, number, block, string8, any, magic};
+ghost use Rattle.format_spec.specs.Fields.{field, number, string8};
 ghost use Rattle.state_spec.specs.Files.{system_name};
 ghost use Rattle.state_spec.specs.ManifestText.{decoded, id_in, is_next_heap, is_its_stable, is_system_size};
-ghost use Rattle.manifest.specs.Gives.{Gives};
-ghost use Rattle.manifest.specs.Reading.{fits_memory, only_id};
+ghost use Rattle.byte_codec.specs.Gives.{Gives, NeedsNoMemory};
+ghost use Rattle.manifest.specs.Reading.{fits_memory, only_id, piece_count};
 
-use crate::encoding::MAGIC;
-use crate::error::ManifestError;
 use crate::names::{SYSTEM, memory_name};
-use byte_codec::{Blob, Reader};
+use byte_codec::{Blob, FieldError, Reader, is_same, read_be32};
 use format_spec::{
     MAX_CANISTERS, MAX_ID, MAX_MEMORY_PAGES, MAX_PIECES, MAX_STATE_PAGES, MAX_SYSTEM, MIN_SYSTEM,
-    PAGE_SIZE,
+    PAGE_SIZE, VERSION,
 };
-use hash_domain::Hash32;
 use std::alloc::Global;
 use sys_state::CanisterId;
 
-/// The version of manifests and meta-manifests.
-pub(crate) const VERSION: u32 = 1;
-
-/// The name that the format begins with.
-pub(crate) fn read_magic(reader: &mut Reader) -> Result<(), ManifestError>
-    ensures { Gives (λ _. (codes "ICMF", reader.new)) result (magic (codes "ICMF") reader.old) }
-{
-    let at = reader.at();
-    match reader.bytes(MAGIC.len()) {
-        Ok(name) if same(MAGIC, name) => Ok(()),
-        _ => Err(ManifestError::BadManifest(at as u64)),
-    }
-}
-
-/// A number of four bytes that can only be this one.
-pub(crate) fn read_be32(reader: &mut Reader, wanted: u32) -> Result<(), ManifestError>
-    ensures { Gives (λ _. (wanted, reader.new)) result (field (number w32) (λ n. n == wanted) reader.old) }
-{
-    let at = reader.at();
-    match reader.be32() {
-        Ok(number) if number == wanted => Ok(()),
-        _ => Err(ManifestError::BadManifest(at as u64)),
-    }
-}
-
 /// A count of four bytes that can only be this one.
-pub(crate) fn read_count(reader: &mut Reader, wanted: usize) -> Result<(), ManifestError>
+pub(crate) fn read_exact_count(reader: &mut Reader, wanted: usize) -> Result<(), FieldError>
     ensures count { Gives (λ _. (wanted, reader.new)) result (field (number w32) (λ n. n == wanted) reader.old) }
     ensures small { OnOk result (wanted < 2 ^ 32) }
 {
     let at = reader.at();
     match reader.be32() {
         Ok(count) if count as usize == wanted => Ok(()),
-        _ => Err(ManifestError::BadManifest(at as u64)),
+        _ => Err(FieldError::Bad(at as u64)),
     }
 }
 
-/// The number of pieces, which is 1 to 128.
-pub(crate) fn read_piece_count(reader: &mut Reader) -> Result<u32, ManifestError>
-    ensures count { Gives (λ n. (n, reader.new)) result (field (number w32) (λ n. nat_lt 0 n && nat_le n MAX_PIECES) reader.old) }
-    ensures few { IfOk result (λ n. n ≤ 128) }
+/// The number of pieces, which is 1 to 128, behind the version.
+#[tactic(auto, unfolding(crate::specs::Reading::piece_count))]
+pub(crate) fn read_piece_count(reader: &mut Reader) -> Result<u32, FieldError>
+    ensures count { Gives (λ n. (n, reader.new)) result (piece_count reader.old) }
+    ensures memory { NeedsNoMemory result }
+    ensures few { IfOk result (λ n. n ≤ MAX_PIECES) }
 {
+    read_be32(reader, VERSION)?;
     let at = reader.at();
     match reader.be32() {
         Ok(count) if 0 < count && count as usize <= MAX_PIECES => Ok(count),
-        _ => Err(ManifestError::BadManifest(at as u64)),
+        _ => Err(FieldError::Bad(at as u64)),
     }
 }
 
 /// The number of files, which is odd and at most 2,049.
-pub(crate) fn read_file_count(reader: &mut Reader) -> Result<u32, ManifestError>
+pub(crate) fn read_file_count(reader: &mut Reader) -> Result<u32, FieldError>
     ensures count { Gives (λ n. (n, reader.new)) result (field (number w32) (λ n. n % 2 == 1 && nat_le n (2 * MAX_CANISTERS + 1)) reader.old) }
     ensures odd { IfOk result (λ n. n % 2 ≡ 1) }
     ensures few { IfOk result (λ n. n ≤ 2049) }
@@ -81,43 +56,19 @@ pub(crate) fn read_file_count(reader: &mut Reader) -> Result<u32, ManifestError>
     let at = reader.at();
     match reader.be32() {
         Ok(count) if count % 2 == 1 && count as usize <= 2 * MAX_CANISTERS + 1 => Ok(count),
-        _ => Err(ManifestError::BadManifest(at as u64)),
+        _ => Err(FieldError::Bad(at as u64)),
     }
-}
-
-/// A number of eight bytes that can only be this one.
-pub(crate) fn read_be64(reader: &mut Reader, wanted: u64) -> Result<(), ManifestError>
-    ensures { Gives (λ _. (wanted, reader.new)) result (field (number w64) (λ n. n == wanted) reader.old) }
-{
-    let at = reader.at();
-    match reader.be64() {
-        Ok(number) if number == wanted => Ok(()),
-        _ => Err(ManifestError::BadManifest(at as u64)),
-    }
-}
-
-/// A hash.
-pub(crate) fn read_hash(reader: &mut Reader) -> Result<Hash32, ManifestError>
-    ensures { Gives (λ hash. (hash, reader.new)) result (field (block 32) any reader.old) }
-{
-    let at = reader.at();
-    let Ok(bytes) = reader.bytes(32) else {
-        return Err(ManifestError::BadManifest(at as u64));
-    };
-    let mut hash = [0; 32];
-    hash.copy_from_slice(bytes);
-    Ok(Hash32(hash))
 }
 
 /// The size of a memory, where those before have this size together.
-pub(crate) fn read_memory_size(reader: &mut Reader, total: u64) -> Result<u64, ManifestError>
+pub(crate) fn read_memory_size(reader: &mut Reader, total: u64) -> Result<u64, FieldError>
     ensures size { Gives (λ size. (size, reader.new)) result (field (number w64) (fits_memory total) reader.old) }
-    ensures fits { IfOk result (λ size. total + size ≤ 2 ^ 30) }
+    ensures fits { IfOk result (λ size. total + size ≤ MAX_STATE_PAGES * PAGE_SIZE) }
 {
     let at = reader.at();
     match reader.be64() {
         Ok(size) if is_memory_size(total, size) => Ok(size),
-        _ => Err(ManifestError::BadManifest(at as u64)),
+        _ => Err(FieldError::Bad(at as u64)),
     }
 }
 
@@ -130,25 +81,25 @@ fn is_memory_size(total: u64, size: u64) -> bool
 }
 
 /// The size of the system text.
-pub(crate) fn read_system_size(reader: &mut Reader) -> Result<u64, ManifestError>
+pub(crate) fn read_system_size(reader: &mut Reader) -> Result<u64, FieldError>
     ensures { Gives (λ size. (size, reader.new)) result (field (number w64) is_system_size reader.old) }
 {
     let at = reader.at();
     match reader.be64() {
         Ok(size) if MIN_SYSTEM as u64 <= size && size <= MAX_SYSTEM as u64 => Ok(size),
-        _ => Err(ManifestError::BadManifest(at as u64)),
+        _ => Err(FieldError::Bad(at as u64)),
     }
 }
 
 /// The name of the system text.
-pub(crate) fn read_system_name(alloc: Global, reader: &mut Reader) -> Result<Blob, ManifestError>
+pub(crate) fn read_system_name(alloc: Global, reader: &mut Reader) -> Result<Blob, FieldError>
     ensures name { Gives (λ name. (name, reader.new)) result (field string8 (λ name. same_bytes name system_name) reader.old) }
     ensures short { IfOk result (λ name. length name < 256) }
 {
     let at = reader.at();
     match reader.string8() {
-        Ok(name) if same(name, SYSTEM) => Ok(Blob::from_slice(alloc, SYSTEM)?),
-        _ => Err(ManifestError::BadManifest(at as u64)),
+        Ok(name) if is_same(name, SYSTEM) => Ok(Blob::from_slice(alloc, SYSTEM)?),
+        _ => Err(FieldError::Bad(at as u64)),
     }
 }
 
@@ -157,13 +108,13 @@ pub(crate) fn read_heap_name(
     alloc: Global,
     reader: &mut Reader,
     last: &Option<CanisterId>,
-) -> Result<(CanisterId, Blob), ManifestError>
+) -> Result<(CanisterId, Blob), FieldError>
     ensures name { Gives (λ x. (x.1, reader.new)) result (field string8 (λ name. is_next_heap last.now (id_in name) name) reader.old) }
     ensures id { IfOk result (λ x. id_in x.1 ≡ Some x.0) }
     ensures short { IfOk result (λ x. length x.1 < 256) }
 {
     let at = reader.at();
-    let bad = ManifestError::BadManifest(at as u64);
+    let bad = FieldError::Bad(at as u64);
     let Ok(name) = reader.string8() else {
         return Err(bad);
     };
@@ -182,7 +133,7 @@ pub(crate) fn read_heap_name(
 fn is_heap(name: &[u8], wanted: &[u8], last: &Option<CanisterId>, id: &CanisterId) -> bool
     ensures { result ≡ same_bytes name.now wanted.now && is_after bytes_cmp last.now id.now }
 {
-    same(name, wanted) && is_next(last, id)
+    is_same(name, wanted) && is_next(last, id)
 }
 
 /// The name of the stable memory of this id.
@@ -190,7 +141,7 @@ pub(crate) fn read_stable_name(
     alloc: Global,
     reader: &mut Reader,
     id: &CanisterId,
-) -> Result<Blob, ManifestError>
+) -> Result<Blob, FieldError>
     ensures name { Gives (λ name. (name, reader.new)) result (field string8 (is_its_stable (Some id.now)) reader.old) }
     ensures id { IfOk result (λ name. id_in name ≡ Some id.now) }
     ensures short { IfOk result (λ name. length name < 256) }
@@ -198,8 +149,8 @@ pub(crate) fn read_stable_name(
     let at = reader.at();
     let stable = memory_name(alloc, id, b"stable")?;
     match reader.string8() {
-        Ok(name) if same(name, stable.bytes()) => Ok(stable),
-        _ => Err(ManifestError::BadManifest(at as u64)),
+        Ok(name) if is_same(name, stable.bytes()) => Ok(stable),
+        _ => Err(FieldError::Bad(at as u64)),
     }
 }
 
@@ -245,11 +196,4 @@ fn id_of_digits(digits: &[u8]) -> Option<CanisterId>
     let room = &mut bytes[..count];
     hex::decode_to_slice(digits, room).ok()?;
     CanisterId::new(room)
-}
-
-/// Whether two byte strings are equal.
-pub(crate) fn same(a: &[u8], b: &[u8]) -> bool
-    ensures { result ≡ same_bytes a.now b.now }
-{
-    a == b
 }

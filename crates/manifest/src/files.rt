@@ -1,19 +1,19 @@
 //! The file rows of a manifest's text.
 
-ghost use Rattle.std.specs.Prelude.{◌≡◌, ◌<◌, ◌≤◌, ◌+◌, ◌%◌, ◌^◌, [], length, IfOk, Some};
+ghost use Rattle.std.specs.Prelude.{◌≡◌, ◌<◌, ◌≤◌, ◌+◌, ◌%◌, ◌*◌, [], length, IfOk, Some};
 ghost use Rattle.std.specs.List.{AllByRecursion};
 ghost use Rattle.format_spec.specs.Fields.{each};
+ghost use Rattle.format_spec.specs.declared.limits.TheConstants.{MAX_STATE_PAGES, PAGE_SIZE};
 ghost use Rattle.state_spec.specs.ManifestText.{id_in, file_after};
-ghost use Rattle.manifest.specs.Gives.{Gives};
+ghost use Rattle.byte_codec.specs.Gives.{Gives};
 ghost use Rattle.manifest.specs.Reading.{heap_row, stable_row, system_row};
 
-use crate::error::ManifestError;
 use crate::fields::{
-    read_hash, read_heap_name, read_memory_size, read_stable_name, read_system_name,
-    read_system_size,
+    read_heap_name, read_memory_size, read_stable_name, read_system_name, read_system_size,
 };
 use crate::rows::FileRow;
-use byte_codec::Reader;
+use byte_codec::{FieldError, Reader};
+use hash_domain::read_hash;
 use std::alloc::Global;
 use sys_state::CanisterId;
 
@@ -22,7 +22,7 @@ pub(crate) fn read_files(
     alloc: Global,
     reader: &mut Reader,
     count: u32,
-) -> Result<Vec<FileRow>, ManifestError>
+) -> Result<Vec<FileRow>, FieldError>
     requires { count % 2 ≡ 1 }
     ensures rows { Gives (λ files. (files.items, reader.new)) result (each (file_after 1 count) count [] reader.old) }
     ensures count { IfOk result (λ files. length files.items ≡ count) }
@@ -51,11 +51,11 @@ fn read_heap(
     reader: &mut Reader,
     last: &Option<CanisterId>,
     total: u64,
-) -> Result<(CanisterId, FileRow), ManifestError>
+) -> Result<(CanisterId, FileRow), FieldError>
     ensures row { Gives (λ x. (x.1, reader.new)) result (heap_row last.now total reader.old) }
     ensures id { IfOk result (λ x. id_in x.1.name ≡ Some x.0) }
     ensures short { IfOk result (λ x. length x.1.name < 256) }
-    ensures size { IfOk result (λ x. total + x.1.size ≤ 2 ^ 30) }
+    ensures size { IfOk result (λ x. total + x.1.size ≤ MAX_STATE_PAGES * PAGE_SIZE) }
 {
     let (id, name) = read_heap_name(alloc, reader, last)?;
     let size = read_memory_size(reader, total)?;
@@ -70,11 +70,11 @@ fn read_stable(
     reader: &mut Reader,
     id: &CanisterId,
     total: u64,
-) -> Result<FileRow, ManifestError>
+) -> Result<FileRow, FieldError>
     ensures row { Gives (λ row. (row, reader.new)) result (stable_row id.now total reader.old) }
     ensures id { IfOk result (λ row. id_in row.name ≡ Some id.now) }
     ensures short { IfOk result (λ row. length row.name < 256) }
-    ensures size { IfOk result (λ row. total + row.size ≤ 2 ^ 30) }
+    ensures size { IfOk result (λ row. total + row.size ≤ MAX_STATE_PAGES * PAGE_SIZE) }
 {
     let name = read_stable_name(alloc, reader, id)?;
     let size = read_memory_size(reader, total)?;
@@ -84,7 +84,7 @@ fn read_stable(
 
 // The system text.
 #[tactic(auto, unfolding(crate::specs::Reading::system_row))]
-fn read_system(alloc: Global, reader: &mut Reader) -> Result<FileRow, ManifestError>
+fn read_system(alloc: Global, reader: &mut Reader) -> Result<FileRow, FieldError>
     ensures row { Gives (λ row. (row, reader.new)) result (system_row reader.old) }
     ensures short { IfOk result (λ row. length row.name < 256) }
 {

@@ -3,6 +3,7 @@
 
 mod adding;
 mod chunks;
+mod counts;
 mod decoding;
 mod encoding;
 mod error;
@@ -20,6 +21,7 @@ mod slots;
 #[cfg(test)]
 mod tests;
 
+pub use counts::{Counts, count};
 pub use error::ManifestError;
 pub use making::from_scratch;
 pub use meta::MetaManifest;

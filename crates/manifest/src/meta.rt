@@ -1,17 +1,19 @@
 //! The meta-manifest: the version and the hashes of the pieces of a manifest's text.
 
 ghost use Rattle.std.specs.Prelude.{◌≡◌, ◌<◌, ◌≤◌, ◌^◌, [], length, IfOk, IfSome};
+ghost use Rattle.std.specs.Option.{is_some};
+ghost use Rattle.format_spec.specs.declared.limits.TheConstants.{MAX_PIECES};
 ghost use Rattle.format_spec.specs.Fields.{each, field, block, any, whole};
 ghost use Rattle.state_spec.specs.Root.{root_of_meta, meta_text, meta_of, meta_fields, read_meta};
 ghost use Rattle.manifest.specs.Fits.{FitsText};
-ghost use Rattle.manifest.specs.Gives.{Gives};
+ghost use Rattle.byte_codec.specs.Gives.{Gives};
 
-use crate::error::ManifestError;
-use crate::fields::{VERSION, read_be32, read_hash, read_piece_count};
+use crate::fields::read_piece_count;
 use crate::parts::piece_hashes;
 use crate::rows::Manifest;
-use byte_codec::{Blob, NoMemory, Reader, Writer};
-use hash_domain::{Hash32, root_hash};
+use byte_codec::{Blob, FieldError, NoMemory, Reader, Writer};
+use format_spec::{HASH_SIZE, META_HEAD, VERSION};
+use hash_domain::{Hash32, read_hash, root_hash};
 use std::alloc::Global;
 use std::marker::Model;
 
@@ -58,8 +60,19 @@ impl MetaManifest {
     {
         match read_whole(alloc, bytes) {
             Ok(meta) => Ok(Some(meta)),
-            Err(ManifestError::BadManifest(_)) => Ok(None),
-            Err(ManifestError::Memory) => Err(NoMemory),
+            Err(FieldError::Bad(_)) => Ok(None),
+            Err(FieldError::Memory) => Err(NoMemory),
+        }
+    }
+
+    /// Whether a text spells a meta-manifest. It takes no memory.
+    pub fn spells(text: &[u8]) -> bool
+        ensures { result ≡ is_some (read_meta text.now) }
+    {
+        let mut reader = Reader::new(text);
+        match read_piece_count(&mut reader) {
+            Ok(count) => reader.left() == HASH_SIZE * count as usize,
+            Err(_) => false,
         }
     }
 
@@ -76,7 +89,7 @@ impl MetaManifest {
         requires { length self.now.pieces < 2 ^ 32 }
         ensures { IfOk result (λ text. text ≡ meta_text self.now) }
     {
-        let mut out = Writer::with_capacity(alloc, 8 + 32 * self.pieces.len())?;
+        let mut out = Writer::with_capacity(alloc, META_HEAD + HASH_SIZE * self.pieces.len())?;
         out.be32(self.version)?;
         out.be32(self.pieces.len() as u32)?;
         for hash in &self.pieces {
@@ -86,24 +99,23 @@ impl MetaManifest {
     }
 }
 
-fn read_whole(alloc: Global, bytes: &[u8]) -> Result<MetaManifest, ManifestError>
+fn read_whole(alloc: Global, bytes: &[u8]) -> Result<MetaManifest, FieldError>
     ensures value { Gives (λ m. m) result (whole meta_fields bytes.now) }
-    ensures few { IfOk result (λ m. length m.pieces ≤ 128) }
+    ensures few { IfOk result (λ m. length m.pieces ≤ MAX_PIECES) }
 {
     let mut reader = Reader::new(bytes);
     let meta = read_fields(alloc, &mut reader)?;
     if reader.left() != 0 {
-        return Err(ManifestError::BadManifest(reader.at() as u64));
+        return Err(FieldError::Bad(reader.at() as u64));
     }
     Ok(meta)
 }
 
-#[tactic(auto, unfolding(state_spec::specs::Root::meta_fields))]
-fn read_fields(alloc: Global, reader: &mut Reader) -> Result<MetaManifest, ManifestError>
+#[tactic(auto, unfolding(state_spec::specs::Root::meta_fields, crate::specs::Reading::piece_count))]
+fn read_fields(alloc: Global, reader: &mut Reader) -> Result<MetaManifest, FieldError>
     ensures fields { Gives (λ m. (m, reader.new)) result (meta_fields reader.old) }
-    ensures few { IfOk result (λ m. length m.pieces ≤ 128) }
+    ensures few { IfOk result (λ m. length m.pieces ≤ MAX_PIECES) }
 {
-    read_be32(reader, VERSION)?;
     let count = read_piece_count(reader)?;
     let pieces = read_pieces(alloc, reader, count)?;
     Ok(MetaManifest {
@@ -112,8 +124,8 @@ fn read_fields(alloc: Global, reader: &mut Reader) -> Result<MetaManifest, Manif
     })
 }
 
-fn read_pieces(alloc: Global, reader: &mut Reader, count: u32) -> Result<Vec<Hash32>, ManifestError>
-    ensures pieces { Gives (λ hashes. (hashes.items, reader.new)) result (each (λ before. field (block 32) any) count [] reader.old) }
+fn read_pieces(alloc: Global, reader: &mut Reader, count: u32) -> Result<Vec<Hash32>, FieldError>
+    ensures pieces { Gives (λ hashes. (hashes.items, reader.new)) result (each (λ before. field (block HASH_SIZE) any) count [] reader.old) }
     ensures count { IfOk result (λ hashes. length hashes.items ≡ count) }
 {
     let mut hashes = Vec::new(alloc);

@@ -12,6 +12,9 @@ use sys_state::CanisterId;
 /// The file of all of a state that isn't memory bytes.
 pub(crate) const SYSTEM: &[u8] = b"system";
 
+/// Bytes in the names of both memories of a canister, apart from the digits of its id.
+pub(crate) const BOTH_NAMES: usize = 30;
+
 /// Bytes in the longest name, `canister/`, the digits of an id and `/stable`.
 const MAX_NAME: usize = 16 + 2 * MAX_ID;
 

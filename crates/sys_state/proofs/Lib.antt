@@ -7,5 +7,4 @@ mod Text
 mod Paths
 mod Entries
 mod Last
-mod Stops
 mod Labels

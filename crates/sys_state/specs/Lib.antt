@@ -3,3 +3,4 @@ pub mod System
 pub mod Places
 pub mod Calls
 pub mod Reading
+pub mod Fields

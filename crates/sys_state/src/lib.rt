@@ -1,9 +1,9 @@
 //! The canisters and entries of a state: all of it but the bytes of its memories.
 #![tactic(auto)]
 
-mod blobs;
 mod canister_id;
 mod error;
+mod laws;
 mod mem;
 mod path;
 mod place;
@@ -15,6 +15,7 @@ mod tests;
 
 pub use canister_id::CanisterId;
 pub use error::SysError;
+pub use laws::an_id_has_one_place;
 pub use mem::Mem;
 pub use path::Path;
 pub use record::CanisterRecord;

@@ -5,10 +5,10 @@ ghost use Rattle.std.specs.Cmp.{eq_by_cmp_equiv, partial_equiv_from_equiv, parti
 ghost use Rattle.std.specs.Cmp.Lexicographic.{nat_list_cmp_total, lists_total};
 ghost use Rattle.std.specs.Ordering.{as_partial_cmp, eq_by_cmp};
 ghost use Rattle.std.proofs.Common.{refl};
-ghost use Rattle.format_spec.specs.Bytes.{IsBytes, path_cmp, same_bytes};
+ghost use Rattle.format_spec.specs.Bytes.{IsBytes, path_cmp};
 ghost use Rattle.state_spec.specs.State.{is_path, is_label, is_prefix, is_reserved as is_reserved_path};
 
-use byte_codec::{Blob, NoMemory};
+use byte_codec::{Blob, NoMemory, is_same};
 use format_spec::{MAX_LABEL, MAX_LABELS};
 use std::alloc::Global;
 use std::cmp::Ordering;
@@ -96,12 +96,6 @@ impl Path {
         }
         Ok(Path { labels })
     }
-}
-
-fn is_same(a: &[u8], b: &[u8]) -> bool
-    ensures { result ≡ same_bytes a.now b.now }
-{
-    a.cmp(&b).is_eq()
 }
 
 fn order_labels(a: &[Blob], b: &[Blob]) -> Ordering

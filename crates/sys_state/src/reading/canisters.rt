@@ -1,30 +1,20 @@
 //! The canisters of a system text.
 
-ghost use Rattle.std.specs.Prelude.{◌≡◌, ◌+◌, ◌≤◌, ◌&&◌, [], length, nat_le, IfOk, IfSome, IsTrue};
-ghost use Rattle.std.specs.Option.{SomeIff};
+ghost use Rattle.std.specs.Prelude.{◌≡◌, ◌+◌, ◌≤◌, ◌&&◌, [], length, nat_le, IfOk, IfSome};
 ghost use Rattle.std.specs.List.{AllByRecursion};
 ghost use Rattle.std.specs.Int.{w32};
 ghost use Rattle.format_spec.specs.Bytes.{IsBytes, bytes_cmp, is_after, last_key};
 ghost use Rattle.format_spec.specs.Fields.{field, number, string8, each};
 ghost use Rattle.state_spec.specs.State.{is_id, all_pages, memory_limit, state_limit};
 ghost use Rattle.state_spec.specs.SystemText.{canister_after, wasm_form, wasm_fits};
-ghost use Rattle.sys_state.specs.Reading.{Gives};
+ghost use Rattle.byte_codec.specs.Gives.{Gives};
 ghost use Rattle.sys_state.specs.System.{IsCanister, parts, part_of_record};
 
-use crate::blobs::copy_of;
 use crate::canister_id::CanisterId;
-use crate::error::SysError;
 use crate::record::CanisterRecord;
-use byte_codec::{Blob, Reader};
+use byte_codec::{Blob, FieldError, Reader};
 use format_spec::{MAX_CERTIFIED, MAX_MEMORY_PAGES, MAX_MODULE, MAX_STATE_PAGES};
 use std::alloc::Global;
-
-fn id_of(bytes: &[u8]) -> Option<CanisterId>
-    ensures id { SomeIff result (IsTrue (is_id bytes.now)) bytes.now }
-    ensures bytes { IsBytes bytes.now }
-{
-    CanisterId::new(bytes)
-}
 
 fn comes_last(canisters: &[(CanisterId, CanisterRecord)], id: &CanisterId) -> bool
     ensures { result ≡ is_after bytes_cmp (last_key (parts canisters.now)) id.now }
@@ -38,21 +28,21 @@ fn comes_last(canisters: &[(CanisterId, CanisterRecord)], id: &CanisterId) -> bo
 fn read_id(
     reader: &mut Reader,
     canisters: &[(CanisterId, CanisterRecord)],
-) -> Result<CanisterId, SysError>
+) -> Result<CanisterId, FieldError>
     ensures read { Gives (λ id. (id, reader.new)) result (field string8 (λ id. is_id id && is_after bytes_cmp (last_key (parts canisters.now)) id) reader.old) }
     ensures bytes { IfOk result IsBytes }
 {
     let at = reader.at() as u64;
     let Ok(bytes) = reader.string8() else {
-        return Err(SysError::BadSystem(at));
+        return Err(FieldError::Bad(at));
     };
-    match id_of(bytes) {
+    match CanisterId::new(bytes) {
         Some(id) if comes_last(canisters, &id) => Ok(id),
-        _ => Err(SysError::BadSystem(at)),
+        _ => Err(FieldError::Bad(at)),
     }
 }
 
-fn read_module(alloc: Global, reader: &mut Reader) -> Result<Option<Blob>, SysError>
+fn read_module(alloc: Global, reader: &mut Reader) -> Result<Option<Blob>, FieldError>
     ensures read { Gives (λ m. (m, reader.new)) result (field wasm_form wasm_fits reader.old) }
     ensures bytes { IfOk result (λ m. IfSome m IsBytes) }
 {
@@ -60,26 +50,26 @@ fn read_module(alloc: Global, reader: &mut Reader) -> Result<Option<Blob>, SysEr
     match reader.u8() {
         Ok(0) => Ok(None),
         Ok(1) => match reader.string32() {
-            Ok(bytes) if bytes.len() <= MAX_MODULE => Ok(Some(copy_of(alloc, bytes)?)),
-            _ => Err(SysError::BadSystem(at)),
+            Ok(bytes) if bytes.len() <= MAX_MODULE => Ok(Some(Blob::from_slice(alloc, bytes)?)),
+            _ => Err(FieldError::Bad(at)),
         },
-        _ => Err(SysError::BadSystem(at)),
+        _ => Err(FieldError::Bad(at)),
     }
 }
 
-fn read_certified(alloc: Global, reader: &mut Reader) -> Result<Blob, SysError>
+fn read_certified(alloc: Global, reader: &mut Reader) -> Result<Blob, FieldError>
     ensures read { Gives (λ bytes. (bytes, reader.new)) result (field string8 (λ bytes. nat_le (length bytes) MAX_CERTIFIED) reader.old) }
     ensures bytes { IfOk result IsBytes }
 {
     let at = reader.at() as u64;
     match reader.string8() {
-        Ok(bytes) if bytes.len() <= MAX_CERTIFIED => Ok(copy_of(alloc, bytes)?),
-        _ => Err(SysError::BadSystem(at)),
+        Ok(bytes) if bytes.len() <= MAX_CERTIFIED => Ok(Blob::from_slice(alloc, bytes)?),
+        _ => Err(FieldError::Bad(at)),
     }
 }
 
 // A page count, behind so many pages of the canisters before and so many of the same one.
-fn read_pages(reader: &mut Reader, before: u32, more: u32) -> Result<u32, SysError>
+fn read_pages(reader: &mut Reader, before: u32, more: u32) -> Result<u32, FieldError>
     requires { before + more ≤ state_limit 1 }
     ensures small { IfOk result (λ n. before + more + n ≤ state_limit 1) }
     ensures read { Gives (λ n. (n, reader.new)) result (field (number w32) (λ n. nat_le n (memory_limit 1) && nat_le (before + more + n) (state_limit 1)) reader.old) }
@@ -89,7 +79,7 @@ fn read_pages(reader: &mut Reader, before: u32, more: u32) -> Result<u32, SysErr
         Ok(pages)
             if pages as usize <= MAX_MEMORY_PAGES
                 && (before + more + pages) as usize <= MAX_STATE_PAGES => { Ok(pages) }
-        _ => Err(SysError::BadSystem(at)),
+        _ => Err(FieldError::Bad(at)),
     }
 }
 
@@ -100,7 +90,7 @@ fn read_canister(
     canisters: &[(CanisterId, CanisterRecord)],
     pages: u32,
     birth: u64,
-) -> Result<(CanisterId, CanisterRecord), SysError>
+) -> Result<(CanisterId, CanisterRecord), FieldError>
     requires pages { pages ≡ all_pages (parts canisters.now) }
     requires small { pages ≤ state_limit 1 }
     ensures read { Gives (λ c. ((c.0, part_of_record c.1), reader.new)) result (canister_after 1 (parts canisters.now) reader.old) }
@@ -128,7 +118,7 @@ pub(crate) fn read_canisters(
     reader: &mut Reader,
     count: u32,
     birth: u64,
-) -> Result<(Vec<(CanisterId, CanisterRecord)>, u32), SysError>
+) -> Result<(Vec<(CanisterId, CanisterRecord)>, u32), FieldError>
     ensures read { Gives (λ c. (parts c.0.items, reader.new)) result (each (canister_after 1) count [] reader.old) }
     ensures pages { IfOk result (λ c. c.1 ≡ all_pages (parts c.0.items)) }
     ensures bytes { IfOk result (λ c. AllByRecursion IsCanister c.0.items) }

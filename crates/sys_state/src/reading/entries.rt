@@ -8,30 +8,28 @@ ghost use Rattle.format_spec.specs.Bytes.{IsBytes, path_cmp, is_after, last_key}
 ghost use Rattle.format_spec.specs.Fields.{field, string16, each, any};
 ghost use Rattle.state_spec.specs.State.{are_apart, is_prefix};
 ghost use Rattle.state_spec.specs.SystemText.{entry_after, path_form, path_fits};
-ghost use Rattle.sys_state.specs.Reading.{Gives};
+ghost use Rattle.byte_codec.specs.Gives.{Gives};
 ghost use Rattle.sys_state.specs.System.{IsEntry};
 
-use crate::blobs::copy_of;
-use crate::error::SysError;
 use crate::path::Path;
-use byte_codec::{Blob, Reader};
+use byte_codec::{Blob, FieldError, Reader};
 use format_spec::MAX_VALUE;
 use std::alloc::Global;
 
 // The labels of a path, with their number one field.
-fn read_labels(alloc: Global, reader: &mut Reader) -> Result<Vec<Blob>, SysError>
+fn read_labels(alloc: Global, reader: &mut Reader) -> Result<Vec<Blob>, FieldError>
     ensures { Gives (λ labels. (labels.items, reader.new)) result (field path_form any reader.old) }
 {
     let at = reader.at() as u64;
     let Ok(count) = reader.u8() else {
-        return Err(SysError::BadSystem(at));
+        return Err(FieldError::Bad(at));
     };
     let mut labels = Vec::new(alloc);
     for _ in 0..count {
         let Ok(label) = reader.string8() else {
-            return Err(SysError::BadSystem(at));
+            return Err(FieldError::Bad(at));
         };
-        labels.push(copy_of(alloc, label)?)?;
+        labels.push(Blob::from_slice(alloc, label)?)?;
     }
     Ok(labels)
 }
@@ -61,7 +59,11 @@ fn path_of(labels: Vec<Blob>, entries: &[(Path, Blob)]) -> Option<Path>
     Some(path)
 }
 
-fn read_path(alloc: Global, reader: &mut Reader, entries: &[(Path, Blob)]) -> Result<Path, SysError>
+fn read_path(
+    alloc: Global,
+    reader: &mut Reader,
+    entries: &[(Path, Blob)],
+) -> Result<Path, FieldError>
     requires sorted { IsTrue (is_sorted path_cmp entries.now) }
     requires apart { IsTrue (are_apart entries.now) }
     ensures read { Gives (λ path. (path, reader.new)) result (field path_form (path_fits entries.now) reader.old) }
@@ -71,18 +73,18 @@ fn read_path(alloc: Global, reader: &mut Reader, entries: &[(Path, Blob)]) -> Re
     let labels = read_labels(alloc, reader)?;
     match path_of(labels, entries) {
         Some(path) => Ok(path),
-        None => Err(SysError::BadSystem(at)),
+        None => Err(FieldError::Bad(at)),
     }
 }
 
-fn read_value(alloc: Global, reader: &mut Reader) -> Result<Blob, SysError>
+fn read_value(alloc: Global, reader: &mut Reader) -> Result<Blob, FieldError>
     ensures read { Gives (λ bytes. (bytes, reader.new)) result (field string16 (λ bytes. nat_le (length bytes) MAX_VALUE) reader.old) }
     ensures bytes { IfOk result IsBytes }
 {
     let at = reader.at() as u64;
     match reader.string16() {
-        Ok(bytes) if bytes.len() <= MAX_VALUE => Ok(copy_of(alloc, bytes)?),
-        _ => Err(SysError::BadSystem(at)),
+        Ok(bytes) if bytes.len() <= MAX_VALUE => Ok(Blob::from_slice(alloc, bytes)?),
+        _ => Err(FieldError::Bad(at)),
     }
 }
 
@@ -91,7 +93,7 @@ fn read_entry(
     alloc: Global,
     reader: &mut Reader,
     entries: &[(Path, Blob)],
-) -> Result<(Path, Blob), SysError>
+) -> Result<(Path, Blob), FieldError>
     requires sorted { IsTrue (is_sorted path_cmp entries.now) }
     requires apart { IsTrue (are_apart entries.now) }
     ensures read { Gives (λ e. (e, reader.new)) result (entry_after entries.now reader.old) }
@@ -107,7 +109,7 @@ pub(crate) fn read_entries(
     alloc: Global,
     reader: &mut Reader,
     count: u32,
-) -> Result<Vec<(Path, Blob)>, SysError>
+) -> Result<Vec<(Path, Blob)>, FieldError>
     ensures read { Gives (λ es. (es.items, reader.new)) result (each entry_after count [] reader.old) }
     ensures bytes { IfOk result (λ es. AllByRecursion IsEntry es.items) }
 {

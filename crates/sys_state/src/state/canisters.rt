@@ -4,10 +4,8 @@ ghost use Rattle.std.specs.Prelude.{◌≡◌, ◌≤◌, length, OnOk, OnErr, I
 ghost use Rattle.sys_state.specs.Calls.{Answers, answer, create_refusal, extend_refusal, find_refusal};
 ghost use Rattle.sys_state.specs.Calls.{Creates, Changes, Removes, newborn, extended, with_module, with_certified};
 ghost use Rattle.format_spec.specs.Bytes.{IsBytes};
-ghost use Rattle.state_spec.specs.SystemText.{wasm_fits};
 
 use super::SysState;
-use crate::blobs::is_within;
 use crate::canister_id::CanisterId;
 use crate::error::SysError;
 use crate::mem::Mem;
@@ -16,13 +14,13 @@ use byte_codec::Blob;
 use format_spec::{MAX_CANISTERS, MAX_CERTIFIED, MAX_MEMORY_PAGES, MAX_MODULE, MAX_STATE_PAGES};
 use std::alloc::Global;
 
-fn is_module(module: &Option<Blob>) -> bool
-    ensures test { result ≡ wasm_fits «module».now }
-    ensures bytes { IfSome «module».now IsBytes }
+// It is where it is read that a module is known to be of bytes.
+fn bytes_of(module: &Option<Blob>) -> &[u8]
+    ensures { IfSome «module».now IsBytes }
 {
     match module {
-        None => true,
-        Some(module) => is_within(module, MAX_MODULE),
+        None => &[],
+        Some(module) => module.bytes(),
     }
 }
 
@@ -36,6 +34,7 @@ impl SysState {
         ensures created { OnOk result (Creates self.old self.new id (newborn birth)) }
         ensures unchanged { OnErr result (self.new ≡ self.old) }
     {
+        // It is where it is read that an id is known to be 1 to 29 bytes.
         let _bytes = id.bytes();
         let Err(i) = self.place(&id) else {
             return Err(SysError::Exists);
@@ -97,8 +96,7 @@ impl SysState {
         ensures changed { OnOk result (Changes self.old self.new id.now (with_module «module»)) }
         ensures unchanged { OnErr result (self.new ≡ self.old) }
     {
-        let fits = is_module(&module);
-        prove!(fits);
+        let _bytes = bytes_of(&module);
         let Ok(i) = self.place(id) else {
             return Err(SysError::NoCanister);
         };
@@ -115,8 +113,8 @@ impl SysState {
         ensures changed { OnOk result (Changes self.old self.new id.now (with_certified bytes)) }
         ensures unchanged { OnErr result (self.new ≡ self.old) }
     {
-        let fits = is_within(&bytes, MAX_CERTIFIED);
-        prove!(fits);
+        // It is where they are read that they are known to be bytes.
+        let _bytes = bytes.bytes();
         let Ok(i) = self.place(id) else {
             return Err(SysError::NoCanister);
         };

@@ -9,7 +9,6 @@ ghost use Rattle.sys_state.specs.Places.{Places, IsAbsent};
 ghost use Rattle.sys_state.specs.Calls.{Answers, answer, put_refusal, del_refusal, with_entry, without_entry};
 
 use super::SysState;
-use crate::blobs::is_within;
 use crate::error::SysError;
 use crate::path::Path;
 use crate::place::search;
@@ -64,8 +63,8 @@ impl SysState {
         ensures put { OnOk result (self.new ≡ with_entry self.old path value) }
         ensures unchanged { OnErr result (self.new ≡ self.old) }
     {
-        let fits = is_within(&value, MAX_VALUE);
-        prove!(fits);
+        // It is where it is read that a value is known to be of bytes.
+        let _bytes = value.bytes();
         if path.is_reserved() {
             return Err(SysError::Reserved);
         }

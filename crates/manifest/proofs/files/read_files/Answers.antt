@@ -1,7 +1,7 @@
 use Rattle.std.proofs.Common.{◌≡◌, ◌≤◌, ◌^◌, ◌+◌, ◌∙◌, ◌++◌, ◌∷◌, [], ℕ, List, Some, Ok, ap, sym, subst}
 use Rattle.std.proofs.lemmas.Result.{err_from_is_err_and}
 use Rattle.state_spec.specs.Manifest.{FileRow}
-use Rattle.manifest.specs.Gives.{Fails}
+use Rattle.byte_codec.specs.Gives.{Fails}
 use Rattle.manifest.specs.Reading.{stable_row}
 use Rattle.manifest.proofs.FileLoops.{ReadSoFar, heap_stops, stable_stops, read_more, system_stops, all_read}
 use Rattle.manifest.proofs.files.read_files.Goals as goal

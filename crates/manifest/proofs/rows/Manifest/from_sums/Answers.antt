@@ -28,7 +28,7 @@ pub returns-clause-value : goal.returns-clause-value
 returns-clause-value c =
     made c.add_memories.new.self c.add_file.new.self (part_of c.args.sys.now) (map items c.args.sums.now)
     c.in_ok-name.name c.args.system.now (length c.args.system.now) c.deref.result.now
-    c.in_ok-add_memories.ensures.rows c.in_ok-add_file.ensures c.in_ok-name.ensures refl (c.deref.ensures.value ∙ c.in_ok-hashes.ensures) c.requires.text
+    c.in_ok-add_memories.ensures.rows c.in_ok-add_file.ensures c.in_ok-name.ensures.value refl (c.deref.ensures.value ∙ c.in_ok-hashes.ensures) c.requires.text
 
 pub returns-clause-fits : goal.returns-clause-fits
 returns-clause-fits c =

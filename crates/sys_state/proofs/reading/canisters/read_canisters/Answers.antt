@@ -7,7 +7,7 @@ use Rattle.state_spec.specs.SystemText.{canister_after}
 use Rattle.sys_state.specs.System.{IsCanister, parts, part_of_record}
 use Rattle.sys_state.proofs.Kept.{pages-join, pages-one}
 use Rattle.sys_state.proofs.Lists.{all_join}
-use Rattle.sys_state.proofs.Stops.{stops}
+use Rattle.byte_codec.proofs.Stops.{stops}
 use Rattle.sys_state.proofs.reading.canisters.read_canisters.Goals as goal
 
 pub returns-in_err-canister-clause-read : goal.returns-in_err-canister-clause-read

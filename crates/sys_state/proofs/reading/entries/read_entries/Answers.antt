@@ -5,7 +5,7 @@ use Rattle.state_spec.specs.SystemText.{entry_after}
 use Rattle.sys_state.specs.System.{IsEntry}
 use Rattle.sys_state.proofs.Entries.{pushed}
 use Rattle.sys_state.proofs.Lists.{all_join}
-use Rattle.sys_state.proofs.Stops.{stops}
+use Rattle.byte_codec.proofs.Stops.{stops}
 use Rattle.sys_state.proofs.reading.entries.read_entries.Goals as goal
 
 pub returns-in_err-entry-clause-read : goal.returns-in_err-entry-clause-read

@@ -3,7 +3,7 @@ use Rattle.state_spec.specs.SystemText.{read_system, system_fields}
 use Rattle.sys_state.specs.Reading.{head}
 use Rattle.sys_state.specs.System.{part_of, system}
 use Rattle.sys_state.proofs.Text.{read_is_system}
-use Rattle.sys_state.proofs.state.SysState.decode.Goals as goal
+use Rattle.sys_state.proofs.state.decoding.read_state.Goals as goal
 
 pub invariant_of-result : goal.invariant_of-result
 unfolding read_system system_fields head
