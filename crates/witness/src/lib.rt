@@ -16,5 +16,5 @@ pub use checking::{Checked, check};
 pub use error::WitnessError;
 pub use looking::{Looked, lookup};
 pub use reading::from_cbor;
-pub use showing::witness;
+pub use showing::{witness, witness_of_state};
 pub use writing::to_cbor;

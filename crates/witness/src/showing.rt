@@ -5,42 +5,75 @@ ghost use Rattle.format_spec.specs.Bytes.{bytes_cmp, is_after};
 ghost use Rattle.state_spec.specs.State.{SystemPart, IsSystem};
 ghost use Rattle.tree_spec.specs.Labelled.{state_tree};
 ghost use Rattle.tree_spec.specs.Witness.{rests as rests_of, going_on as going_on_of, begins_some as begins_some_of, first_label as first_label_of, is_it};
+ghost use Rattle.hash_tree.specs.Hashes.{AreHashesOf};
 ghost use Rattle.hash_tree.specs.View.{tree_view};
 ghost use Rattle.witness.specs.Shows.{IsWitness};
 ghost use Rattle.witness.specs.Parts.{part as part_of, begins_between as begins_between_of, first_in, last_in, goes_on as goes_on_of, is_under as is_under_of, reached as reached_of};
 
 use crate::level::is_same;
 use byte_codec::{Blob, NoMemory};
-use hash_tree::{HashTree, reconstruct};
+use hash_tree::{HashTree, StateTree, TreeHashes};
 use std::alloc::Global;
 use sys_state::Path;
 
 /// The witness of paths, of which there is at least one, in the tree of a valid state: the part of the tree that shows
-/// what stands at them, with the rest as hashes. It is made in one walk. Takes stack by the depth.
+/// what stands at them, with the rest as hashes. Each part of the tree is hashed once. NoMemory where memory runs out. Takes
+/// stack by the depth.
 pub fn witness(alloc: Global, tree: &HashTree, paths: &[Path]) -> Result<HashTree, NoMemory>
+    ensures { (version : ℕ) (s : SystemPart) → IsSystem version s → tree_view tree.now ≡ state_tree s → IfOk result (λ w. IsWitness s paths.now (tree_view w)) }
+{
+    let hashes = TreeHashes::of(alloc, tree)?;
+    shown(alloc, tree, &hashes, paths)
+}
+
+/// The same of a tree that has its hashes beside it. It is one walk along the paths, which hashes nothing.
+pub fn witness_of_state(
+    alloc: Global,
+    tree: &StateTree,
+    paths: &[Path],
+) -> Result<HashTree, NoMemory>
+    ensures { (version : ℕ) (s : SystemPart) → IsSystem version s → tree_view tree.now ≡ state_tree s → IfOk result (λ w. IsWitness s paths.now (tree_view w)) }
+{
+    shown(alloc, tree.tree(), tree.hashes(), paths)
+}
+
+// The witness in a tree that has these hashes.
+fn shown(
+    alloc: Global,
+    tree: &HashTree,
+    hashes: &TreeHashes,
+    paths: &[Path],
+) -> Result<HashTree, NoMemory>
+    requires { AreHashesOf hashes.now (tree_view tree.now) }
     ensures { (version : ℕ) (s : SystemPart) → IsSystem version s → tree_view tree.now ≡ state_tree s → IfOk result (λ w. IsWitness s paths.now (tree_view w)) }
 {
     let mut rests = Vec::with_capacity(alloc, paths.len())?;
     for path in paths {
         rests.push(path.labels())?;
     }
-    part(alloc, tree, &rests)
+    part(alloc, tree, hashes, &rests)
 }
 
-// The part of a tree that shows what is left of paths at it. A path that begins between the two sides of a fork goes to
-// both: the neighbours of a label that is missing are shown.
-fn part(alloc: Global, tree: &HashTree, rests: &[&[Blob]]) -> Result<HashTree, NoMemory>
+// The part of a tree with these hashes that shows what is left of paths at it. A path that begins between the two sides of
+// a fork goes to both: the neighbours of a label that is missing are shown.
+fn part(
+    alloc: Global,
+    tree: &HashTree,
+    hashes: &TreeHashes,
+    rests: &[&[Blob]],
+) -> Result<HashTree, NoMemory>
+    requires { AreHashesOf hashes.now (tree_view tree.now) }
     ensures { IfOk result (λ w. tree_view w ≡ part_of (tree_view tree.now) (map (λ p. p.now) rests.now)) }
 {
     if rests.is_empty() {
-        return Ok(HashTree::Pruned(reconstruct(tree)));
+        return Ok(HashTree::Pruned(hashes.hash()));
     }
     match tree {
         HashTree::Fork(left, right) => {
             let before = between(alloc, rests, None, first_label(right))?;
             let behind = between(alloc, rests, last_label(left), None)?;
-            let left = part(alloc, left, &before)?;
-            let right = part(alloc, right, &behind)?;
+            let left = part(alloc, left, hashes.left(), &before)?;
+            let right = part(alloc, right, hashes.right(), &behind)?;
             HashTree::fork(alloc, left, right)
         }
         HashTree::Labeled(label, below) => match reached(label.bytes(), below, rests) {
@@ -50,12 +83,12 @@ fn part(alloc: Global, tree: &HashTree, rests: &[&[Blob]]) -> Result<HashTree, N
             }
             None => {
                 let deeper = going_on(alloc, rests, label.bytes())?;
-                let below = part(alloc, below, &deeper)?;
+                let below = part(alloc, below, hashes.below(), &deeper)?;
                 HashTree::labeled(alloc, label.copy(alloc)?, below)
             }
         },
         HashTree::Empty | HashTree::Leaf(_) | HashTree::Pruned(_) => {
-            Ok(HashTree::Pruned(reconstruct(tree)))
+            Ok(HashTree::Pruned(hashes.hash()))
         }
     }
 }

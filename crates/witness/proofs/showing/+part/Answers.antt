@@ -1,7 +1,8 @@
-use Rattle.std.proofs.Common.{◌≡◌, ◌∙◌, map, filter, Option, Some, None, true, inl, inr, sym, ap}
+use Rattle.std.proofs.Common.{◌≡◌, ◌∙◌, map, filter, Option, Some, None, true, inl, inr, sym, ap, subst, suc, max, arith}
 use Rattle.format_spec.specs.Bytes.{Bytes}
-use Rattle.tree_spec.specs.Tree.{fork, labeled, leaf, pruned}
+use Rattle.tree_spec.specs.Tree.{depth, fork, labeled, leaf, pruned}
 use Rattle.tree_spec.specs.Witness.{rests, going_on}
+use Rattle.hash_tree.specs.Hashes.{AreHashesOf}
 use Rattle.hash_tree.specs.View.{tree_view}
 use Rattle.witness.specs.Parts.{part, begins_between, first_in, last_in, reached, over_leaf}
 use Rattle.witness.proofs.Parts.{is_bare, part_bare, part_nothing, part_fork, part_labeled, ok_then, both_sides, some_paths}
@@ -9,7 +10,51 @@ use Rattle.witness.proofs.showing.+part.Goals as goal
 
 pub returns-then-is_empty : goal.returns-then-is_empty
 returns-then-is_empty t c =
-    ap pruned c.reconstruct.ensures ∙ sym (part_nothing (λ p. p.now) (tree_view c.args.tree.now) c.args.rests.now c.if-is_empty.ensures)
+    ap pruned (c.hash.ensures (tree_view c.args.tree.now) c.requires) ∙ sym (part_nothing (λ p. p.now) (tree_view c.args.tree.now) c.args.rests.now c.if-is_empty.ensures)
+
+pub left-requires : goal.left-requires
+left-requires t c =
+    (tree_view c.in-Fork.left.value, tree_view c.in-Fork.right.value, subst (λ t. AreHashesOf c.args.hashes.now (tree_view t)) c.in-Fork.is c.requires)
+
+pub part-requires : goal.part-requires
+part-requires t c =
+    let l = tree_view c.in-Fork.left.value in
+    let r = tree_view c.in-Fork.right.value in
+    let part : depth (tree_view c.deref-in-Fork-2.result.now) ≡ depth l = ap (λ t. depth (tree_view t)) c.deref-in-Fork-2.ensures in
+    let whole : depth (tree_view c.args.tree.now) ≡ suc (max (depth l) (depth r)) = ap (λ t. depth (tree_view t)) c.in-Fork.is in (
+      omega (arith, part, whole),
+      subst (λ t. AreHashesOf c.left.result.now (tree_view t)) (sym c.deref-in-Fork-2.ensures)
+          (c.left.ensures l r (subst (λ t. AreHashesOf c.args.hashes.now (tree_view t)) c.in-Fork.is c.requires)),
+    )
+
+pub right-requires : goal.right-requires
+right-requires t c =
+    (tree_view c.in-Fork.left.value, tree_view c.in-Fork.right.value, subst (λ t. AreHashesOf c.args.hashes.now (tree_view t)) c.in-Fork.is c.requires)
+
+pub part-requires-in-Fork : goal.part-requires-in-Fork
+part-requires-in-Fork t c =
+    let l = tree_view c.in-Fork.left.value in
+    let r = tree_view c.in-Fork.right.value in
+    let part : depth (tree_view c.deref-in-Fork-4.result.now) ≡ depth r = ap (λ t. depth (tree_view t)) c.deref-in-Fork-4.ensures in
+    let whole : depth (tree_view c.args.tree.now) ≡ suc (max (depth l) (depth r)) = ap (λ t. depth (tree_view t)) c.in-Fork.is in (
+      omega (arith, part, whole),
+      subst (λ t. AreHashesOf c.right.result.now (tree_view t)) (sym c.deref-in-Fork-4.ensures)
+          (c.right.ensures l r (subst (λ t. AreHashesOf c.args.hashes.now (tree_view t)) c.in-Fork.is c.requires)),
+    )
+
+pub below-requires : goal.below-requires
+below-requires t c =
+    (c.in-Labeled.label, tree_view c.in-Labeled.below.value, subst (λ t. AreHashesOf c.args.hashes.now (tree_view t)) c.in-Labeled.is c.requires)
+
+pub part-requires-in-None : goal.part-requires-in-None
+part-requires-in-None t c =
+    let below = tree_view c.in-Labeled.below.value in
+    let part : depth (tree_view c.deref-in-None.result.now) ≡ depth below = ap (λ t. depth (tree_view t)) c.deref-in-None.ensures in
+    let whole : depth (tree_view c.args.tree.now) ≡ suc (depth below) = ap (λ t. depth (tree_view t)) c.in-Labeled.is in (
+      omega (arith, part, whole),
+      subst (λ t. AreHashesOf c.below.result.now (tree_view t)) (sym c.deref-in-None.ensures)
+          (c.below.ensures c.in-Labeled.label below (subst (λ t. AreHashesOf c.args.hashes.now (tree_view t)) c.in-Labeled.is c.requires)),
+    )
 
 pub returns-in_ok-right-in-Fork : goal.returns-in_ok-right-in-Fork
 returns-in_ok-right-in-Fork t c =
@@ -75,4 +120,4 @@ pub returns-in-Empty : goal.returns-in-Empty
 returns-in-Empty t c =
     let bare : is_bare (tree_view c.args.tree.now) ≡ true =
     elim c.in-Empty.is [ inl e ↦ ap (λ t. is_bare (tree_view t)) e | inr o ↦ elim o [ inl l ↦ ap (λ t. is_bare (tree_view t)) l.1 | inr p ↦ ap (λ t. is_bare (tree_view t)) p.1 ] ] in
-    ap pruned c.reconstruct-in-Empty.ensures ∙ sym (part_bare (tree_view c.args.tree.now) (map (λ p. p.now) c.args.rests.now) bare)
+    ap pruned (c.hash-in-Empty.ensures (tree_view c.args.tree.now) c.requires) ∙ sym (part_bare (tree_view c.args.tree.now) (map (λ p. p.now) c.args.rests.now) bare)

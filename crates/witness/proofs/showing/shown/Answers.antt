@@ -3,7 +3,7 @@ use Rattle.hash_tree.specs.View.{tree_view}
 use Rattle.witness.specs.Parts.{part}
 use Rattle.witness.specs.Shows.{IsWitness}
 use Rattle.witness.proofs.Witnesses.{is_witness, gathered_more, gathered_all, ok_map}
-use Rattle.witness.proofs.showing.witness.Goals as goal
+use Rattle.witness.proofs.showing.shown.Goals as goal
 
 pub loop-path-init : goal.loop-path-init
 loop-path-init c = record { same = ap (map (λ p. p.now)) c.in_ok-rests.ensures.items; some = tt }
