@@ -1,7 +1,7 @@
 use Rattle.std.specs.List.{AllByRecursion}
 use Rattle.std.proofs.Common.{subst, sym}
 use Rattle.disk_model.specs.declared.name.Kind.TheVariants as kind
-use Rattle.disk_model.specs.Frame.{touches_then}
+use Rattle.disk_model.specs.Frame.{touches_then, touches_wider}
 use Rattle.height_store.proofs.Strays.{pages_within, drafts_within, stages_within, are_there, there_after_pages, there_after_drafts}
 use Rattle.height_store.proofs.opening.sweep_strays.Goals as goal
 
