@@ -25,7 +25,7 @@ use Rattle.disk_model.specs.Moments.{at_start, weaker}
 use Rattle.disk_model.specs.Frame.{TouchesOnly}
 use Rattle.page_file.specs.Files.{NumberedFile, IsKept}
 use Rattle.height_store.specs.Store.{Store, StoredHeight, IsHeight, IsStore, heights_in, mark_names, is_named, is_needed}
-use Rattle.height_store.specs.Kept.{IsOver, HasMark, HasStacks, IsMadeOf, HasFirmPages, ShowsHeight, ShowsHeights, KeepsHeights, StandsForEither}
+use Rattle.height_store.specs.Kept.{IsReadable, IsWritable, HasMark, HasStacks, IsMadeOf, HasFirmPages, ShowsHeight, ShowsHeights, KeepsHeights, StandsForEither}
 use Rattle.height_store.specs.Laws.{kept_stands, shown_stands, shown_depends, settled_keeps, made_apart}
 use Rattle.height_store.specs.Shown.{or_left, or_right}
 use Rattle.height_store.specs.Written.{is_of, with_mark, HasWritten, IsBeforeOrAfter}
@@ -173,10 +173,10 @@ module _ (height : ℕ) (text : Bytes) (old new : DiskView) (written : HasWritte
     | inr other ↦ touches.firm q (either_false _ _ apart other) firm
   ]
 
-  pub drafts_after : ((n : ℕ) → old.state.files (name.Draft n) ≡ None) → (n : ℕ) → new.state.files (name.Draft n) ≡ None
-  drafts_after none n = elim (cases_Bool (height == n)) [
+  pub draft_after : (n : ℕ) → old.state.files (name.Draft n) ≡ None → new.state.files (name.Draft n) ≡ None
+  draft_after n none = elim (cases_Bool (height == n)) [
     | inl same ↦ ap (λ (k : ℕ). new.state.files (name.Draft k)) (sym (exact_unsigned_eq height n same)) ∙ written.no_draft
-    | inr apart ↦ touches.reads (name.Draft n) (either_false _ _ apart refl) ∙ none n
+    | inr apart ↦ touches.reads (name.Draft n) (either_false _ _ apart refl) ∙ none
   ]
 
 pub keeps_push : (hs : List StoredHeight) (ps : List Published) (old new : DiskView) (h : StoredHeight) (p : Published) → MayPublish hs ps old.state h p → HasWritten h.mark.height (mark_text h.mark) old new → TouchesOnly (is_of h.mark.height) old new → IsSettled old.state
@@ -186,23 +186,27 @@ keeps_push hs ps old new h p may written touches settled = settled_keeps (hs ++ 
     (shown_push old.state.files new.state.files hs ps h p may.below may.few (may.keeps.images old.state.files may.sound) may.good may.made
     (λ q needed. reads_after h.mark.height (mark_text h.mark) old new written touches q (no_draft_needed (hs ++ h ∷ []) h.mark.height q needed)))
 
-pub over_push : (store : Store) (old new : DiskView) (h : StoredHeight) → IsOver store old.state.files → AreBelow h.mark.height store.heights → AllByRecursion (AllByRecursion (IsKept old.state.files)) h.stacks
-    → HasWritten h.mark.height (mark_text h.mark) old new → TouchesOnly (is_of h.mark.height) old new → IsOver (record store { heights = store.heights ++ h ∷ [] }) new.state.files
-over_push store old new h over below kept written touches = record {
-  listed = subst (IsListing kind.Mark new.state.files) (sym (heights_push store.heights h)) (listing_push old.state.files new.state.files (heights_in store.heights) h.mark.height (mark_text h.mark) (numbers_below h.mark.height store.heights below) over.listed marks);
-  marks = all_append (HasMark new.state.files) store.heights (h ∷ []) (all_weaker (λ x. (x.mark.height < h.mark.height) × HasMark old.state.files x) (HasMark new.state.files)
-      (λ x both. mark_apart old.state.files new.state.files h.mark.height (mark_text h.mark) marks x.mark.height both.0 ∙ both.1) store.heights (all_both _ (HasMark old.state.files) store.heights below over.marks)) (written.there, tt);
-  stacks = all_append (HasStacks new.state.files) store.heights (h ∷ []) (all_weaker (HasStacks old.state.files) (HasStacks new.state.files) (λ x kept. stacks_carried old.state.files new.state.files pages x.stacks kept) store.heights over.stacks)
-      (stacks_carried old.state.files new.state.files pages h.stacks kept, tt);
-  given = λ n unused. pages n ∙ over.given n unused;
-  no_draft = drafts_after h.mark.height (mark_text h.mark) old new written touches over.no_draft;
-}
-  where
-    marks : (k : ℕ) → new.state.files (name.Mark k) ≡ with_mark h.mark.height (mark_text h.mark) old.state.files (name.Mark k)
-    marks k = reads_after h.mark.height (mark_text h.mark) old new written touches (name.Mark k) refl
+module _ (store : Store) (old new : DiskView) (h : StoredHeight) (written : HasWritten h.mark.height (mark_text h.mark) old new) (touches : TouchesOnly (is_of h.mark.height) old new) where
+  marks : (k : ℕ) → new.state.files (name.Mark k) ≡ with_mark h.mark.height (mark_text h.mark) old.state.files (name.Mark k)
+  marks k = reads_after h.mark.height (mark_text h.mark) old new written touches (name.Mark k) refl
 
-    pages : (n : ℕ) → new.state.files (name.Page n) ≡ old.state.files (name.Page n)
-    pages n = reads_after h.mark.height (mark_text h.mark) old new written touches (name.Page n) refl
+  pages : (n : ℕ) → new.state.files (name.Page n) ≡ old.state.files (name.Page n)
+  pages n = reads_after h.mark.height (mark_text h.mark) old new written touches (name.Page n) refl
+
+  pub readable_push : IsReadable store.heights old.state.files → AreBelow h.mark.height store.heights → AllByRecursion (AllByRecursion (IsKept old.state.files)) h.stacks → IsReadable (store.heights ++ h ∷ []) new.state.files
+  readable_push readable below kept = record {
+    listed = subst (IsListing kind.Mark new.state.files) (sym (heights_push store.heights h)) (listing_push old.state.files new.state.files (heights_in store.heights) h.mark.height (mark_text h.mark) (numbers_below h.mark.height store.heights below) readable.listed marks);
+    marks = all_append (HasMark new.state.files) store.heights (h ∷ []) (all_weaker (λ x. (x.mark.height < h.mark.height) × HasMark old.state.files x) (HasMark new.state.files)
+        (λ x both. mark_apart old.state.files new.state.files h.mark.height (mark_text h.mark) marks x.mark.height both.0 ∙ both.1) store.heights (all_both _ (HasMark old.state.files) store.heights below readable.marks)) (written.there, tt);
+    stacks = all_append (HasStacks new.state.files) store.heights (h ∷ []) (all_weaker (HasStacks old.state.files) (HasStacks new.state.files) (λ x kept. stacks_carried old.state.files new.state.files pages x.stacks kept) store.heights readable.stacks)
+        (stacks_carried old.state.files new.state.files pages h.stacks kept, tt);
+  }
+
+  pub writable_push : (n : ℕ) → IsWritable store n old.state.files → IsWritable (record store { heights = store.heights ++ h ∷ [] }) n new.state.files
+  writable_push n writable = record {
+    room = λ k unused. pages k ∙ writable.room k unused;
+    no_draft = draft_after h.mark.height (mark_text h.mark) old new written touches n writable.no_draft;
+  }
 
 -- ---- the store itself
 

@@ -7,7 +7,7 @@ use Rattle.std.proofs.lemmas.Bool.{cases_Bool, false≢true}
 use Rattle.std.proofs.lemmas.Bool.Decides.{nat_tests}
 use Rattle.std.proofs.lemmas.List.Filters.{length-filter_both}
 use Rattle.std.proofs.lemmas.List.Kept.{IsStrictlyIncreasing-filter}
-use Rattle.store_spec.specs.Image.{Published}
+use Rattle.store_spec.specs.Image.{Published, without_published}
 use Rattle.disk_model.specs.declared.disk.DiskError.{DiskError}
 use Rattle.disk_model.specs.declared.disk.DiskError.TheVariants as disk
 use Rattle.disk_model.specs.declared.name.Kind.TheVariants as kind
@@ -24,7 +24,7 @@ use Rattle.height_store.specs.declared.error.StoreError.{StoreError}
 use Rattle.height_store.specs.declared.error.StoreError.TheVariants.{LastHeight}
 use Rattle.height_store.specs.Errors.{disk_error}
 use Rattle.height_store.specs.Store.{Store, StoredHeight, IsStore, heights_in, height_at, is_newest, without_height, mark_names, is_named, is_needed}
-use Rattle.height_store.specs.Kept.{IsOver, HasMark, HasStacks, ShowsHeight, ShowsHeights, KeepsHeights, StandsForEither, without_published}
+use Rattle.height_store.specs.Kept.{IsReadable, IsWritable, HasMark, HasStacks, ShowsHeight, ShowsHeights, KeepsHeights, StandsForEither}
 use Rattle.height_store.specs.Laws.{kept_stands, shown_stands, shown_depends, settled_keeps}
 use Rattle.height_store.specs.Shown.{or_left, or_right}
 use Rattle.height_store.proofs.Carried.{height_carried, stacks_carried}
@@ -137,6 +137,9 @@ removed_images result old new hs ps height sound settled keeps does =
       | inr after ↦ inr (shown_stands image (without_height hs height) (without_published ps height) (shown_without old.state.files image hs ps height shows (λ q needed. after.firm q (keeps.firm q needed))))
     ]
 
+abbrev pub less : ℕ → Store → Store
+less height store = record store { heights = without_height store.heights height }
+
 module _ (old new : DiskView) (height : ℕ) (does : Done (remove (name.Mark height)) old new) where
   reads_without : (q : Name) → new.state.files q ≡ without (name.Mark height) old.state.files q
   reads_without q = ap (λ (s : DiskState). s.files q) does.state
@@ -152,13 +155,17 @@ module _ (old new : DiskView) (height : ℕ) (does : Done (remove (name.Mark hei
       (λ q needed. firm_without q (keeps.firm q (needed_without height hs q needed)))
       (shown_without old.state.files new.state.files hs ps height (keeps.images old.state.files sound) (λ q needed. reads_without q))
 
-  pub over_without : (store : Store) → IsOver store old.state.files → IsOver (record store { heights = without_height store.heights height }) new.state.files
-  over_without store over = record {
-    listed = listing_without old.state.files new.state.files height store.heights over.listed (λ k. reads_without (name.Mark k));
-    marks = all_without (HasMark old.state.files) (HasMark new.state.files) height (λ h other there. mark_stays old.state.files new.state.files height (λ k. reads_without (name.Mark k)) h.mark.height other ∙ there) store.heights over.marks;
-    stacks = all_without (HasStacks old.state.files) (HasStacks new.state.files) height (λ h other kept. stacks_carried old.state.files new.state.files (λ n. reads_without (name.Page n)) h.stacks kept) store.heights over.stacks;
-    given = λ n unused. reads_without (name.Page n) ∙ over.given n unused;
-    no_draft = λ n. reads_without (name.Draft n) ∙ over.no_draft n;
+  pub readable_without : (hs : List StoredHeight) → IsReadable hs old.state.files → IsReadable (without_height hs height) new.state.files
+  readable_without hs readable = record {
+    listed = listing_without old.state.files new.state.files height hs readable.listed (λ k. reads_without (name.Mark k));
+    marks = all_without (HasMark old.state.files) (HasMark new.state.files) height (λ h other there. mark_stays old.state.files new.state.files height (λ k. reads_without (name.Mark k)) h.mark.height other ∙ there) hs readable.marks;
+    stacks = all_without (HasStacks old.state.files) (HasStacks new.state.files) height (λ h other kept. stacks_carried old.state.files new.state.files (λ n. reads_without (name.Page n)) h.stacks kept) hs readable.stacks;
+  }
+
+  pub writable_without : (store : Store) (n : ℕ) → IsWritable store n old.state.files → IsWritable (less height store) n new.state.files
+  writable_without store n writable = record {
+    room = λ k unused. reads_without (name.Page k) ∙ writable.room k unused;
+    no_draft = reads_without (name.Draft n) ∙ writable.no_draft;
   }
 
 pub store_without : (store : Store) (height : ℕ) → IsStore store → IsStore (record store { heights = without_height store.heights height })
@@ -219,9 +226,6 @@ disk_never (Err m) disk.Memory made is = absurd cc
 
 abbrev pub store_of : List StoredHeight → List ℕ → ℕ → ℕ → Store
 store_of hs named given next = record { heights = hs; named = named; given = given; next = next }
-
-abbrev pub less : ℕ → Store → Store
-less height store = record store { heights = without_height store.heights height }
 
 pub lost : (inside store : Store) (hs : List StoredHeight) (height : ℕ) → inside ≡ store → hs ≡ without_height inside.heights height → store_of hs inside.named inside.given inside.next ≡ less height store
 lost inside store hs height is dropped = ap (λ (l : List StoredHeight). store_of l inside.named inside.given inside.next) dropped ∙ ap (less height) is

@@ -1,57 +1,27 @@
 -- Reading marks one by one.
-use Rattle.std.proofs.Common.{◌≡◌, ◌⊎◌, ℕ, ◌+◌, ◌<◌, ◌≤◌, suc, List, [], ◌∷◌, ◌++◌, length, take, drop, map, get_or, Result, Ok, Err, refl, sym, ◌∙◌, ap, subst, arith, inl, inr, ⊎_elim, length-append, drop-cons}
+use Rattle.std.proofs.Common.{◌≡◌, ◌⊎◌, ℕ, ◌+◌, ◌<◌, ◌≤◌, suc, List, [], ◌∷◌, ◌++◌, length, take, drop, map, get_or, Option, Some, None, option_map, Result, Ok, Err, refl, sym, ◌∙◌, ap, subst, arith, inl, inr, ⊎_elim, length-append, drop-cons}
 use Rattle.std.specs.Prelude.{sum_by, IsErrOf}
 use Rattle.height_store.specs.declared.error.StoreError.{StoreError}
 use Rattle.height_store.specs.declared.error.StoreError.TheVariants.{BadMark}
 use Rattle.std.specs.List.{AllByRecursion}
 use Rattle.std.proofs.lemmas.List.{length-take, length-map, map-append, take-append-drop, take_more, take_all}
-use Rattle.std.proofs.lemmas.List.Sums.{sum_by-append}
+use Rattle.std.proofs.lemmas.Bool.{le-leb}
+use Rattle.std.proofs.lemmas.List.Sums.{sum_by-append, sum_by_more, sum_by-take-le}
 use Rattle.format_spec.specs.declared.limits.TheConstants.{MAX_PUBLISHED}
 use Rattle.format_spec.specs.Bytes.{Bytes}
-use Rattle.state_spec.specs.State.{SystemPart, IsSystem}
-use Rattle.state_spec.specs.SystemText.{read_system}
-use Rattle.state_spec.proofs.BothWays.{system_again}
-use Rattle.store_spec.specs.Mark.{Mark, IsMark, mark_text}
+use Rattle.store_spec.specs.declared.limits.TheConstants.{MAX_MARK}
+use Rattle.store_spec.specs.Mark.{mark_text}
+use Rattle.store_spec.proofs.MarkLengths.{mark_bounded}
 use Rattle.sys_state.specs.System.{part_of}
 use Rattle.disk_model.specs.declared.name.Kind.TheVariants as kind
+use Rattle.disk_model.specs.declared.name.Name.TheVariants as name
 use Rattle.disk_model.specs.Files.{Files, IsListing}
 use Rattle.disk_model.specs.View.{DiskView}
-use Rattle.disk_model.specs.Looking.{OnlyLooks, looks_then}
-use Rattle.height_store.specs.Bad.{SpellsMark, HasGoodMark, AreGoodMarks, IsFirstBadMark}
+use Rattle.disk_model.specs.State.{DiskState}
+use Rattle.disk_model.specs.Looking.{OnlyLooks, looks_then, looks_more}
+use Rattle.height_store.specs.Bad.{SpellsMark, HasGoodMark, AreGoodMarks, IsFirstBadMark, mark_bytes, marks_bytes}
 use Rattle.height_store.specs.Opened.{ReadMark, parts_of}
 use Rattle.height_store.proofs.FilesFound.{all_push, error_inside}
-use Rattle.sys_state.specs.declared.error.SysError.{SysError}
-use Rattle.sys_state.specs.declared.error.SysError.TheVariants as errors
-use Rattle.sys_state.specs.Reading.{Fails}
-
-same_part : (x y : SystemPart) → ◌≡◌ {A = Result SystemPart ℕ} (Ok x) (Ok y) → x ≡ y
-same_part x y e = cc
-
--- a mark's system text is read again
-pub system_read : (m : Mark) (s : SystemPart) (text : Bytes) → IsMark m s → text ≡ m.system → read_system 1 text ≡ Ok s
-system_read m s text good is =
-    ap (read_system 1) (is ∙ good.system_spelled) ∙ system_again 1 s (subst (λ (v : ℕ). IsSystem v s) good.version good.system_good)
-
--- the parts that were read are those that the mark is of
-pub part_read : (m : Mark) (s t : SystemPart) (text : Bytes) → IsMark m s → text ≡ m.system → read_system 1 text ≡ Ok t → IsMark m t
-part_read m s t text good is read = subst (IsMark m) (same_part s t (sym (system_read m s text good is) ∙ read)) good
-
-not_both : (read : Result SystemPart ℕ) (s : SystemPart) (place : ℕ) → read ≡ Ok s → read ≡ Err place → ⊥
-not_both read s place ok err = let e : ◌≡◌ {A = Result SystemPart ℕ} (Ok s) (Err place) = sym ok ∙ err in cc
-
--- where a mark's system text isn't read, memory ran out
-pub fails_for_memory : (e : SysError) (m : Mark) (s : SystemPart) (text : Bytes) → IsMark m s → text ≡ m.system → Fails e (read_system 1 text) → (e ≡ errors.Memory → ⊥) → ⊥
-fails_for_memory errors.Exists m s text good is fails other = fails
-fails_for_memory errors.ManyCanisters m s text good is fails other = fails
-fails_for_memory errors.NoCanister m s text good is fails other = fails
-fails_for_memory errors.MemoryFull m s text good is fails other = fails
-fails_for_memory errors.StateFull m s text good is fails other = fails
-fails_for_memory errors.Reserved m s text good is fails other = fails
-fails_for_memory errors.PathConflict m s text good is fails other = fails
-fails_for_memory errors.TreeFull m s text good is fails other = fails
-fails_for_memory errors.NoPath m s text good is fails other = fails
-fails_for_memory (errors.BadSystem place) m s text good is fails other = not_both (read_system 1 text) s place (system_read m s text good is) fails
-fails_for_memory errors.Memory m s text good is fails other = other refl
 
 pub filled_length : (n : ℕ) (into rest : Bytes) → length into ≡ n → length (take n (into ++ rest)) ≡ n
 filled_length n into rest is = omega (arith, is, length-take n (into ++ rest), length-append into rest)
@@ -122,3 +92,39 @@ looks_longer ms now m old mid new is first second =
   where
     text_length : ReadMark → ℕ
     text_length m = length (mark_text m.mark)
+
+-- ---- how much is read
+
+-- a file of this size, which is no more than a mark can have
+pub sized : (file : Option Bytes) (size : ℕ) → Some size ≡ option_map length file → size ≤ MAX_MARK → mark_bytes file ≡ size
+sized None size is within = absurd cc
+sized (Some text) size is within =
+    let same : size ≡ length text = cc is in
+    rw (le-leb (length text) MAX_MARK (omega (arith, same, within))) (sym same)
+
+good_size : (files : Files) (height : ℕ) (good : HasGoodMark files height) → option_map length (files (name.Mark height)) ≡ Some (length good.2.text)
+good_size files height good = ap (option_map length) good.2.there
+
+-- no mark is longer than it can be
+pub longer_than_marks : (files : Files) (height size : ℕ) → Some size ≡ option_map length (files (name.Mark height)) → MAX_MARK < size → HasGoodMark files height → ⊥
+longer_than_marks files height size is longer good =
+    let same : size ≡ length good.2.text = let e = is ∙ good_size files height good in cc e in
+    omega (arith, same, longer, mark_bounded height good.2.text good.0 good.1 good.2.spelled)
+
+-- none is absent
+pub absent_mark : (files : Files) (height : ℕ) → None ≡ option_map length (files (name.Mark height)) → HasGoodMark files height → ⊥
+absent_mark files height is good = let e = is ∙ good_size files height good in cc e
+
+abbrev of_height : Files → ℕ → ℕ
+of_height files height = mark_bytes (files (name.Mark height))
+
+-- one mark more
+pub reads_more : (heights : List ℕ) (i : ℕ) (old mid new : DiskView) → i < length heights → mid.state ≡ old.state → OnlyLooks (marks_bytes old.state.files (take i heights)) old mid
+    → OnlyLooks (of_height mid.state.files (get_or heights i 0)) mid new → OnlyLooks (marks_bytes old.state.files (take (i + 1) heights)) old new
+reads_more heights i old mid new lt same first second =
+    subst (λ (n : ℕ). OnlyLooks n old new) (sym (sum_by_more (of_height old.state.files) heights i 0 lt))
+    (looks_then _ _ old mid new first (subst (λ (s : DiskState). OnlyLooks (of_height s.files (get_or heights i 0)) mid new) same second))
+
+-- and no more than all
+pub reads_all : (heights : List ℕ) (i : ℕ) (old new : DiskView) → OnlyLooks (marks_bytes old.state.files (take i heights)) old new → OnlyLooks (marks_bytes old.state.files heights) old new
+reads_all heights i old new looks = looks_more _ _ old new (sum_by-take-le (of_height old.state.files) heights i) looks

@@ -1,7 +1,7 @@
 -- What opening leaves, and what a crash leaves meanwhile.
-use Rattle.std.specs.Prelude.{◌≡◌, ℕ, Bool, true, false, not, ◌&&◌, nat_eq, List, [], ◌∷◌, Result, is_some, None, refl}
+use Rattle.std.specs.Prelude.{◌≡◌, ℕ, ◌+◌, ◌≤◌, Bool, true, false, not, ◌&&◌, nat_eq, List, [], ◌∷◌, Result, is_some, None, refl}
 use Rattle.std.specs.List.{list_any, AllByRecursion}
-use Rattle.std.proofs.Common.{inl, inr, sym, ◌∙◌, ap, subst}
+use Rattle.std.proofs.Common.{inl, inr, sym, ◌∙◌, ap, subst, arith}
 use Rattle.std.proofs.lemmas.Bool.{cases_Bool, false≢true}
 use Rattle.std.proofs.lemmas.Map.Views.{exact_unsigned_eq}
 use Rattle.store_spec.specs.Image.{Published, StandsFor}
@@ -9,15 +9,17 @@ use Rattle.disk_model.specs.declared.disk.DiskError.{DiskError}
 use Rattle.disk_model.specs.declared.name.Kind.TheVariants as kind
 use Rattle.disk_model.specs.declared.name.Name.{Name}
 use Rattle.disk_model.specs.declared.name.Name.TheVariants as name
-use Rattle.disk_model.specs.Files.{Files}
+use Rattle.disk_model.specs.Files.{Files, IsListing}
 use Rattle.disk_model.specs.State.{DiskState, IsImageNow}
 use Rattle.disk_model.specs.Call.{settle, done}
-use Rattle.disk_model.specs.View.{DiskView, EachImage, LeavesOnly, Does}
+use Rattle.disk_model.specs.View.{DiskView, EachImage, LeavesOnly, Done, Does}
 use Rattle.disk_model.specs.Laws.{IsSound, or_false, settled_is_settled}
 use Rattle.disk_model.specs.Moments.{one_call, then, weaker}
 use Rattle.disk_model.specs.Frame.{TouchesOnly}
 use Rattle.disk_model.specs.Looking.{OnlyLooks, looks_leave}
 use Rattle.page_file.specs.Files.{NumberedFile, IsKept}
+use Rattle.store_spec.proofs.Images.{listing_once}
+use Rattle.height_store.specs.Bad.{marks_bytes}
 use Rattle.height_store.specs.Found.{IsFound, is_stray}
 use Rattle.height_store.specs.Kept.{IsOver, HasMark, KeepsHeights, StandsForSome, StandsAsBefore}
 use Rattle.height_store.specs.Entry.{needed_firm}
@@ -38,6 +40,16 @@ looks_leave_before most old mid new first looks = then old mid new (IsImageNow o
 
 pub as_before : (old new : DiskView) → EachImage old.state StandsForSome → LeavesOnly old new (IsImageNow old.state) → LeavesOnly old new (StandsAsBefore old.state)
 as_before old new each leaves = weaker old new (IsImageNow old.state) (StandsAsBefore old.state) (λ image h. let stands = each image h in (stands.0, stands.1, image, h, stands.1)) leaves
+
+-- At a bad mark no more was read than of the marks.
+pub bad_mark_read : (old mid listed new : DiskView) (marks given heights : List ℕ) → Done settle old mid → OnlyLooks 0 mid listed → IsListing kind.Mark mid.state.files marks → given ≡ marks → IsListing kind.Mark old.state.files heights
+    → OnlyLooks (marks_bytes listed.state.files given) listed new → new.bytes_read ≤ old.bytes_read + marks_bytes old.state.files heights
+bad_mark_read old mid listed new marks given heights settled lists found given_is wanted looks =
+    let from : mid.state.files ≡ old.state.files = ap (λ (s : DiskState). s.files) settled.state in
+    let same : listed.state.files ≡ old.state.files = ap (λ (s : DiskState). s.files) lists.state ∙ from in
+    let are : marks ≡ heights = listing_once kind.Mark old.state.files marks heights (subst (λ (f : Files). IsListing kind.Mark f marks) from found) wanted in
+    let count : marks_bytes listed.state.files given ≡ marks_bytes old.state.files heights = λ i. marks_bytes (same i) ((given_is ∙ are) i) in
+    omega (arith, looks.read_most, lists.read_most, settled.bytes_read, count)
 
 -- ---- what the marks name is no stray
 
@@ -86,11 +98,15 @@ module _ (store : Store) (files : Files) (seen new : DiskView) (same : seen.stat
 
   pub opened_over : IsOver store new.state.files
   opened_over = record {
-    listed = listing_kept kind.Mark files new.state.files _ (λ n. reads_same (name.Mark n) refl) found.listed;
-    marks = each_mark files new.state.files store.heights (λ n. reads_same (name.Mark n) refl) found.marks;
-    stacks = found.stacks new.state.files still_kept;
-    given = λ n unused. gone (name.Page n) (ap not (or_false (list_any (nat_eq n) store.named) _ unused).0);
-    no_draft = λ n. gone (name.Draft n) refl;
+    readable = record {
+      listed = listing_kept kind.Mark files new.state.files _ (λ n. reads_same (name.Mark n) refl) found.listed;
+      marks = each_mark files new.state.files store.heights (λ n. reads_same (name.Mark n) refl) found.marks;
+      stacks = found.stacks new.state.files still_kept;
+    };
+    writable = λ height. record {
+      room = λ n unused. gone (name.Page n) (ap not (or_false (list_any (nat_eq n) store.named) _ unused).0);
+      no_draft = gone (name.Draft height) refl;
+    };
   }
 
   pub opened_pages : ((n : ℕ) → list_any (nat_eq n) store.named ≡ is_named store.heights n) → (n : ℕ) → is_some (new.state.files (name.Page n)) ≡ is_named store.heights n

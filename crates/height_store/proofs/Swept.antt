@@ -18,7 +18,8 @@ use Rattle.disk_model.specs.declared.name.Name.{Name}
 use Rattle.disk_model.specs.declared.name.Name.TheVariants.{Page, Mark, Draft, Stage}
 use Rattle.disk_model.specs.Files.{same_name, name_of, number_in}
 use Rattle.disk_model.specs.State.{IsSettled, IsThere}
-use Rattle.disk_model.specs.Call.{remove}
+use Rattle.disk_model.specs.declared.disk.DiskError.TheVariants.{Fault, Memory}
+use Rattle.disk_model.specs.Call.{Call, remove, length_given, appended_after}
 use Rattle.disk_model.specs.View.{DiskView, Does}
 use Rattle.disk_model.specs.Frame.{TouchesOnly, touches_call, touches_then, touches_none, touches_wider}
 use Rattle.disk_model.specs.Laws.{IsSound}
@@ -86,6 +87,12 @@ name_apart kind.Stage n keep (Stage m) free apart = number_apart n m keep free a
 pub touches_one : {T : Type 0} (k : Kind) (n : ℕ) (keep : List ℕ) (among : Bool) (name : Name) (result : Result T DiskError) (old new : DiskView) → among ≡ list_any (nat_eq n) keep → among ≡ false → name ≡ name_of k n → IsSound old.state → Does (remove name) result old new → TouchesOnly (is_swept k (n ∷ []) keep) old new
 touches_one k n keep among name result old new is free named sound does =
     touches_call (remove name) result old new (is_swept k (n ∷ []) keep) (λ q apart. ap (λ (m : Name). same_name m q) named ∙ name_apart k n keep q (sym is ∙ free) apart) sound does
+
+-- a call that is given no bytes appends none, whatever it answers
+pub appends_nothing : {T : Type 0} (call : Call) (result : Result T DiskError) (old new : DiskView) → length_given call ≡ 0 → ((n : ℕ) → appended_after call n ≡ n) → Does call result old new → new.appended ≡ old.appended
+appends_nothing call (Ok x) old new none same does = does.appended ∙ same old.appended
+appends_nothing call (Err Fault) old new none same does = omega (arith, does.appended_least, does.appended_most, none)
+appends_nothing call (Err Memory) old new none same does = ap (λ (v : DiskView). v.appended) does
 
 -- ---- several files
 

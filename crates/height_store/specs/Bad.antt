@@ -1,11 +1,12 @@
 -- Why a disk does not open: the first mark by height that is none, or the first page file by number that is none.
-use Rattle.std.specs.Prelude.{◌≡◌, ℕ, ◌≤◌, ◌<◌, ◌⊎◌, List, ◌∷◌, ◌++◌, length, map, zip, Some}
+use Rattle.std.specs.Prelude.{◌≡◌, ℕ, ◌≤◌, ◌<◌, ◌⊎◌, nat_le, if◌then◌else◌, List, ◌∷◌, ◌++◌, length, map, sum_by, zip, Option, Some, None}
 use Rattle.std.specs.List.{flat_map, AllByRecursion}
 use Rattle.format_spec.specs.Bytes.{Bytes}
 use Rattle.format_spec.specs.declared.limits.TheConstants.{MAX_PUBLISHED}
 use Rattle.state_spec.specs.State.{SystemPart}
 use Rattle.state_spec.specs.Files.{memories_in}
 use Rattle.store_spec.specs.PageFile.{PageIndex}
+use Rattle.store_spec.specs.declared.limits.TheConstants.{MAX_MARK}
 use Rattle.store_spec.specs.Mark.{Mark, MarkMemory, IsMarkText}
 use Rattle.disk_model.specs.declared.name.Kind.TheVariants as kind
 use Rattle.disk_model.specs.declared.name.Name.TheVariants as name
@@ -20,6 +21,15 @@ pub record SpellsMark (files : Files) (height : ℕ) (m : Mark) (s : SystemPart)
 
 abbrev pub HasGoodMark : Files → ℕ → Type 0
 HasGoodMark files height = (m : Mark) × (s : SystemPart) × SpellsMark files height m s
+
+-- the bytes that are read of a file with the name of a mark: none where it is longer than any mark
+abbrev pub mark_bytes : Option Bytes → ℕ
+mark_bytes None = 0
+mark_bytes (Some text) = if nat_le (length text) MAX_MARK then length text else 0
+
+-- of the marks of these heights
+abbrev pub marks_bytes : Files → List ℕ → ℕ
+marks_bytes files heights = sum_by (λ height. mark_bytes (files (name.Mark height))) heights
 
 -- the mark of this height is none, or there are as many before it as may be; all before it are good
 pub record IsFirstBadMark (files : Files) (height : ℕ) : Type 0 where

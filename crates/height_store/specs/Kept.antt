@@ -1,5 +1,5 @@
 -- How a store and its disk belong together, and for which heights both stand.
-use Rattle.std.specs.Prelude.{◌≡◌, ◌⊎◌, ℕ, ◌≤◌, true, false, List, length, map, filter, not, ◌==◌, Some, None}
+use Rattle.std.specs.Prelude.{◌≡◌, ◌⊎◌, ℕ, ◌≤◌, true, false, List, length, map, Some, None}
 use Rattle.std.specs.List.{AllByRecursion, AllZip}
 use Rattle.format_spec.specs.declared.limits.TheConstants.{MAX_PUBLISHED}
 use Rattle.state_spec.specs.State.{SystemPart, SameState, state_from}
@@ -24,14 +24,25 @@ HasMark files h = files (name.Mark h.mark.height) ≡ Some (mark_text h.mark)
 abbrev pub HasStacks : Files → StoredHeight → Type 0
 HasStacks files h = AllByRecursion (AllByRecursion (IsKept files)) h.stacks
 
--- The marks are those of the store, and the page files are there. There is no draft, and no page file of a number that
--- can still be given.
+-- What reading needs: the marks are those of these heights, and the page files that they name are there.
+pub record IsReadable (hs : List StoredHeight) (files : Files) : Type 0 where
+  pub listed : IsListing kind.Mark files (heights_in hs)
+  pub marks : AllByRecursion (HasMark files) hs
+  pub stacks : AllByRecursion (HasStacks files) hs
+
+-- no page file has a number that can still be given
+abbrev pub HasRoom : Store → Files → Type 0
+HasRoom store files = (n : ℕ) → is_used store n ≡ false → files (name.Page n) ≡ None
+
+-- What writing a height needs besides: room for new page files, and no draft of the height.
+pub record IsWritable (store : Store) (height : ℕ) (files : Files) : Type 0 where
+  pub room : HasRoom store files
+  pub no_draft : files (name.Draft height) ≡ None
+
+-- the store's heights can be read, and every height be written
 pub record IsOver (store : Store) (files : Files) : Type 0 where
-  pub listed : IsListing kind.Mark files (heights_in store.heights)
-  pub marks : AllByRecursion (HasMark files) store.heights
-  pub stacks : AllByRecursion (HasStacks files) store.heights
-  pub given : (n : ℕ) → is_used store n ≡ false → files (name.Page n) ≡ None
-  pub no_draft : (n : ℕ) → files (name.Draft n) ≡ None
+  pub readable : IsReadable store.heights files
+  pub writable : (height : ℕ) → IsWritable store height files
 
 -- ---- the heights that they stand for
 
@@ -76,10 +87,6 @@ StandsForSome files = (ps : List Published) × StandsFor files ps
 -- the files stand for heights that an image of this disk stands for
 abbrev pub StandsAsBefore : DiskState → Files → Type 0
 StandsAsBefore s files = (ps : List Published) × StandsFor files ps × (image : Files) × IsImageNow s image × StandsFor image ps
-
--- the heights but for this one
-abbrev pub without_published : List Published → ℕ → List Published
-without_published ps height = filter (λ p. not (p.height == height)) ps
 
 -- the files stand for these heights, or for those
 abbrev pub StandsForEither : List Published → List Published → Files → Type 0

@@ -1,5 +1,5 @@
 -- What follows from how a store and its disk belong together.
-use Rattle.std.specs.Prelude.{◌≡◌, ℕ, ◌≤◌, Bool, true, false, List, [], ◌∷◌, Result, refl}
+use Rattle.std.specs.Prelude.{◌≡◌, ℕ, ◌≤◌, length, Bool, true, false, List, [], ◌∷◌, Result, Ok, Err, OnOk, refl}
 use Rattle.std.specs.List.{AllByRecursion, AllZip}
 use Rattle.std.proofs.Common.{◌∙◌, subst}
 use Rattle.format_spec.specs.declared.limits.TheConstants.{MAX_PUBLISHED}
@@ -19,10 +19,9 @@ use Rattle.disk_model.specs.Moments.{weaker}
 use Rattle.disk_model.specs.Frame.{DependsOnly, Spares, TouchesOnly, touches_call, touches_keep_images}
 use Rattle.disk_model.specs.Laws.{IsSound, image_of_settled}
 use Rattle.page_file.specs.Files.{NumberedFile}
-use Rattle.height_store.specs.Entry.{needed_firm}
 use Rattle.height_store.specs.Standing.{heights_shown, marks_open}
-use Rattle.height_store.specs.Store.{Store, StoredHeight, IsHeight, IsStore, heights_in, mark_names, is_named, is_needed}
-use Rattle.height_store.specs.Kept.{IsOver, IsMadeOf, ShowsHeight, ShowsHeights, KeepsHeights, StandsForSome}
+use Rattle.height_store.specs.Store.{Store, StoredHeight, IsHeight, heights_in, mark_names, is_named, is_needed}
+use Rattle.height_store.specs.Kept.{IsReadable, IsWritable, IsOver, IsMadeOf, ShowsHeight, ShowsHeights, KeepsHeights}
 use Rattle.height_store.specs.Shown.{or_left, or_right, listing_apart, stacks_apart, heights_given, same_heights, same_count}
 
 -- Files that have the marks and page files of some heights stand for them.
@@ -97,14 +96,15 @@ stands_apart given old new hs ps apart touches keeps =
     weaker old new (λ image. ShowsHeights image hs ps) (λ image. StandsFor image ps) (λ image shows. shown_stands image hs ps shows)
     (touches_keep_images given (is_needed hs) (λ files. ShowsHeights files hs ps) old new (shown_depends hs ps) apart touches keeps.images)
 
--- The heights that a store's files stand for are those of its marks.
-pub stands_shown : (store : Store) (files : Files) (ps : List Published) → AllByRecursion IsHeight store.heights → IsOver store files → StandsFor files ps → ShowsHeights files store.heights ps
-stands_shown store files ps good over stands = heights_shown files store.heights ps good over.listed over.marks over.stacks stands
+-- The heights that files stand for are those that can be read.
+pub stands_shown : (hs : List StoredHeight) (files : Files) (ps : List Published) → AllByRecursion IsHeight hs → IsReadable hs files → StandsFor files ps → ShowsHeights files hs ps
+stands_shown hs files ps good readable stands = heights_shown files hs ps good readable.listed readable.marks readable.stacks stands
 
--- A store over files opens.
-pub over_opens : (store : Store) (files : Files) → IsStore store → AllByRecursion IsHeight store.heights → IsOver store files → (ps : List Published) × OpensAt files ps
-over_opens store files store_good good over = marks_open files store.heights good store_good.few over.listed over.marks over.stacks
+-- Files whose heights can be read open.
+pub readable_opens : (hs : List StoredHeight) (files : Files) → AllByRecursion IsHeight hs → length hs ≤ MAX_PUBLISHED → IsReadable hs files → (ps : List Published) × OpensAt files ps
+readable_opens hs files good few readable = marks_open files hs good few readable.listed readable.marks readable.stacks
 
--- Where every image stands for some heights, no file that a store needs is loose.
-pub entry_firm : (store : Store) (s : DiskState) → AllByRecursion IsHeight store.heights → IsSound s → EachImage s StandsForSome → IsOver store s.files → (q : Name) → is_needed store.heights q ≡ true → s.loose q ≡ false
-entry_firm store s good sound each over q needed = needed_firm store.heights s good over.marks sound each q needed
+-- What a call on a store and its disk leaves at Ok, where it keeps both.
+pub over_after : {T E : Type 0} (r : Result T E) (old new : Store) (f g : Files) → IsOver old f → OnOk r (IsReadable new.heights g) → OnOk r ((height : ℕ) → IsWritable old height f → IsWritable new height g) → OnOk r (IsOver new g)
+over_after (Ok x) old new f g over readable writable = record { readable = readable; writable = λ height. writable height (over.writable height) }
+over_after (Err e) old new f g over readable writable = tt

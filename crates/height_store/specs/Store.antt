@@ -5,6 +5,7 @@ use Rattle.std.specs.List.{list_any, AllByRecursion, AllZip}
 use Rattle.std.specs.List.Sorted.{IsStrictlyIncreasing}
 use Rattle.format_spec.specs.Bytes.{Bytes}
 use Rattle.format_spec.specs.declared.limits.TheConstants.{MAX_PUBLISHED}
+use Rattle.height_store.specs.declared.limits.TheConstants.{MAX_GIVEN}
 use Rattle.state_spec.specs.State.{SystemPart}
 use Rattle.state_spec.specs.Files.{memories_in}
 use Rattle.sys_state.specs.System.{System, part_of}
@@ -90,6 +91,11 @@ is_needed hs q = false
 -- a number that page files may have, since a mark named it at opening or it was given
 abbrev pub is_used : Store → ℕ → Bool
 is_used store n = list_any (nat_eq n) store.named || nat_lt n store.next
+
+-- one line has given numbers to as many page files as it may, at most
+pub record GivesFew (old new : Store) : Type 0 where
+  pub least : old.given ≤ new.given
+  pub most : new.given ≤ old.given + MAX_GIVEN
 
 -- n is the least number from this one on that no mark named at opening
 pub record IsNextFree (named : List ℕ) (from n : ℕ) : Type 0 where

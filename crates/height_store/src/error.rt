@@ -8,21 +8,28 @@ use byte_codec::NoMemory;
 use disk_model::DiskError;
 use page_file::PageError;
 use std::alloc::{AllocError, AllocFailed};
+use thiserror::Error;
 
 /// Why a call on the store failed.
-#[derive(Clone, Copy, Debug, PartialEq, Eq)]
+#[derive(Clone, Copy, Debug, PartialEq, Eq, Error)]
 pub enum StoreError {
     /// The mark of this height is none, or there are sixteen before it.
+    #[error("the mark of height {0} is bad")]
     BadMark(u64),
     /// The page file of this number, which a mark names, is absent or none, or has more memory pages than the memory.
+    #[error("the page file {0} is bad")]
     BadPage(u64),
     /// The height is not published.
+    #[error("the height is not published")]
     NoHeight,
     /// The height is the newest published one.
+    #[error("the height is the newest published one")]
     LastHeight,
     /// The disk failed, and has counted that.
+    #[error("the disk failed")]
     Fault,
     /// Memory ran out.
+    #[error("memory ran out")]
     Memory,
 }
 

@@ -1,6 +1,7 @@
 //! What is so of every store and every disk, by the definitions alone.
 
-ghost use Rattle.std.specs.Prelude.{◌≡◌, ◌⊎◌, ℕ, Bool, true, false, List};
+ghost use Rattle.std.specs.Prelude.{◌≡◌, ◌≤◌, ◌⊎◌, ℕ, Bool, true, false, List, length};
+ghost use Rattle.format_spec.specs.declared.limits.TheConstants.{MAX_PUBLISHED};
 ghost use Rattle.std.specs.List.{AllByRecursion};
 ghost use Rattle.store_spec.specs.Image.{Published, StandsFor, Opens};
 ghost use Rattle.disk_model.specs.declared.name.Name.{Name};
@@ -11,8 +12,8 @@ ghost use Rattle.disk_model.specs.View.{DiskView, EachImage, LeavesOnly, Done, F
 ghost use Rattle.disk_model.specs.Frame.{Spares, TouchesOnly};
 ghost use Rattle.disk_model.specs.Laws.{IsSound};
 ghost use Rattle.height_store.specs.Bad.{IsFirstBadMark, IsFirstBadPage};
-ghost use Rattle.height_store.specs.Kept.{IsOver, ShowsHeights, KeepsHeights};
-ghost use Rattle.height_store.specs.Store.{Store, StoredHeight, IsHeight, IsStore, is_needed};
+ghost use Rattle.height_store.specs.Kept.{IsReadable, ShowsHeights, KeepsHeights};
+ghost use Rattle.height_store.specs.Store.{StoredHeight, IsHeight, is_needed};
 
 /// Where a disk keeps heights, a crash leaves files that stand for them.
 /// It keeps those that its files show, where no rename or removal is pending and no file that they need is loose.
@@ -37,12 +38,12 @@ pub fn heights_kept_through_calls()
         → KeepsHeights hs old.state ps → LeavesOnly old new (λ image. StandsFor image ps) }
 {}
 
-/// The files of a store open, and the heights that they stand for are those of its marks.
+/// Files whose heights can be read open, and the heights that they stand for are those.
 pub fn stores_open()
-    ensures opens { (store : Store) (files : Files) → IsStore store → AllByRecursion IsHeight store.heights
-        → IsOver store files → Opens files }
-    ensures shown { (store : Store) (files : Files) (ps : List Published) → AllByRecursion IsHeight store.heights
-        → IsOver store files → StandsFor files ps → ShowsHeights files store.heights ps }
+    ensures opens { (hs : List StoredHeight) (files : Files) → AllByRecursion IsHeight hs → length hs ≤ MAX_PUBLISHED
+        → IsReadable hs files → Opens files }
+    ensures shown { (hs : List StoredHeight) (files : Files) (ps : List Published) → AllByRecursion IsHeight hs
+        → IsReadable hs files → StandsFor files ps → ShowsHeights files hs ps }
 {}
 
 /// Files with a bad mark, or whose marks name a bad page file, do not open: opening refuses no disk that opens.

@@ -3,6 +3,7 @@
 
 mod error;
 mod laws;
+mod limits;
 mod marks;
 mod opening;
 mod pages;
@@ -15,6 +16,7 @@ pub use error::StoreError;
 pub use laws::{
     bad_disks_do_not_open, heights_kept_through_calls, kept_heights_stand, stores_open,
 };
+pub use limits::MAX_GIVEN;
 pub use store::{HeightStore, PublishedHeight};
 
 #[cfg(test)]

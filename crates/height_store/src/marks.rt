@@ -1,26 +1,26 @@
 //! Reading the marks of a disk.
 
-ghost use Rattle.std.specs.Prelude.{◌≡◌, ◌≤◌, ◌⊎◌, ℕ, map, sum_by, length, option_map, IsTrue, IfOk, IfErr, IfSome, IsErrOf};
+ghost use Rattle.std.specs.Prelude.{◌≡◌, ◌≤◌, ◌⊎◌, ℕ, map, sum_by, length, Some, IsTrue, IfOk, IfErr, IfSome, IfNone, IsErrOf};
 ghost use Rattle.format_spec.specs.declared.limits.TheConstants.{MAX_PUBLISHED};
 ghost use Rattle.state_spec.specs.State.{SystemPart};
 ghost use Rattle.sys_state.specs.System.{part_of};
-ghost use Rattle.store_spec.specs.Mark.{Mark as Marked, IsMark, IsMarkText, mark_text};
+ghost use Rattle.store_spec.specs.Mark.{Mark as Marked, IsMarkText, mark_text};
 ghost use Rattle.disk_model.specs.declared.name.Kind.TheVariants as kind;
 ghost use Rattle.disk_model.specs.declared.name.Name.TheVariants as name;
 ghost use Rattle.disk_model.specs.Files.{IsListing};
 ghost use Rattle.disk_model.specs.Looking.{OnlyLooks};
-ghost use Rattle.height_store.specs.Bad.{AreGoodMarks, IsFirstBadMark, HasGoodMark, SpellsMark};
+ghost use Rattle.height_store.specs.Bad.{AreGoodMarks, IsFirstBadMark, HasGoodMark, SpellsMark, mark_bytes, marks_bytes};
 ghost use Rattle.height_store.specs.Errors.{HasCause, NoBadFile, NoBadHeight};
 ghost use Rattle.height_store.specs.Opened.{parts_of};
 
 use crate::error::StoreError;
-use byte_codec::NoMemory;
 use disk_model::{Disk, Name};
 use format_spec::MAX_PUBLISHED;
 use mark_file::{Mark, MarkError};
 use std::alloc::Global;
 use std::marker::Model;
-use sys_state::{SysError, SysState};
+use store_spec::MAX_MARK;
+use sys_state::SysState;
 
 /// A mark that was read, and what its system text spells.
 #[derive(Drop)]
@@ -54,7 +54,7 @@ pub(crate) fn read_marks<D: Disk>(
     ensures few { IfOk result (λ marks. length marks.items ≤ MAX_PUBLISHED) }
     ensures bad_mark { IsTrue D.tells → (height : ℕ) → IsErrOf result (StoreError.BadMark height) → IsFirstBadMark (D.view disk.old).state.files height }
     ensures looks { IsTrue D.tells → IfOk result (λ marks. OnlyLooks (sum_by (λ m. length (mark_text m.mark)) marks.items) (D.view disk.old) (D.view disk.new)) }
-    ensures only_looks { IsTrue D.tells → (most : ℕ) × OnlyLooks most (D.view disk.old) (D.view disk.new) }
+    ensures reads { IsTrue D.tells → OnlyLooks (marks_bytes (D.view disk.old).state.files heights.now) (D.view disk.old) (D.view disk.new) }
     ensures cause { HasCause (D.faults disk.old) (D.faults disk.new) result }
     ensures no_bad_page { (number : ℕ) → IsErrOf result (StoreError.BadPage number) → ⊥ }
     ensures no_bad_height { NoBadHeight result }
@@ -76,7 +76,7 @@ fn read_mark<D: Disk>(alloc: Global, disk: &mut D, height: u64) -> Result<Opened
     ensures bad { IsTrue D.tells → (n : ℕ) → IsErrOf result (StoreError.BadMark n) → HasGoodMark (D.view disk.old).state.files height → ⊥ }
     ensures number { (n : ℕ) → IsErrOf result (StoreError.BadMark n) → n ≡ height }
     ensures looks { IsTrue D.tells → IfOk result (λ m. OnlyLooks (length (mark_text m.mark)) (D.view disk.old) (D.view disk.new)) }
-    ensures only_looks { IsTrue D.tells → (most : ℕ) × OnlyLooks most (D.view disk.old) (D.view disk.new) }
+    ensures reads { IsTrue D.tells → OnlyLooks (mark_bytes ((D.view disk.old).state.files (name.Mark height))) (D.view disk.old) (D.view disk.new) }
     ensures cause { HasCause (D.faults disk.old) (D.faults disk.new) result }
     ensures no_bad_page { (number : ℕ) → IsErrOf result (StoreError.BadPage number) → ⊥ }
     ensures no_bad_height { NoBadHeight result }
@@ -87,27 +87,28 @@ fn read_mark<D: Disk>(alloc: Global, disk: &mut D, height: u64) -> Result<Opened
     }
 }
 
-// The bytes of the mark of this height. `None` where there are none.
+// The bytes of the mark of this height. `None` where there are none or more than a mark can have; then none is read.
 fn read_text<D: Disk>(
     alloc: Global,
     disk: &mut D,
     height: u64,
 ) -> Result<Option<Vec<u8>>, StoreError>
-    ensures text { IsTrue D.tells → IfOk result (λ text. option_map (λ bytes. bytes.items) text ≡ (D.view disk.old).state.files (name.Mark height)) }
+    ensures text { IsTrue D.tells → IfOk result (λ text. IfSome text (λ bytes. (D.view disk.old).state.files (name.Mark height) ≡ Some bytes.items)) }
+    ensures none { IsTrue D.tells → IfOk result (λ text. IfNone text (HasGoodMark (D.view disk.old).state.files height → ⊥)) }
     ensures looks { IsTrue D.tells → IfOk result (λ text. IfSome text (λ bytes. OnlyLooks (length bytes.items) (D.view disk.old) (D.view disk.new))) }
-    ensures only_looks { IsTrue D.tells → (most : ℕ) × OnlyLooks most (D.view disk.old) (D.view disk.new) }
+    ensures reads { IsTrue D.tells → OnlyLooks (mark_bytes ((D.view disk.old).state.files (name.Mark height))) (D.view disk.old) (D.view disk.new) }
     ensures cause { HasCause (D.faults disk.old) (D.faults disk.new) result }
     ensures no_bad_file { NoBadFile result }
     ensures no_bad_height { NoBadHeight result }
 {
     let name = Name::Mark(height);
     match disk.size(alloc, name)? {
-        Some(size) => {
+        Some(size) if size <= MAX_MARK as u64 => {
             let mut text = vec![in alloc; 0; size as usize]?;
             disk.read(alloc, name, 0, &mut text)?;
             Ok(Some(text))
         }
-        None => Ok(None),
+        _ => Ok(None),
     }
 }
 
@@ -117,24 +118,9 @@ fn spelled_mark(alloc: Global, height: u64, text: &[u8]) -> Result<OpenedMark, S
     ensures bad { (n : ℕ) → IsErrOf result (StoreError.BadMark n) → (m : Marked) (s : SystemPart) → IsMarkText height text.now m s → ⊥ }
     ensures others { IfErr result (λ e. (e ≡ StoreError.BadMark height) ⊎ (e ≡ StoreError.Memory)) }
 {
-    match Mark::decode(alloc, height, text) {
-        Ok(mark) => Ok(with_system(alloc, mark)?),
+    match Mark::decode_both(alloc, height, text) {
+        Ok((mark, sys)) => Ok(OpenedMark { mark, sys }),
         Err(MarkError::BadMark(_)) => Err(StoreError::BadMark(height)),
         Err(MarkError::Memory) => Err(StoreError::Memory),
-    }
-}
-
-// This mark of a state, with what its system text spells.
-fn with_system(alloc: Global, mark: Mark) -> Result<OpenedMark, NoMemory>
-    requires { (s : SystemPart) × IsMark mark s }
-    ensures mark { IfOk result (λ m. m.mark ≡ mark) }
-    ensures good { IfOk result (λ m. IsMark mark (part_of m.system)) }
-{
-    match SysState::decode(alloc, mark.system.bytes(), mark.height) {
-        Ok(sys) => Ok(OpenedMark { mark, sys }),
-        Err(error) => match error {
-            SysError::Memory => Err(NoMemory),
-            _ => unreachable!(),
-        },
     }
 }

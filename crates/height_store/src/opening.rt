@@ -1,6 +1,6 @@
 //! Opening a disk.
 
-ghost use Rattle.std.specs.Prelude.{◌≡◌, ℕ, List, None, is_some, nat_eq, true, IsTrue, OnOk, OnErr, IfOk, IfErr, IsErrOf};
+ghost use Rattle.std.specs.Prelude.{◌≡◌, ◌≤◌, ◌+◌, ℕ, List, None, is_some, nat_eq, true, IsTrue, OnOk, OnErr, IfOk, IfErr, IsErrOf};
 ghost use Rattle.std.specs.List.{list_any, AllByRecursion};
 ghost use Rattle.std.specs.List.Sorted.{IsStrictlyIncreasing};
 ghost use Rattle.store_spec.specs.Image.{Published, StandsFor, Opens};
@@ -12,12 +12,12 @@ ghost use Rattle.disk_model.specs.Frame.{TouchesOnly};
 ghost use Rattle.disk_model.specs.Looking.{OnlyLooks};
 ghost use Rattle.disk_model.specs.State.{IsSettled, IsImageNow};
 ghost use Rattle.disk_model.specs.View.{EachImage, LeavesOnly};
-ghost use Rattle.height_store.specs.Bad.{IsFirstBadMark, IsFirstBadPage};
+ghost use Rattle.height_store.specs.Bad.{IsFirstBadMark, IsFirstBadPage, marks_bytes};
 ghost use Rattle.height_store.specs.Errors.{HasCause, NoBadFile, NoBadHeight, IsBadFile};
 ghost use Rattle.height_store.specs.Found.{IsFound, is_stray};
 ghost use Rattle.height_store.specs.Kept.{IsOver, KeepsHeights, StandsForSome, StandsAsBefore};
 ghost use Rattle.height_store.specs.Opened.{ReadsAtMost};
-ghost use Rattle.height_store.specs.Store.{IsHeight, numbers_of, is_named};
+ghost use Rattle.height_store.specs.Store.{IsHeight, numbers_of, is_named, is_needed};
 
 use crate::error::StoreError;
 use crate::marks::read_marks;
@@ -33,12 +33,14 @@ impl HeightStore {
     /// Opens a disk: settles it, reads its marks by height and the indices of the page files that they name by number,
     /// and removes every page file that no mark names, every draft and every stage file. No page is read.
     ///
-    /// BadMark for the first mark by height that is none for its height or is the seventeenth; where all marks are good,
+    /// BadMark for the first mark by height that is none for its height or is the seventeenth; a file that is longer than any mark
+    /// is not read. Where all marks are good,
     /// BadPage for the first page file by number that a mark names and that is absent, is none or has more memory pages than
     /// the memory. Nothing is removed then. Fault where the disk failed, Memory where memory ran out.
     ///
-    /// Where every image on entry stands for some heights, every image since stands for heights that one on entry stands for;
-    /// and after Ok every image stands for the heights that the disk reads.
+    /// Every mark and every page file that it names reads as before, whatever the files stand for. Where every image on entry
+    /// stands for some heights, every image since stands for heights that one on entry stands for; and after Ok every image stands
+    /// for the heights that the disk reads.
     pub fn open<D: Disk>(alloc: Global, disk: &mut D) -> Result<HeightStore, StoreError>
         ensures over { IsTrue D.tells → IfOk result (λ store. IsOver store (D.view disk.new).state.files) }
         ensures settled { IsTrue D.tells → OnOk result (IsSettled (D.view disk.new).state) }
@@ -52,13 +54,17 @@ impl HeightStore {
             → EachImage (D.view disk.old).state StandsForSome
             → LeavesOnly (D.view disk.old) (D.view disk.new) (StandsAsBefore (D.view disk.old).state) }
         ensures opens { IsTrue D.tells → OnOk result (Opens (D.view disk.old).state.files) }
-        ensures marks { IsTrue D.tells → OnOk result ((n : ℕ) → (D.view disk.new).state.files (name.Mark n) ≡ (D.view disk.old).state.files (name.Mark n)) }
+        ensures kept { IsTrue D.tells → IfOk result (λ store. (q : Name) → is_needed store.heights q ≡ true → (D.view disk.new).state.files q ≡ (D.view disk.old).state.files q) }
+        ensures marks { IsTrue D.tells → (n : ℕ) → (D.view disk.new).state.files (name.Mark n) ≡ (D.view disk.old).state.files (name.Mark n) }
+        ensures bad_reads { IsTrue D.tells → IsBadFile result → (D.view disk.new).state.files ≡ (D.view disk.old).state.files }
         ensures pages { IsTrue D.tells → IfOk result (λ store. (n : ℕ) → is_some ((D.view disk.new).state.files (name.Page n)) ≡ is_named store.heights n) }
         ensures no_stage { IsTrue D.tells → OnOk result ((n : ℕ) → (D.view disk.new).state.files (name.Stage n) ≡ None) }
         ensures named { IfOk result (λ store. (n : ℕ) → list_any (nat_eq n) store.named ≡ is_named store.heights n) }
         ensures next { IfOk result (λ store. (store.given ≡ 0) × (store.next ≡ 0)) }
+        ensures bad_mark_reads { IsTrue D.tells → (heights : List ℕ) → IsListing kind.Mark (D.view disk.old).state.files heights → (height : ℕ) → IsErrOf result (StoreError.BadMark height)
+            → (D.view disk.new).bytes_read ≤ (D.view disk.old).bytes_read + marks_bytes (D.view disk.old).state.files heights }
         ensures read { IsTrue D.tells → IfOk result (λ store. ReadsAtMost (D.view disk.old).state.files store (D.view disk.old).bytes_read (D.view disk.new).bytes_read) }
-        ensures appended { IsTrue D.tells → OnOk result ((D.view disk.new).appended ≡ (D.view disk.old).appended) }
+        ensures appended { IsTrue D.tells → (D.view disk.new).appended ≡ (D.view disk.old).appended }
         ensures cause { HasCause (D.faults disk.old) (D.faults disk.new) result }
         ensures no_bad_height { NoBadHeight result }
     {
@@ -114,6 +120,7 @@ fn read_store<D: Disk>(
     ensures next { IfOk result (λ store. (store.given ≡ 0) × (store.next ≡ 0)) }
     ensures opens { IsTrue D.tells → OnOk result (Opens (D.view disk.old).state.files) }
     ensures read { IsTrue D.tells → IfOk result (λ store. ReadsAtMost (D.view disk.old).state.files store (D.view disk.old).bytes_read (D.view disk.new).bytes_read) }
+    ensures bad_mark_reads { IsTrue D.tells → (height : ℕ) → IsErrOf result (StoreError.BadMark height) → OnlyLooks (marks_bytes (D.view disk.old).state.files heights.now) (D.view disk.old) (D.view disk.new) }
     ensures only_looks { IsTrue D.tells → (most : ℕ) × OnlyLooks most (D.view disk.old) (D.view disk.new) }
     ensures cause { HasCause (D.faults disk.old) (D.faults disk.new) result }
     ensures no_bad_height { NoBadHeight result }
@@ -163,7 +170,7 @@ fn sweep_strays<D: Disk>(
     ensures gone { IsTrue D.tells → OnOk result ((q : Name) → is_stray named.now q ≡ true → (D.view disk.new).state.files q ≡ None) }
     ensures touches { IsTrue D.tells → TouchesOnly (is_stray named.now) (D.view disk.old) (D.view disk.new) }
     ensures settled { IsTrue D.tells → OnOk result (IsSettled (D.view disk.old).state → IsSettled (D.view disk.new).state) }
-    ensures appended { IsTrue D.tells → OnOk result ((D.view disk.new).appended ≡ (D.view disk.old).appended) }
+    ensures appended { IsTrue D.tells → (D.view disk.new).appended ≡ (D.view disk.old).appended }
     ensures read { IsTrue D.tells → (D.view disk.new).bytes_read ≡ (D.view disk.old).bytes_read }
     ensures cause { HasCause (D.faults disk.old) (D.faults disk.new) result }
     ensures no_bad_file { NoBadFile result }

@@ -9,7 +9,7 @@ ghost use Rattle.disk_model.specs.Looking.{OnlyLooks};
 ghost use Rattle.page_file.specs.Files.{NumberedFile};
 ghost use Rattle.layer_stack.specs.Stacks.{AreLayers};
 ghost use Rattle.height_store.specs.Errors.{HasCause, NoBadFile};
-ghost use Rattle.height_store.specs.Kept.{IsOver};
+ghost use Rattle.height_store.specs.Kept.{IsReadable};
 ghost use Rattle.height_store.specs.Store.{StoredHeight, height_at};
 
 use crate::error::StoreError;
@@ -33,7 +33,7 @@ impl HeightStore {
         disk: &mut D,
         into: &mut PageBytes,
     ) -> Result<(), StoreError>
-        requires over { IsTrue D.tells → IsOver self.now (D.view disk.old).state.files }
+        requires readable { IsTrue D.tells → IsReadable self.now.heights (D.view disk.old).state.files }
         requires within { IfSome (height_at self.now.heights height) (λ h. IsSomeAnd (slice_get (memories_in (part_of h.system)) file) (λ m. page < m.1)) }
 
         ensures no_height { (result ≡ Err StoreError.NoHeight) ↔ (is_some (height_at self.now.heights height) ≡ false) }

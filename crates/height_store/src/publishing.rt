@@ -4,7 +4,7 @@ ghost use Rattle.std.specs.Prelude.{◌≡◌, ◌↔◌, ◌<◌, ◌≤◌, �
 ghost use Rattle.std.specs.List.{AllByRecursion};
 ghost use Rattle.format_spec.specs.declared.limits.TheConstants.{MAX_PUBLISHED};
 ghost use Rattle.state_spec.specs.State.{SystemPart};
-ghost use Rattle.store_spec.specs.Image.{Published};
+ghost use Rattle.store_spec.specs.Image.{Published, without_published};
 ghost use Rattle.store_spec.specs.Mark.{mark_text};
 ghost use Rattle.disk_model.specs.declared.name.Name.TheVariants as name;
 ghost use Rattle.disk_model.specs.Files.{same_name};
@@ -14,7 +14,7 @@ ghost use Rattle.disk_model.specs.View.{LeavesOnly};
 ghost use Rattle.disk_model.specs.Frame.{TouchesOnly};
 ghost use Rattle.page_file.specs.Files.{IsKept};
 ghost use Rattle.height_store.specs.Errors.{HasCause, NoBadFile, NoBadHeight};
-ghost use Rattle.height_store.specs.Kept.{IsOver, IsMadeOf, HasFirmPages, KeepsHeights, StandsForEither, without_published};
+ghost use Rattle.height_store.specs.Kept.{IsReadable, IsWritable, IsMadeOf, HasFirmPages, KeepsHeights, StandsForEither};
 ghost use Rattle.height_store.specs.Store.{FitsMark, IsHeight, Gains, height_at, without_height, is_newest};
 ghost use Rattle.height_store.specs.Written.{is_of, HasWritten, IsBeforeOrAfter};
 
@@ -32,8 +32,8 @@ impl HeightStore {
     /// above all heights that are published, of which there are fewer than 16; there is a stack for each memory, with the
     /// page files that the mark names.
     ///
-    /// A crash at any moment leaves the heights before or those after; after Ok it leaves those after. Fault where the disk
-    /// failed, Memory where memory ran out.
+    /// A crash at any moment leaves the heights before or those after; after Ok it leaves those after. That is said of a disk
+    /// where nothing is pending, as opening leaves it. Fault where the disk failed, Memory where memory ran out.
     pub fn publish<D: Disk>(
         &mut self,
         alloc: Global,
@@ -44,12 +44,14 @@ impl HeightStore {
         requires good { (s : SystemPart) × FitsMark mark s stacks.items }
         requires above { AllByRecursion (λ h. h.mark.height < mark.height) self.old.heights }
         requires few { length self.old.heights < MAX_PUBLISHED }
-        requires over { IsTrue D.tells → IsOver self.old (D.view disk.old).state.files }
+        requires readable { IsTrue D.tells → IsReadable self.old.heights (D.view disk.old).state.files }
+        requires writable { IsTrue D.tells → IsWritable self.old mark.height (D.view disk.old).state.files }
         requires kept { IsTrue D.tells → AllByRecursion (AllByRecursion (IsKept (D.view disk.old).state.files)) stacks.items }
 
         ensures gains { OnOk result (Gains self.old mark stacks.items self.new) }
         ensures given { self.new.given ≡ self.old.given }
-        ensures over { IsTrue D.tells → OnOk result (IsOver self.new (D.view disk.new).state.files) }
+        ensures readable { IsTrue D.tells → OnOk result (IsReadable self.new.heights (D.view disk.new).state.files) }
+        ensures writable { IsTrue D.tells → OnOk result ((h : ℕ) → IsWritable self.old h (D.view disk.old).state.files → IsWritable self.new h (D.view disk.new).state.files) }
         ensures stands { IsTrue D.tells → (ps : List Published) (s : SystemPart) (p : Published)
             → IsSettled (D.view disk.old).state → KeepsHeights self.old.heights (D.view disk.old).state ps
             → IsMadeOf (D.view disk.old).state.files mark s stacks.items p → HasFirmPages (D.view disk.old).state mark
@@ -77,23 +79,24 @@ impl HeightStore {
 
     /// Removes a published height: its mark goes, and its page files go when the disk is opened next.
     ///
-    /// A crash at any moment leaves the heights before or those after; after Ok it leaves those after. NoHeight exactly where
-    /// the height is not published, LastHeight exactly where it is the newest: nothing is called then. Fault where the disk
-    /// failed, Memory where memory ran out.
+    /// A crash at any moment leaves the heights before or those after; after Ok it leaves those after. That is said of a disk
+    /// where nothing is pending, as opening leaves it. NoHeight exactly where the height is not published, LastHeight exactly
+    /// where it is the newest: nothing is called then. Fault where the disk failed, Memory where memory ran out.
     pub fn purge<D: Disk>(
         &mut self,
         alloc: Global,
         height: u64,
         disk: &mut D,
     ) -> Result<(), StoreError>
-        requires { IsTrue D.tells → IsOver self.old (D.view disk.old).state.files }
+        requires { IsTrue D.tells → IsReadable self.old.heights (D.view disk.old).state.files }
 
         ensures no_height { (result ≡ Err StoreError.NoHeight) ↔ (is_some (height_at self.old.heights height) ≡ false) }
         ensures last_height { (result ≡ Err StoreError.LastHeight) ↔ IsTrue (is_newest self.old.heights height) }
         ensures refused { IsErrOf result StoreError.NoHeight ⊎ IsErrOf result StoreError.LastHeight → (self.new ≡ self.old) × (disk.new ≡ disk.old) }
         ensures store { OnOk result (self.new ≡ record self.old { heights = without_height self.old.heights height }) }
         ensures given { self.new.given ≡ self.old.given }
-        ensures over { IsTrue D.tells → OnOk result (IsOver self.new (D.view disk.new).state.files) }
+        ensures readable { IsTrue D.tells → OnOk result (IsReadable self.new.heights (D.view disk.new).state.files) }
+        ensures writable { IsTrue D.tells → OnOk result ((h : ℕ) → IsWritable self.old h (D.view disk.old).state.files → IsWritable self.new h (D.view disk.new).state.files) }
         ensures stands { IsTrue D.tells → (ps : List Published)
             → IsSettled (D.view disk.old).state → KeepsHeights self.old.heights (D.view disk.old).state ps
             → OnOk result (KeepsHeights self.new.heights (D.view disk.new).state (without_published ps height)) }

@@ -28,7 +28,7 @@ pub(crate) fn sweep<D: Disk>(
     ensures gone { IsTrue D.tells → OnOk result ((n : ℕ) → list_any (nat_eq n) numbers.now ≡ true → list_any (nat_eq n) keep.now ≡ false → (D.view disk.new).state.files (name_of kind n) ≡ None) }
     ensures touches { IsTrue D.tells → TouchesOnly (is_swept kind numbers.now keep.now) (D.view disk.old) (D.view disk.new) }
     ensures settled { IsTrue D.tells → OnOk result (IsSettled (D.view disk.old).state → IsSettled (D.view disk.new).state) }
-    ensures appended { IsTrue D.tells → OnOk result ((D.view disk.new).appended ≡ (D.view disk.old).appended) }
+    ensures appended { IsTrue D.tells → (D.view disk.new).appended ≡ (D.view disk.old).appended }
     ensures read { IsTrue D.tells → (D.view disk.new).bytes_read ≡ (D.view disk.old).bytes_read }
     ensures cause { HasCause (D.faults disk.old) (D.faults disk.new) result }
     ensures no_bad_file { NoBadFile result }
@@ -54,7 +54,7 @@ fn sweep_one<D: Disk>(
     ensures gone { IsTrue D.tells → OnOk result (list_any (nat_eq number) keep.now ≡ false → (D.view disk.new).state.files (name_of kind number) ≡ None) }
     ensures touches { IsTrue D.tells → TouchesOnly (is_swept kind (number ∷ []) keep.now) (D.view disk.old) (D.view disk.new) }
     ensures settled { IsTrue D.tells → OnOk result (IsSettled (D.view disk.old).state → IsSettled (D.view disk.new).state) }
-    ensures appended { IsTrue D.tells → OnOk result ((D.view disk.new).appended ≡ (D.view disk.old).appended) }
+    ensures appended { IsTrue D.tells → (D.view disk.new).appended ≡ (D.view disk.old).appended }
     ensures read { IsTrue D.tells → (D.view disk.new).bytes_read ≡ (D.view disk.old).bytes_read }
     ensures cause { HasCause (D.faults disk.old) (D.faults disk.new) result }
     ensures no_bad_file { NoBadFile result }

@@ -5,12 +5,12 @@ use Rattle.std.specs.List.{AllZip}
 use Rattle.std.specs.Option.{is_some, option_map_or}
 use Rattle.std.specs.Prelude.{◌⊎◌, ◌↔◌, IsTrue}
 use Rattle.std.specs.Result.{IsErrOf, OnOk}
-use Rattle.store_spec.specs.Image.{Published}
+use Rattle.store_spec.specs.Image.{Published, without_published}
 use Rattle.disk_model.specs.State.{IsImageNow, IsSettled}
 use Rattle.disk_model.specs.View.{DiskView, LeavesOnly}
 use Rattle.height_store.specs.declared.error.StoreError.{StoreError}
 use Rattle.height_store.specs.declared.error.StoreError.TheVariants as store
-use Rattle.height_store.specs.Kept.{IsOver, KeepsHeights, StandsForEither, without_published}
+use Rattle.height_store.specs.Kept.{IsOver, KeepsHeights, StandsForEither}
 use Rattle.height_store.specs.Store.{StoredHeight, height_at, is_newest}
 use Rattle.whole_state.specs.Laws.{kept_known}
 use Rattle.whole_state.specs.Whole.{KnowsHeight}

@@ -7,7 +7,7 @@ ghost use Rattle.state_spec.specs.Root.{root_of};
 ghost use Rattle.store_spec.specs.Image.{Published};
 ghost use Rattle.disk_model.specs.Looking.{OnlyLooks};
 ghost use Rattle.height_store.specs.Errors.{HasCause as StoreCause, NoBadFile};
-ghost use Rattle.height_store.specs.Kept.{IsOver, ShowsHeight};
+ghost use Rattle.height_store.specs.Kept.{IsReadable, ShowsHeight};
 ghost use Rattle.height_store.specs.Store.{StoredHeight, height_at, heights_in};
 ghost use Rattle.whole_state.specs.Whole.{KnowsHeight};
 ghost use Rattle.machine_spec.specs.HeightSteps.{counts_of, tree_root};
@@ -73,7 +73,7 @@ pub fn load<D: Disk>(
     disk: &mut D,
     height: u64,
 ) -> Result<HeightState, StoreError>
-    requires over { IsTrue D.tells → IsOver store.now (D.view disk.old).state.files }
+    requires readable { IsTrue D.tells → IsReadable store.now.heights (D.view disk.old).state.files }
     requires there { is_some (height_at store.now.heights height) ≡ true }
     ensures state { IsTrue D.tells → (h : StoredHeight) (p : Published) → height_at store.now.heights height ≡ Some h
         → ShowsHeight (D.view disk.old).state.files h p
@@ -95,7 +95,7 @@ pub fn begin<D: Disk>(
     store: &HeightStore,
     disk: &mut D,
 ) -> Result<HeightState, StoreError>
-    requires over { IsTrue D.tells → IsOver store.now (D.view disk.old).state.files }
+    requires readable { IsTrue D.tells → IsReadable store.now.heights (D.view disk.old).state.files }
     ensures state { IsTrue D.tells → (ps : List Published) → AllZip (ShowsHeight (D.view disk.old).state.files) store.now.heights ps
         → IfOk result (λ state. KeepsState state (start ps)) }
     ensures looks { IsTrue D.tells → (most : ℕ) × OnlyLooks most (D.view disk.old) (D.view disk.new) }
@@ -119,7 +119,7 @@ pub fn read_published<D: Disk>(
     offset: u64,
     len: u64,
 ) -> Result<Reply, StoreError>
-    requires over { IsTrue D.tells → IsOver store.now (D.view disk.old).state.files }
+    requires readable { IsTrue D.tells → IsReadable store.now.heights (D.view disk.old).state.files }
     requires there { is_some (height_at store.now.heights height) ≡ true }
     ensures reply { IsTrue D.tells → (h : StoredHeight) (p : Published) → height_at store.now.heights height ≡ Some h
         → ShowsHeight (D.view disk.old).state.files h p

@@ -1,5 +1,5 @@
 -- Numbers that are given to page files, and what stays of the others.
-use Rattle.std.proofs.Common.{◌≡◌, ℕ, zero, suc, length, take, map, get_or, ◌+◌, ◌≤◌, ◌<◌, Bool, true, false, ◌&&◌, ◌||◌, not, nat_eq, nat_lt, List, [], ◌∷◌, ◌++◌, is_some, Some, None, inl, inr, refl, sym, ap, subst, ◌∙◌, arith}
+use Rattle.std.proofs.Common.{◌≡◌, ℕ, zero, suc, length, take, map, sum_by, get_or, ◌+◌, ◌≤◌, ◌<◌, ◌==◌, Bool, true, false, ◌&&◌, ◌||◌, not, nat_eq, nat_lt, List, [], ◌∷◌, ◌++◌, is_some, Some, None, inl, inr, refl, sym, ap, subst, ◌∙◌, arith}
 use Rattle.std.specs.List.{list_any, AllByRecursion, AllZip}
 use Rattle.std.proofs.lemmas.Bool.{cases_Bool, false≢true}
 use Rattle.std.proofs.lemmas.Bool.Decides.{nat_tests}
@@ -12,11 +12,14 @@ use Rattle.disk_model.specs.State.{IsSettled}
 use Rattle.disk_model.specs.View.{DiskView}
 use Rattle.disk_model.specs.Laws.{same_name_eq}
 use Rattle.disk_model.specs.Frame.{TouchesOnly, touches_then, touches_none, touches_wider}
+use Rattle.disk_model.specs.Spending.{Spends, spends_none, spends_then}
 use Rattle.page_file.specs.Files.{NumberedFile, IsKept, IsFinished}
 use Rattle.height_store.specs.Store.{Store, StoredHeight, IsNextFree, heights_in, is_used}
-use Rattle.height_store.specs.Kept.{IsOver, HasMark, HasStacks}
+use Rattle.height_store.specs.Kept.{IsReadable, HasRoom, HasMark, HasStacks}
 use Rattle.height_store.specs.Shown.{or_right, listing_apart}
 use Rattle.std.proofs.lemmas.List.{take_more, map_push}
+use Rattle.std.proofs.lemmas.List.Sums.{sum_by_push}
+use Rattle.store_spec.specs.Whole.{file_bytes}
 use Rattle.whole_state.specs.Written.{GivesNumbers, IsWholeStack, is_given_since, AreFinished, AreUsed}
 
 -- ---- tests
@@ -121,16 +124,16 @@ touches_next old new number before after free is touches = touches_wider (same_n
 none_some : (f : Files) (q : Name) (text : Bytes) → f q ≡ Some text → f q ≡ None → ⊥
 none_some f q text there none = absurd cc
 
-pub kept_used : (store : Store) (f : Files) (file : NumberedFile) → IsOver store f → IsKept f file → is_used store file.number ≡ true
-kept_used store f file over kept = elim (cases_Bool (is_used store file.number)) [
+pub kept_used : (store : Store) (f : Files) (file : NumberedFile) → HasRoom store f → IsKept f file → is_used store file.number ≡ true
+kept_used store f file room kept = elim (cases_Bool (is_used store file.number)) [
   | inl used ↦ used
-  | inr unused ↦ absurd (none_some f (name.Page file.number) kept.1.text kept.1.there (over.given file.number unused))
+  | inr unused ↦ absurd (none_some f (name.Page file.number) kept.1.text kept.1.there (room file.number unused))
 ]
 
-module _ (most : ℕ) (old new : Store) (f g : Files) (gives : GivesNumbers most old new) (same : (q : Name) → is_given_since old new q ≡ false → g q ≡ f q) (over : IsOver old f) where
+module _ (most : ℕ) (old new : Store) (f g : Files) (gives : GivesNumbers most old new) (same : (q : Name) → is_given_since old new q ≡ false → g q ≡ f q) (room : HasRoom old f) where
   kept_here : (file : NumberedFile) → IsKept f file → IsKept g file
   kept_here file kept =
-      (kept.0, record { text = kept.1.text; there = same (name.Page file.number) (apart_from_used old new file.number (kept_used old f file over kept)) ∙ kept.1.there; good = kept.1.good })
+      (kept.0, record { text = kept.1.text; there = same (name.Page file.number) (apart_from_used old new file.number (kept_used old f file room kept)) ∙ kept.1.there; good = kept.1.good })
 
   stack_here : (stack : List NumberedFile) → AllByRecursion (IsKept f) stack → AllByRecursion (IsKept g) stack
   stack_here [] kept = tt
@@ -148,26 +151,36 @@ module _ (most : ℕ) (old new : Store) (f g : Files) (gives : GivesNumbers most
   heights_here [] stacks = tt
   heights_here (h ∷ hs) stacks = (stacks_here h.stacks stacks.0, heights_here hs stacks.1)
 
-  -- a store stays over its files as page files of given numbers are written
-  pub over_kept : IsOver new g
-  over_kept = record {
-    listed = subst (λ (hs : List StoredHeight). IsListing kind.Mark g (heights_in hs)) (sym gives.heights) (listing_apart f g (heights_in old.heights) (λ n. same (name.Mark n) refl) over.listed);
-    marks = subst (AllByRecursion (HasMark g)) (sym gives.heights) (marks_here old.heights over.marks);
-    stacks = subst (AllByRecursion (HasStacks g)) (sym gives.heights) (heights_here old.heights over.stacks);
-    given = λ n unused. same (name.Page n) (apart_unused (is_used new n) (is_used old n) unused) ∙ over.given n (back (is_used old n) (is_used new n) (used_more most old new n gives) unused);
-    no_draft = λ n. same (name.Draft n) refl ∙ over.no_draft n;
+  -- what a store needs stays as page files of given numbers are written
+  pub readable_kept : IsReadable old.heights f → IsReadable new.heights g
+  readable_kept readable = record {
+    listed = subst (λ (hs : List StoredHeight). IsListing kind.Mark g (heights_in hs)) (sym gives.heights) (listing_apart f g (heights_in old.heights) (λ n. same (name.Mark n) refl) readable.listed);
+    marks = subst (AllByRecursion (HasMark g)) (sym gives.heights) (marks_here old.heights readable.marks);
+    stacks = subst (AllByRecursion (HasStacks g)) (sym gives.heights) (heights_here old.heights readable.stacks);
   }
+
+  pub room_kept : HasRoom new g
+  room_kept = λ n unused. same (name.Page n) (apart_unused (is_used new n) (is_used old n) unused) ∙ room n (back (is_used old n) (is_used new n) (used_more most old new n gives) unused)
+
+-- ---- what a memory costs
+
+pub empty_spent : (memory : Bytes) (view : DiskView) → true ≡ (length memory == 0) → Spends (file_bytes memory) 0 view view
+empty_spent memory view is = rw (sym is) (spends_none view)
+
+pub some_spent : (memory : Bytes) (old new : DiskView) → false ≡ (length memory == 0) → Spends (32 + 12 + length memory) 0 old new → Spends (file_bytes memory) 0 old new
+some_spent memory old new is spends = rw (sym is) spends
 
 -- ---- memories one after another
 
 pub record WritesSome (first store : Store) (memories : List Bytes) (stacks : List (List NumberedFile)) (old new : DiskView) : Type 0 where
-  pub over : IsOver store new.state.files
+  pub room : HasRoom store new.state.files
   pub finished : AllZip (AreFinished new.state) memories stacks
   pub touches : TouchesOnly (is_given_since first store) old new
   pub settled : IsSettled old.state → IsSettled new.state
+  pub spends : Spends (sum_by file_bytes memories) 0 old new
 
-pub writes_none : (store : Store) (view : DiskView) → IsOver store view.state.files → WritesSome store store [] [] view view
-writes_none store view over = record { over = over; finished = tt; touches = touches_none (is_given_since store store) view; settled = λ settled. settled }
+pub writes_none : (store : Store) (view : DiskView) → HasRoom store view.state.files → WritesSome store store [] [] view view
+writes_none store view room = record { room = room; finished = tt; touches = touches_none (is_given_since store store) view; settled = λ settled. settled; spends = spends_none view }
 
 file_here : (mid store : Store) (bytes : Bytes) (old new : DiskView) → TouchesOnly (is_given_since mid store) old new → (file : NumberedFile) → is_used mid file.number ≡ true → IsFinished file bytes old.state → IsFinished file bytes new.state
 file_here mid store bytes old new touches file used done =
@@ -216,13 +229,14 @@ touches_both i first mid store old between new before gives touched touches =
 
 -- one memory more
 pub writes_more : (i : ℕ) (first mid store : Store) (memories : List Bytes) (bytes : Bytes) (stacks : List (List NumberedFile)) (stack : List NumberedFile) (old between new : DiskView)
-    → GivesNumbers i first mid → GivesNumbers 1 mid store → AllByRecursion (AreUsed mid) stacks → TouchesOnly (is_given_since mid store) between new → AreFinished new.state bytes stack → (IsSettled between.state → IsSettled new.state)
+    → GivesNumbers i first mid → GivesNumbers 1 mid store → AllByRecursion (AreUsed mid) stacks → TouchesOnly (is_given_since mid store) between new → AreFinished new.state bytes stack → (IsSettled between.state → IsSettled new.state) → Spends (file_bytes bytes) 0 between new
     → WritesSome first mid memories stacks old between → WritesSome first store (memories ++ bytes ∷ []) (stacks ++ stack ∷ []) old new
-writes_more i first mid store memories bytes stacks stack old between new before gives used touches done settled so_far = record {
-  over = over_kept 1 mid store between.state.files new.state.files gives touches.reads so_far.over;
+writes_more i first mid store memories bytes stacks stack old between new before gives used touches done settled spends so_far = record {
+  room = room_kept 1 mid store between.state.files new.state.files gives touches.reads so_far.room;
   finished = zip_push (AreFinished new.state) memories stacks bytes stack (stacks_stay mid store between new touches memories stacks used so_far.finished) done;
   touches = touches_both i first mid store old between new before gives so_far.touches touches;
   settled = λ was. settled (so_far.settled was);
+  spends = subst (λ (n : ℕ). Spends n 0 old new) (sym (sum_by_push file_bytes memories bytes)) (spends_then (sum_by file_bytes memories) (file_bytes bytes) 0 0 old between new so_far.spends spends);
 }
 
 -- ---- one turn

@@ -6,3 +6,4 @@ pub mod Marked
 pub mod Images
 pub mod Made
 pub mod Standing
+pub mod Spent

@@ -19,19 +19,19 @@ use Rattle.disk_model.specs.Moments.{weaker}
 use Rattle.disk_model.specs.Frame.{TouchesOnly}
 use Rattle.disk_model.specs.Laws.{IsSound}
 use Rattle.page_file.specs.Files.{NumberedFile, IsKept}
-use Rattle.height_store.specs.Store.{Store, StoredHeight, mark_names, is_named, is_needed, is_used, numbers_of}
-use Rattle.height_store.specs.Kept.{IsOver, ShowsHeight, HasStacks, IsMadeOf, HasFirmPages, KeepsHeights, StandsForEither}
+use Rattle.height_store.specs.Store.{Store, StoredHeight, GivesFew, mark_names, is_named, is_needed, is_used, numbers_of}
+use Rattle.height_store.specs.Kept.{IsReadable, HasRoom, ShowsHeight, HasStacks, IsMadeOf, HasFirmPages, KeepsHeights, StandsForEither}
 use Rattle.height_store.specs.Laws.{kept_apart, stands_apart}
 use Rattle.whole_state.specs.Whole.{HasParts, whole}
 use Rattle.whole_state.specs.Written.{GivesNumbers, IsWholeStack, AreFinished, is_given_since}
 use Rattle.whole_state.proofs.Made.{is_made, pages_firm}
 use Rattle.whole_state.proofs.Giving.{kept_used, apart_from_used}
 
-module _ (store : Store) (f : Files) (over : IsOver store f) (n : ℕ) where
+module _ (store : Store) (f : Files) (room : HasRoom store f) (n : ℕ) where
   in_stack : (stack : List NumberedFile) → AllByRecursion (IsKept f) stack → list_any (nat_eq n) (numbers_of stack) ≡ true → is_used store n ≡ true
   in_stack [] kept named = absurd (false≢true named)
   in_stack (file ∷ stack) kept named = elim (cases_Bool (nat_eq n file.number)) [
-    | inl here ↦ subst (λ (k : ℕ). is_used store k ≡ true) (sym (eqb-true n file.number here)) (kept_used store f file over kept.0)
+    | inl here ↦ subst (λ (k : ℕ). is_used store k ≡ true) (sym (eqb-true n file.number here)) (kept_used store f file room kept.0)
     | inr apart ↦ in_stack stack kept.1 (sym (rw apart refl) ∙ named)
   ]
 
@@ -57,18 +57,19 @@ module _ (store : Store) (f : Files) (over : IsOver store f) (n : ℕ) where
   ]
 
 -- no file that the heights need has a number that was given since
-pub needed_apart : (store new : Store) (s : DiskState) (ps : List Published) → IsSound s → IsOver store s.files → KeepsHeights store.heights s ps → (q : Name) → is_needed store.heights q ≡ true → is_given_since store new q ≡ false
-needed_apart store new s ps sound over keeps (name.Mark n) needed = refl
-needed_apart store new s ps sound over keeps (name.Draft n) needed = refl
-needed_apart store new s ps sound over keeps (name.Stage n) needed = refl
-needed_apart store new s ps sound over keeps (name.Page n) needed =
-    apart_from_used store new n (in_heights store s.files over n store.heights ps (keeps.images s.files sound).each over.stacks needed)
+pub needed_apart : (store new : Store) (s : DiskState) (ps : List Published) → IsSound s → IsReadable store.heights s.files → HasRoom store s.files → KeepsHeights store.heights s ps → (q : Name) → is_needed store.heights q ≡ true → is_given_since store new q ≡ false
+needed_apart store new s ps sound readable room keeps (name.Mark n) needed = refl
+needed_apart store new s ps sound readable room keeps (name.Draft n) needed = refl
+needed_apart store new s ps sound readable room keeps (name.Stage n) needed = refl
+needed_apart store new s ps sound readable room keeps (name.Page n) needed =
+    apart_from_used store new n (in_heights store s.files room n store.heights ps (keeps.images s.files sound).each readable.stacks needed)
 
 -- ---- memories were written whole, and there is a mark over them
 
 pub record Wrote (old mid : Store) (before between : DiskView) (system : System) (memories : List Bytes) (stacks : List (List NumberedFile)) (m : Mark) (height : ℕ) : Type 0 where
   pub sound : IsSound before.state
-  pub over : IsOver old before.state.files
+  pub readable : IsReadable old.heights before.state.files
+  pub room : HasRoom old before.state.files
   pub heights : mid.heights ≡ old.heights
   pub touches : TouchesOnly (is_given_since old mid) before between
   pub settled : IsSettled before.state → IsSettled between.state
@@ -81,20 +82,20 @@ pub record Wrote (old mid : Store) (before between : DiskView) (system : System)
   pub fit : FitMemories (part_of system) memories
 
 -- until the mark is written each image stands for the heights before
-pub stands_on : (old mid : Store) (before between : DiskView) (ps qs : List Published) → IsSound before.state → IsOver old before.state.files → TouchesOnly (is_given_since old mid) before between → KeepsHeights old.heights before.state ps
+pub stands_on : (old mid : Store) (before between : DiskView) (ps qs : List Published) → IsSound before.state → IsReadable old.heights before.state.files → HasRoom old before.state.files → TouchesOnly (is_given_since old mid) before between → KeepsHeights old.heights before.state ps
     → LeavesOnly before between (StandsForEither ps qs)
-stands_on old mid before between ps qs sound over touches keeps = weaker before between (λ image. StandsFor image ps) (StandsForEither ps qs) (λ image stands. inl stands)
-    (stands_apart (is_given_since old mid) before between old.heights ps (needed_apart old mid before.state ps sound over keeps) touches keeps)
+stands_on old mid before between ps qs sound readable room touches keeps = weaker before between (λ image. StandsFor image ps) (StandsForEither ps qs) (λ image stands. inl stands)
+    (stands_apart (is_given_since old mid) before between old.heights ps (needed_apart old mid before.state ps sound readable room keeps) touches keeps)
 
 -- what publishing the mark asks for is so
 pub publishes : {X : Type 0} (old mid : Store) (before between : DiskView) (system : System) (memories : List Bytes) (stacks : List (List NumberedFile)) (m : Mark) (height : ℕ) (ps : List Published) (state : State)
     → (IsSettled between.state → KeepsHeights mid.heights between.state ps → IsMadeOf between.state.files m (part_of system) stacks (whole height state) → HasFirmPages between.state m → X)
     → Wrote old mid before between system memories stacks m height → HasParts state system memories → IsSettled before.state → KeepsHeights old.heights before.state ps → X
 publishes old mid before between system memories stacks m height ps state publish wrote parts settled keeps =
-    let kept = kept_apart (is_given_since old mid) before between old.heights ps (needed_apart old mid before.state ps wrote.sound wrote.over keeps) wrote.touches keeps in
+    let kept = kept_apart (is_given_since old mid) before between old.heights ps (needed_apart old mid before.state ps wrote.sound wrote.readable wrote.room keeps) wrote.touches keeps in
     publish (wrote.settled settled) (subst (λ (hs : List StoredHeight). KeepsHeights hs between.state ps) (sym wrote.heights) kept)
     (is_made between.state m system memories stacks height state wrote.good wrote.is_height wrote.layers wrote.sums wrote.fit wrote.whole wrote.finished parts)
     (pages_firm between.state m memories stacks wrote.layers wrote.finished)
 
-pub given_bounds : {V : Type 0} (bytes : V → Bytes) (ms : List V) (old new : Store) → length (map bytes ms) ≤ 2048 → GivesNumbers (length ms) old new → (old.given ≤ new.given) × (new.given ≤ old.given + 2048)
-given_bounds bytes ms old new few gives = let count = length-map ms bytes in (gives.given_least, omega (arith, gives.given_most, few, count))
+pub given_bounds : {V : Type 0} (bytes : V → Bytes) (ms : List V) (old new : Store) → length (map bytes ms) ≤ 2048 → GivesNumbers (length ms) old new → GivesFew old new
+given_bounds bytes ms old new few gives = let count = length-map ms bytes in record { least = gives.given_least; most = omega (arith, gives.given_most, few, count) }

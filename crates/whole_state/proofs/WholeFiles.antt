@@ -6,16 +6,17 @@ use Rattle.std.proofs.lemmas.List.{append-nil, take_all}
 use Rattle.std.proofs.lemmas.List.FromFn.{length-range_with_len}
 use Rattle.format_spec.specs.Bytes.{Bytes, ascending}
 use Rattle.std.specs.Ordering.{nat_cmp}
-use Rattle.store_spec.specs.PageFile.{PageIndex, IsIndex}
+use Rattle.store_spec.specs.PageFile.{PageIndex, IsIndex, runs_of, index_length}
 use Rattle.disk_model.specs.declared.name.Name.TheVariants.{Page}
 use Rattle.disk_model.specs.Files.{same_name}
 use Rattle.disk_model.specs.State.{IsLoose, IsSettled}
 use Rattle.disk_model.specs.View.{DiskView}
 use Rattle.disk_model.specs.Frame.{TouchesOnly, touches_then, touches_none}
+use Rattle.disk_model.specs.Spending.{Spends, spends_none, spends_then}
 use Rattle.page_file.specs.declared.range.Range.{Range}
 use Rattle.page_file.specs.Ranges.{AreRanges}
 use Rattle.page_file.specs.Files.{UnfinishedFile, IsWriting}
-use Rattle.page_file.proofs.Runs.{numbers_ascend, numbers_within}
+use Rattle.page_file.proofs.Runs.{numbers_ascend, numbers_within, runs_of_numbers}
 use Rattle.page_file.proofs.Build.{range_push}
 use Rattle.whole_state.specs.Written.{whole_index}
 
@@ -35,6 +36,13 @@ whole_is_index n some few =
       within = subst (AllByRecursion (λ page. page < n)) (append-nil (range_with_len 0 n)) (numbers_within n 0 0 (all n) are);
     }
 
+-- a header and one range
+pub one_range : (n : ℕ) → 1 ≤ n → index_length (whole_index n) ≡ 44
+one_range n some =
+    let are : AreRanges n 0 0 (all n) = (omega arith, some, omega arith, refl, tt) in
+    ap (λ (ns : List ℕ). 32 + 12 * length (runs_of ns)) (sym (append-nil (range_with_len 0 n)))
+    ∙ ap (λ (rs : List (ℕ × ℕ)). 32 + 12 * length rs) (runs_of_numbers n 0 0 (all n) are)
+
 pub page_pushed : (mid new : List ℕ) (page : ℕ) → mid ≡ range_with_len 0 page → new ≡ mid ++ page ∷ [] → new ≡ range_with_len 0 (page + 1)
 page_pushed mid new page was is =
     let at : page ≡ 0 + page = omega arith in
@@ -48,6 +56,11 @@ pub record AddsPages (memory : Bytes) (i : ℕ) (first writer : UnfinishedFile) 
   pub written : IsWriting first [] old.state → IsWriting writer (take (i * 4096) memory) new.state
   pub touches : TouchesOnly (same_name (Page first.number)) old new
   pub settled : IsSettled old.state → IsSettled new.state
+  pub spends : Spends (i * 4096) 0 old new
+
+-- what was appended, where nothing was read
+pub appends_only : (n : ℕ) (old new : DiskView) → new.appended ≡ old.appended + n → new.bytes_read ≡ old.bytes_read → Spends n 0 old new
+appends_only n old new appended read = record { appended = appended; read_least = omega (arith, read); read_most = omega (arith, read) }
 
 taken_more : (i : ℕ) (memory : Bytes) → take (i * 4096) memory ++ take 4096 (drop (i * 4096) memory) ≡ take ((i + 1) * 4096) memory
 taken_more i memory = let e : (i + 1) * 4096 ≡ i * 4096 + 4096 = omega arith in sym (ap (λ (n : ℕ). take n memory) e ∙ take-add (i * 4096) 4096 memory)
@@ -58,26 +71,31 @@ adds_none memory first writer old is loose = record {
   written = λ was. subst (λ (w : UnfinishedFile). IsWriting w [] old.state) (sym is) was;
   touches = touches_none (same_name (Page first.number)) old;
   settled = λ settled. settled;
+  spends = spends_none old;
 }
 
 -- one page more
 pub adds_more : (memory page : Bytes) (i : ℕ) (first writer next : UnfinishedFile) (old mid new : DiskView) → writer ≡ record first { added = i } → page ≡ take 4096 (drop (i * 4096) memory)
     → IsLoose new.state (Page writer.number) → ((pages : Bytes) → IsWriting writer pages mid.state → IsWriting next (pages ++ page) new.state)
-    → TouchesOnly (same_name (Page writer.number)) mid new → (IsSettled mid.state → IsSettled new.state)
+    → TouchesOnly (same_name (Page writer.number)) mid new → (IsSettled mid.state → IsSettled new.state) → Spends 4096 0 mid new
     → AddsPages memory i first writer old mid → AddsPages memory (i + 1) first next old new
-adds_more memory page i first writer next old mid new is page_is loose added touches settled so_far =
+adds_more memory page i first writer next old mid new is page_is loose added touches settled spends so_far =
     let number : writer.number ≡ first.number = ap (λ (w : UnfinishedFile). w.number) is in
     record {
       loose = subst (λ (n : ℕ). IsLoose new.state (Page n)) number loose;
       written = λ was. subst (λ (bytes : Bytes). IsWriting next bytes new.state) (ap (λ (p : Bytes). take (i * 4096) memory ++ p) page_is ∙ taken_more i memory) (added (take (i * 4096) memory) (so_far.written was));
       touches = touches_then (same_name (Page first.number)) old mid new so_far.touches (subst (λ (n : ℕ). TouchesOnly (same_name (Page n)) mid new) number touches);
       settled = λ was. settled (so_far.settled was);
+      spends = let e : i * 4096 + 4096 ≡ (i + 1) * 4096 = omega arith in subst (λ (n : ℕ). Spends n 0 old new) e (spends_then (i * 4096) 4096 0 0 old mid new so_far.spends spends);
     }
 
 pub adds_then : (memory : Bytes) (i : ℕ) (first writer : UnfinishedFile) (old mid new : DiskView) → writer ≡ record first { added = i } → TouchesOnly (same_name (Page writer.number)) mid new → AddsPages memory i first writer old mid
     → TouchesOnly (same_name (Page first.number)) old new
 adds_then memory i first writer old mid new is touches so_far =
     touches_then (same_name (Page first.number)) old mid new so_far.touches (subst (λ (n : ℕ). TouchesOnly (same_name (Page n)) mid new) (ap (λ (w : UnfinishedFile). w.number) is) touches)
+
+pub adds_spent : (memory : Bytes) (i : ℕ) (first writer : UnfinishedFile) (old new : DiskView) → i * 4096 ≡ length memory → AddsPages memory i first writer old new → Spends (length memory) 0 old new
+adds_spent memory i first writer old new all so_far = subst (λ (n : ℕ). Spends n 0 old new) all so_far.spends
 
 pub adds_all : (memory : Bytes) (i : ℕ) (first writer : UnfinishedFile) (old new : DiskView) → length memory ≤ i * 4096 → AddsPages memory i first writer old new → IsWriting first [] old.state → IsWriting writer memory new.state
 adds_all memory i first writer old new all so_far was = subst (λ (bytes : Bytes). IsWriting writer bytes new.state) (take_all (i * 4096) memory all) (so_far.written was)
@@ -97,3 +115,10 @@ one_page memory page at is = let e : at + 4096 - at ≡ 4096 = omega arith in is
 
 pub added_one : (first writer next : UnfinishedFile) (i : ℕ) → writer ≡ record first { added = i } → next ≡ record writer { added = writer.added + 1 } → next ≡ record first { added = i + 1 }
 added_one first writer next i is more = more ∙ ap (λ (w : UnfinishedFile). record w { added = w.added + 1 }) is
+
+-- all of a file: the index, the pages, and the seal
+pub file_spent : (memory : Bytes) (index : PageIndex) (v0 v1 v2 v3 : DiskView) → 1 ≤ length memory → length memory % 4096 ≡ 0 → index ≡ whole_index (length memory / 4096) → Spends (index_length index) 0 v0 v1 → Spends (length memory) 0 v1 v2 → Spends 0 0 v2 v3
+    → Spends (32 + 12 + length memory) 0 v0 v3
+file_spent memory index v0 v1 v2 v3 some even is begun added sealed =
+    let long : index_length index ≡ 44 = ap index_length is ∙ one_range (length memory / 4096) (omega (arith, some, even)) in
+    subst (λ (n : ℕ). Spends n 0 v0 v3) (omega (arith, long)) (spends_then (index_length index + length memory) 0 0 0 v0 v2 v3 (spends_then (index_length index) (length memory) 0 0 v0 v1 v2 begun added) sealed)

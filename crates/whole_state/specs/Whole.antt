@@ -1,5 +1,6 @@
 -- A state as a published height keeps it.
-use Rattle.std.specs.Prelude.{◌≡◌, ◌≤◌, ◌<◌, ◌+◌, ◌-◌, ◌/◌, ◌==◌, if◌then◌else◌, ℕ, ◌*◌, List, length, map, slice_get, Some}
+use Rattle.std.specs.Prelude.{◌≡◌, ◌≤◌, ◌<◌, ◌+◌, ◌-◌, ◌/◌, ◌==◌, if◌then◌else◌, ℕ, ◌*◌, List, length, map, sum_by, slice_get, Some}
+use Rattle.std.specs.Option.{option_map_or}
 use Rattle.std.specs.List.{AllZip}
 use Rattle.format_spec.specs.Bytes.{Bytes}
 use Rattle.format_spec.specs.declared.limits.TheConstants.{PAGE_SIZE}
@@ -11,7 +12,7 @@ use Rattle.sys_state.specs.System.{System, part_of, kept_of}
 use Rattle.machine_spec.specs.StoreSteps.{whole_layers}
 use Rattle.machine_spec.specs.Machine.{opened}
 use Rattle.state_spec.specs.Root.{root_of}
-use Rattle.height_store.specs.Store.{StoredHeight, IsHeight}
+use Rattle.height_store.specs.Store.{StoredHeight, IsHeight, height_at}
 
 -- the state has these parts and these bytes of memories
 pub record HasParts (s : State) (system : System) (memories : List Bytes) : Type 0 where
@@ -40,6 +41,10 @@ pub record KnowsHeight (h : StoredHeight) (p : Published) : Type 0 where
 -- the bytes of the memory at a place of a state, in the order of files
 abbrev pub IsMemoryAt : State → ℕ → Bytes → Type 0
 IsMemoryAt s file bytes = slice_get (memory_bytes s) file ≡ Some bytes
+
+-- how many bytes the memories of a height have, and none where it is not published
+abbrev pub bytes_at : List StoredHeight → ℕ → ℕ
+bytes_at hs height = option_map_or (λ h. sum_by (λ m. m.1 * PAGE_SIZE) (memories_in (part_of h.system))) (height_at hs height) 0
 
 -- how many pages hold a byte of so many, from an offset on
 abbrev pub pages_holding : ℕ → ℕ → ℕ

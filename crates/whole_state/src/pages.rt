@@ -1,12 +1,13 @@
 //! A memory written whole, as a page file of all its pages.
 
-ghost use Rattle.std.specs.Prelude.{◌≡◌, ◌≤◌, ◌*◌, [], length, IsTrue, OnOk, IfOk};
+ghost use Rattle.std.specs.Prelude.{◌≡◌, ◌≤◌, ◌+◌, ◌*◌, [], length, IsTrue, OnOk, IfOk};
 ghost use Rattle.format_spec.specs.Bytes.{Bytes};
 ghost use Rattle.format_spec.specs.declared.limits.TheConstants.{PAGE_SIZE as page_size, MAX_MEMORY_PAGES};
 ghost use Rattle.disk_model.specs.declared.name.Name.TheVariants.{Page};
 ghost use Rattle.disk_model.specs.Files.{same_name};
 ghost use Rattle.disk_model.specs.State.{IsAbsent, IsLoose, IsSettled};
 ghost use Rattle.disk_model.specs.Frame.{TouchesOnly};
+ghost use Rattle.disk_model.specs.Spending.{Spends};
 ghost use Rattle.page_file.specs.Errors.{HasCause, NoBadPage};
 ghost use Rattle.page_file.specs.Files.{IsWriting, IsFinished};
 ghost use Rattle.whole_state.specs.Written.{IsMemoryBytes, pages_in, whole_index, whole_file};
@@ -31,6 +32,7 @@ pub(crate) fn write_whole<D: Disk>(
 
     ensures file { IfOk result (λ file. file ≡ whole_file number (pages_in memory.now)) }
     ensures finished { IsTrue D.tells → IfOk result (λ file. IsFinished file memory.now (D.view disk.new).state) }
+    ensures spends { IsTrue D.tells → OnOk result (Spends (32 + 12 + length memory.now) 0 (D.view disk.old) (D.view disk.new)) }
     ensures touches { IsTrue D.tells → TouchesOnly (same_name (Page number)) (D.view disk.old) (D.view disk.new) }
     ensures settled { IsTrue D.tells → OnOk result (IsSettled (D.view disk.old).state → IsSettled (D.view disk.new).state) }
     ensures cause { HasCause (D.faults disk.old) (D.faults disk.new) result }
@@ -69,6 +71,7 @@ fn add_pages<D: Disk>(
     ensures writer { OnOk result (writer.new ≡ record writer.old { added = length writer.old.index.numbers }) }
     ensures added { IsTrue D.tells → OnOk result (IsWriting writer.old [] (D.view disk.old).state → IsWriting writer.new memory.now (D.view disk.new).state) }
     ensures there { IsTrue D.tells → OnOk result (IsLoose (D.view disk.new).state (Page writer.old.number)) }
+    ensures spends { IsTrue D.tells → OnOk result (Spends (length memory.now) 0 (D.view disk.old) (D.view disk.new)) }
     ensures touches { IsTrue D.tells → TouchesOnly (same_name (Page writer.old.number)) (D.view disk.old) (D.view disk.new) }
     ensures settled { IsTrue D.tells → OnOk result (IsSettled (D.view disk.old).state → IsSettled (D.view disk.new).state) }
     ensures cause { HasCause (D.faults disk.old) (D.faults disk.new) result }

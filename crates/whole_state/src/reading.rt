@@ -11,9 +11,9 @@ ghost use Rattle.disk_model.specs.Looking.{OnlyLooks};
 ghost use Rattle.page_file.specs.Files.{NumberedFile};
 ghost use Rattle.layer_stack.specs.Stacks.{AreLayers};
 ghost use Rattle.height_store.specs.Errors.{HasCause, NoBadFile};
-ghost use Rattle.height_store.specs.Kept.{IsOver, ShowsHeight};
+ghost use Rattle.height_store.specs.Kept.{IsReadable, ShowsHeight};
 ghost use Rattle.height_store.specs.Store.{StoredHeight, height_at};
-ghost use Rattle.whole_state.specs.Whole.{IsMemoryAt, AreTheirPages, pages_holding};
+ghost use Rattle.whole_state.specs.Whole.{IsMemoryAt, AreTheirPages, bytes_at, pages_holding};
 
 use byte_codec::{Blob, NoMemory};
 use disk_model::Disk;
@@ -22,7 +22,7 @@ use height_store::{HeightStore, StoreError};
 use std::alloc::Global;
 use sys_state::SysState;
 
-/// The bytes of all memories of a published height, in the order of files.
+/// The bytes of all memories of a published height, in the order of files. At most as many bytes are read as they have.
 ///
 /// NoHeight exactly where the height is not published, Fault where the disk failed, Memory where memory ran out.
 pub fn read_memories<D: Disk>(
@@ -31,7 +31,7 @@ pub fn read_memories<D: Disk>(
     disk: &mut D,
     height: u64,
 ) -> Result<Vec<Vec<u8>>, StoreError>
-    requires { IsTrue D.tells → IsOver store.now (D.view disk.old).state.files }
+    requires { IsTrue D.tells → IsReadable store.now.heights (D.view disk.old).state.files }
 
     ensures no_height { (result ≡ Err StoreError.NoHeight) ↔ (is_some (height_at store.now.heights height) ≡ false) }
     ensures sizes { (h : StoredHeight) → height_at store.now.heights height ≡ Some h
@@ -40,6 +40,7 @@ pub fn read_memories<D: Disk>(
         → ShowsHeight (D.view disk.old).state.files h p
         → IfOk result (λ memories. map (λ memory. memory.items) memories.items ≡ memory_bytes p.state) }
     ensures looks { IsTrue D.tells → (most : ℕ) × OnlyLooks most (D.view disk.old) (D.view disk.new) }
+    ensures read { IsTrue D.tells → OnlyLooks (bytes_at store.now.heights height) (D.view disk.old) (D.view disk.new) }
     ensures cause { HasCause (D.faults disk.old) (D.faults disk.new) result }
     ensures no_bad_file { NoBadFile result }
     ensures last_height { result ≡ Err StoreError.LastHeight → ⊥ }
@@ -68,7 +69,7 @@ pub fn read_bytes<D: Disk>(
     offset: u64,
     len: u64,
 ) -> Result<Blob, StoreError>
-    requires over { IsTrue D.tells → IsOver store.now (D.view disk.old).state.files }
+    requires readable { IsTrue D.tells → IsReadable store.now.heights (D.view disk.old).state.files }
     requires within { IfSome (height_at store.now.heights height) (λ h. IsSomeAnd (slice_get (memories_in (part_of h.system)) file) (λ m. offset + len ≤ m.1 * page_size)) }
 
     ensures no_height { (result ≡ Err StoreError.NoHeight) ↔ (is_some (height_at store.now.heights height) ≡ false) }
@@ -113,7 +114,7 @@ fn read_memory<D: Disk>(
     file: u32,
     pages: u32,
 ) -> Result<Vec<u8>, StoreError>
-    requires over { IsTrue D.tells → IsOver store.now (D.view disk.old).state.files }
+    requires readable { IsTrue D.tells → IsReadable store.now.heights (D.view disk.old).state.files }
     requires there { IfSome (height_at store.now.heights height) (λ h. IsSomeAnd (slice_get (memories_in (part_of h.system)) file) (λ m. m.1 ≡ pages)) }
     requires at_most { pages ≤ MAX_MEMORY_PAGES }
 
@@ -122,7 +123,7 @@ fn read_memory<D: Disk>(
     ensures bytes { IsTrue D.tells → (h : StoredHeight) (stack : List NumberedFile) (layers : List Layer)
         → height_at store.now.heights height ≡ Some h → slice_get h.stacks file ≡ Some stack → AreLayers (D.view disk.old).state.files stack layers
         → IfOk result (λ bytes. bytes.items ≡ memory_from pages layers) }
-    ensures looks { IsTrue D.tells → (most : ℕ) × OnlyLooks most (D.view disk.old) (D.view disk.new) }
+    ensures looks { IsTrue D.tells → OnlyLooks (pages * page_size) (D.view disk.old) (D.view disk.new) }
     ensures cause { HasCause (D.faults disk.old) (D.faults disk.new) result }
     ensures no_bad_file { NoBadFile result }
     ensures last_height { result ≡ Err StoreError.LastHeight → ⊥ }
@@ -149,7 +150,7 @@ fn read_range<D: Disk>(
     offset: u64,
     len: u64,
 ) -> Result<Vec<u8>, StoreError>
-    requires over { IsTrue D.tells → IsOver store.now (D.view disk.old).state.files }
+    requires readable { IsTrue D.tells → IsReadable store.now.heights (D.view disk.old).state.files }
     requires within { IfSome (height_at store.now.heights height) (λ h. IsSomeAnd (slice_get (memories_in (part_of h.system)) file) (λ m. offset + len ≤ m.1 * page_size)) }
     requires at_most { offset + len ≤ MAX_MEMORY_PAGES * page_size }
 

@@ -1,19 +1,23 @@
 //! Publishing a state whose memories are written whole.
 
-ghost use Rattle.std.specs.Prelude.{◌≡◌, ◌≤◌, ◌<◌, ◌+◌, ◌^◌, ◌++◌, ◌∷◌, [], List, length, map, IsTrue, IfOk, OnOk};
+ghost use Rattle.std.specs.Prelude.{◌≡◌, ℕ, ◌≤◌, ◌<◌, ◌+◌, ◌^◌, ◌++◌, ◌∷◌, [], List, length, map, sum_by, IsTrue, IfOk, OnOk};
 ghost use Rattle.std.specs.List.{AllByRecursion, AllZip};
 ghost use Rattle.format_spec.specs.declared.limits.TheConstants.{MAX_PUBLISHED, MAX_HEIGHT};
 ghost use Rattle.state_spec.specs.State.{State};
 ghost use Rattle.state_spec.specs.Root.{root_of};
+ghost use Rattle.state_spec.specs.SystemText.{system_text};
 ghost use Rattle.store_spec.specs.Image.{Published};
+ghost use Rattle.store_spec.specs.Whole.{file_bytes, whole_length};
 ghost use Rattle.sys_state.specs.System.{part_of};
 ghost use Rattle.manifest.specs.Fits.{FitMemories};
 ghost use Rattle.disk_model.specs.State.{IsSettled};
 ghost use Rattle.disk_model.specs.View.{LeavesOnly};
 ghost use Rattle.disk_model.specs.Frame.{TouchesOnly};
+ghost use Rattle.disk_model.specs.Spending.{Spends};
 ghost use Rattle.height_store.specs.Errors.{HasCause, NoBadFile, NoBadHeight};
-ghost use Rattle.height_store.specs.Kept.{IsOver, KeepsHeights, StandsForEither};
-ghost use Rattle.height_store.specs.Store.{StoredHeight};
+ghost use Rattle.height_store.specs.Kept.{IsReadable, IsWritable, HasRoom, KeepsHeights, StandsForEither};
+ghost use Rattle.height_store.specs.declared.limits.TheConstants.{MAX_GIVEN};
+ghost use Rattle.height_store.specs.Store.{StoredHeight, GivesFew};
 ghost use Rattle.whole_state.specs.Whole.{HasParts, whole};
 ghost use Rattle.whole_state.specs.Written.{IsMemoryBytes, IsWholeStack, AreFinished, AreUsed, GivesNumbers, is_given_since};
 
@@ -46,12 +50,14 @@ pub fn checkpoint<D: Disk>(
     requires few { length store.old.heights < MAX_PUBLISHED }
     requires fit { FitMemories (part_of sys.now) (map (λ memory. memory.items) memories.now) }
     requires numbers { store.old.given ≤ 2 ^ 60 }
-    requires over { IsTrue D.tells → IsOver store.old (D.view disk.old).state.files }
+    requires readable { IsTrue D.tells → IsReadable store.old.heights (D.view disk.old).state.files }
+    requires writable { IsTrue D.tells → IsWritable store.old height (D.view disk.old).state.files }
 
     ensures root { (s : State) → HasParts s sys.now (map (λ memory. memory.items) memories.now) → IfOk result (λ root. root ≡ root_of s) }
     ensures gains { OnOk result ((h : StoredHeight) × (h.mark.height ≡ height) × (store.new.heights ≡ store.old.heights ++ h ∷ [])) }
-    ensures given { (store.old.given ≤ store.new.given) × (store.new.given ≤ store.old.given + 2048) }
-    ensures over { IsTrue D.tells → OnOk result (IsOver store.new (D.view disk.new).state.files) }
+    ensures given { GivesFew store.old store.new }
+    ensures readable { IsTrue D.tells → OnOk result (IsReadable store.new.heights (D.view disk.new).state.files) }
+    ensures writable { IsTrue D.tells → OnOk result ((h : ℕ) → IsWritable store.old h (D.view disk.old).state.files → IsWritable store.new h (D.view disk.new).state.files) }
     ensures stands { IsTrue D.tells → (ps : List Published) (s : State)
         → HasParts s sys.now (map (λ memory. memory.items) memories.now)
         → IsSettled (D.view disk.old).state → KeepsHeights store.old.heights (D.view disk.old).state ps
@@ -60,6 +66,8 @@ pub fn checkpoint<D: Disk>(
         → HasParts s sys.now (map (λ memory. memory.items) memories.now)
         → IsSettled (D.view disk.old).state → KeepsHeights store.old.heights (D.view disk.old).state ps
         → LeavesOnly (D.view disk.old) (D.view disk.new) (StandsForEither ps (ps ++ whole height s ∷ [])) }
+    ensures spends { IsTrue D.tells
+        → OnOk result (Spends (whole_length (length (system_text (part_of sys.now))) (map (λ memory. memory.items) memories.now)) 0 (D.view disk.old) (D.view disk.new)) }
     ensures settled { IsTrue D.tells → OnOk result (IsSettled (D.view disk.old).state → IsSettled (D.view disk.new).state) }
     ensures cause { HasCause (D.faults disk.old) (D.faults disk.new) result }
     ensures no_bad_file { NoBadFile result }
@@ -81,14 +89,15 @@ fn write_memories<D: Disk>(
     memories: &[Vec<u8>],
 ) -> Result<Vec<Stack>, StoreError>
     requires memories { AllByRecursion IsMemoryBytes (map (λ memory. memory.items) memories.now) }
-    requires few { length memories.now ≤ 2048 }
+    requires few { length memories.now ≤ MAX_GIVEN }
     requires numbers { store.old.given ≤ 2 ^ 60 }
-    requires over { IsTrue D.tells → IsOver store.old (D.view disk.old).state.files }
+    requires room { IsTrue D.tells → HasRoom store.old (D.view disk.old).state.files }
 
     ensures store { GivesNumbers (length memories.now) store.old store.new }
     ensures whole { IfOk result (λ stacks. AllZip IsWholeStack (map (λ memory. memory.items) memories.now) stacks.items) }
     ensures finished { IsTrue D.tells → IfOk result (λ stacks. AllZip (AreFinished (D.view disk.new).state) (map (λ memory. memory.items) memories.now) stacks.items) }
-    ensures over { IsTrue D.tells → OnOk result (IsOver store.new (D.view disk.new).state.files) }
+    ensures room { IsTrue D.tells → OnOk result (HasRoom store.new (D.view disk.new).state.files) }
+    ensures spends { IsTrue D.tells → OnOk result (Spends (sum_by file_bytes (map (λ memory. memory.items) memories.now)) 0 (D.view disk.old) (D.view disk.new)) }
     ensures touches { IsTrue D.tells → TouchesOnly (is_given_since store.old store.new) (D.view disk.old) (D.view disk.new) }
     ensures settled { IsTrue D.tells → OnOk result (IsSettled (D.view disk.old).state → IsSettled (D.view disk.new).state) }
     ensures cause { HasCause (D.faults disk.old) (D.faults disk.new) result }
@@ -111,12 +120,13 @@ fn write_memory<D: Disk>(
 ) -> Result<Stack, StoreError>
     requires memory { IsMemoryBytes memory.now }
     requires numbers { store.old.given < 2 ^ 61 }
-    requires over { IsTrue D.tells → IsOver store.old (D.view disk.old).state.files }
+    requires room { IsTrue D.tells → HasRoom store.old (D.view disk.old).state.files }
 
     ensures store { GivesNumbers 1 store.old store.new }
     ensures whole { IfOk result (λ stack. IsWholeStack memory.now stack) }
     ensures used { IfOk result (λ stack. AreUsed store.new stack) }
     ensures finished { IsTrue D.tells → IfOk result (λ stack. AreFinished (D.view disk.new).state memory.now stack) }
+    ensures spends { IsTrue D.tells → OnOk result (Spends (file_bytes memory.now) 0 (D.view disk.old) (D.view disk.new)) }
     ensures touches { IsTrue D.tells → TouchesOnly (is_given_since store.old store.new) (D.view disk.old) (D.view disk.new) }
     ensures settled { IsTrue D.tells → OnOk result (IsSettled (D.view disk.old).state → IsSettled (D.view disk.new).state) }
     ensures cause { HasCause (D.faults disk.old) (D.faults disk.new) result }

@@ -1,4 +1,4 @@
-use Rattle.std.specs.Prelude.{◌≡◌, ◌+◌, ◌≤◌, ℕ, nat_eq, length}
+use Rattle.std.specs.Prelude.{◌≡◌, ◌≤◌, ℕ, nat_eq, length}
 use Rattle.std.proofs.lemmas.List.{length-map}
 use Rattle.format_spec.specs.declared.limits.TheConstants.{MAX_PUBLISHED}
 use Rattle.std.specs.List.{list_any, AllByRecursion}
@@ -16,23 +16,23 @@ use Rattle.height_store.proofs.opening.read_store.Goals as goal
 
 pub returns-in_err-files-clause-only_looks : goal.returns-in_err-files-clause-only_looks
 returns-in_err-files-clause-only_looks g c = λ told.
-    let first = c.read_marks.ensures.only_looks told in let second = c.open_pages.ensures.only_looks told in
-    (first.0 + second.0, looks_then first.0 second.0 _ _ _ first.1 second.1)
+    let second = c.open_pages.ensures.only_looks told in
+    (_, looks_then _ second.0 _ _ _ (c.read_marks.ensures.reads told) second.1)
 
 pub returns-in_err-named-clause-only_looks : goal.returns-in_err-named-clause-only_looks
 returns-in_err-named-clause-only_looks g c = λ told.
-    let first = c.read_marks.ensures.only_looks told in let second = c.open_pages.ensures.only_looks told in
-    (first.0 + second.0, looks_then first.0 second.0 _ _ _ first.1 second.1)
+    let second = c.open_pages.ensures.only_looks told in
+    (_, looks_then _ second.0 _ _ _ (c.read_marks.ensures.reads told) second.1)
 
 pub returns-in_err-heights-clause-only_looks : goal.returns-in_err-heights-clause-only_looks
 returns-in_err-heights-clause-only_looks g c = λ told.
-    let first = c.read_marks.ensures.only_looks told in let second = c.open_pages.ensures.only_looks told in
-    (first.0 + second.0, looks_then first.0 second.0 _ _ _ first.1 second.1)
+    let second = c.open_pages.ensures.only_looks told in
+    (_, looks_then _ second.0 _ _ _ (c.read_marks.ensures.reads told) second.1)
 
 pub returns-clause-only_looks : goal.returns-clause-only_looks
 returns-clause-only_looks g c = λ told.
-    let first = c.read_marks.ensures.only_looks told in let second = c.open_pages.ensures.only_looks told in
-    (first.0 + second.0, looks_then first.0 second.0 _ _ _ first.1 second.1)
+    let second = c.open_pages.ensures.only_looks told in
+    (_, looks_then _ second.0 _ _ _ (c.read_marks.ensures.reads told) second.1)
 
 pub heights_of-requires-clause-named : goal.heights_of-requires-clause-named
 heights_of-requires-clause-named g c = among_by _ _ _ _ c.deref-3.ensures.value c.deref.ensures.value c.in_ok-files.ensures.named

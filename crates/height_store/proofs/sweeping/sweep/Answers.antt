@@ -20,7 +20,7 @@ loop-number-preserved g c =
             gone = one_gone c.args.kind number c.args.keep.now (g.D.Disk.view c.sweep_one.new.disk) (c.in_ok-sweep_one.ensures.gone told);
             touches = c.sweep_one.ensures.touches told;
             settled = c.in_ok-sweep_one.ensures.settled told;
-            appended = c.in_ok-sweep_one.ensures.appended told;
+            appended = c.sweep_one.ensures.appended told;
             read = c.sweep_one.ensures.read told;
           });
     }

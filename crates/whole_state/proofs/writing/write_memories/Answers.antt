@@ -14,8 +14,8 @@ write_memory-requires-clause-memory g c =
 pub write_memory-requires-clause-numbers : goal.write_memory-requires-clause-numbers
 write_memory-requires-clause-numbers g c = omega (arith, c.loop-memory.invariant.gives.given_most, c.requires.numbers, c.requires.few, c.loop-memory-test.true)
 
-pub write_memory-requires-clause-over : goal.write_memory-requires-clause-over
-write_memory-requires-clause-over g c = λ told. (c.loop-memory.invariant.written told).over
+pub write_memory-requires-clause-room : goal.write_memory-requires-clause-room
+write_memory-requires-clause-room g c = λ told. (c.loop-memory.invariant.written told).room
 
 pub returns-in_err-write_memory-clause-store : goal.returns-in_err-write_memory-clause-store
 returns-in_err-write_memory-clause-store g c =
@@ -47,5 +47,5 @@ loop-memory-preserved g c =
       written = λ told.
           written_more c.args.store.now c.write_memory.new.store taken _ c.deref.result.now c.loop-memory.stacks.items c.push.new.self.items stack _ _ step pushed
           (writes_more i c.args.store.now c.loop-memory.store c.write_memory.new.store taken c.deref.result.now c.loop-memory.stacks.items stack _ _ _ before.gives c.write_memory.ensures.store before.used (c.write_memory.ensures.touches told)
-          (c.in_ok-write_memory.ensures.finished told) (c.in_ok-write_memory.ensures.settled told) (before.written told));
+          (c.in_ok-write_memory.ensures.finished told) (c.in_ok-write_memory.ensures.settled told) (c.in_ok-write_memory.ensures.spends told) (before.written told));
     }

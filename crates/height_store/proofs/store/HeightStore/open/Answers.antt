@@ -1,7 +1,11 @@
 use Rattle.std.proofs.Common.{ap, subst, ◌∙◌}
+use Rattle.std.proofs.lemmas.Result.{err_from_is_err_and}
+use Rattle.height_store.specs.declared.error.StoreError.TheVariants.{BadMark}
+use Rattle.height_store.specs.declared.store.HeightStore.{HeightStore}
+use Rattle.height_store.proofs.MarksRead.{handed_on}
 use Rattle.store_spec.specs.Image.{Opens}
 use Rattle.disk_model.specs.State.{DiskState}
-use Rattle.height_store.proofs.Since.{settle_leaves, looks_leave_before, as_before, touches_named, gone_named, opened_over, opened_pages, opened_stands, opened_images}
+use Rattle.height_store.proofs.Since.{bad_mark_read, settle_leaves, looks_leave_before, as_before, touches_named, gone_named, opened_over, opened_pages, opened_stands, opened_images}
 use Rattle.height_store.proofs.store.HeightStore.open.Goals as goal
 
 pub returns-in_err-settle-clause-images : goal.returns-in_err-settle-clause-images
@@ -63,3 +67,9 @@ pub returns-clause-opens : goal.returns-clause-opens
 returns-clause-opens g c = λ told.
     let same = ap (λ (s : DiskState). s.files) ((c.list_all.ensures.looks told).state ∙ (c.in_ok-settle.ensures.does told).state) in
     subst Opens same (c.in_ok-store.ensures.opens told)
+
+pub returns-in_err-store-clause-bad_mark_reads : goal.returns-in_err-store-clause-bad_mark_reads
+returns-in_err-store-clause-bad_mark_reads g c = λ told heights listed height is.
+    let p = err_from_is_err_and c.from_residual-in_err-store.result c.from_residual-in_err-store.ensures.1 in
+    let err = handed_on HeightStore c.from_residual-in_err-store.result p.0 c.in_err-store.field-0.0 (BadMark height) p.1 p.2 is in
+    bad_mark_read _ _ _ _ c.in_ok-lists.lists.marks.items _ heights (c.in_ok-settle.ensures.does told) (c.list_all.ensures.looks told) (c.in_ok-lists.ensures.marks told) c.deref.ensures.value listed (c.in_err-store.ensures.bad_mark_reads told height err)

@@ -8,7 +8,7 @@ index-requires g c = omega (arith, has_stack c.args.self.now.heights c.args.heig
 pub read-requires : goal.read-requires
 read-requires g c = λ told.
     let is = ap Some c.found.view_is ∙ c.in-Some.ensures in
-    stack_kept _ c.args.self.now.heights c.args.height c.args.file _ _ is (c.requires.over told).stacks
+    stack_kept _ c.args.self.now.heights c.args.height c.args.file _ _ is (c.requires.readable told).stacks
     (has_stack c.args.self.now.heights c.args.height c.args.file c.args.page _ is c.found.invariant c.requires.within) c.index.ensures
 
 pub returns-in_ok-_found-in-Some-clause-page : goal.returns-in_ok-_found-in-Some-clause-page

@@ -5,10 +5,10 @@ use Rattle.disk_model.specs.View.{LeavesOnly}
 use Rattle.disk_model.specs.Frame.{TouchesOnly}
 use Rattle.page_file.specs.Files.{IsKept}
 use Rattle.mark_file.proofs.Wholes.{mark_fits}
-use Rattle.height_store.specs.Kept.{IsOver, KeepsHeights}
+use Rattle.height_store.specs.Kept.{IsReadable, IsWritable, KeepsHeights}
 use Rattle.height_store.specs.Store.{Store, StoredHeight, IsStore}
 use Rattle.height_store.specs.Written.{is_of, HasWritten, IsBeforeOrAfter}
-use Rattle.height_store.proofs.Gaining.{may_publish, over_push, store_push, keeps_push, images_push, nothing_called, no_mark_above, at_mark, AreBelow, below_mark, gained}
+use Rattle.height_store.proofs.Gaining.{may_publish, readable_push, writable_push, store_push, keeps_push, images_push, nothing_called, no_mark_above, at_mark, AreBelow, below_mark, gained}
 use Rattle.height_store.proofs.store.HeightStore.publish.Goals as goal
 
 pub encode-requires : goal.encode-requires
@@ -25,7 +25,7 @@ returns-in_err-reserve-clause-images g c = λ told ps s p settled keeps made pag
 
 pub write_mark-requires-clause-no_mark : goal.write_mark-requires-clause-no_mark
 write_mark-requires-clause-no_mark g c = λ told.
-    no_mark_above _ c.args.self.now.heights c.mark.inside.height (subst (λ (m : Mark). AreBelow m.height c.args.self.now.heights) (sym c.mark.view_is) c.requires.above) (c.requires.over told).listed
+    no_mark_above _ c.args.self.now.heights c.mark.inside.height (subst (λ (m : Mark). AreBelow m.height c.args.self.now.heights) (sym c.mark.view_is) c.requires.above) (c.requires.readable told).listed
 
 pub returns-in_err-write_mark-clause-images : goal.returns-in_err-write_mark-clause-images
 returns-in_err-write_mark-clause-images g c = λ told ps s p settled keeps made pages.
@@ -61,8 +61,8 @@ returns-clause-stands g c = λ told ps s p settled keeps made pages.
     let pushed : c.push.new.self.items ≡ c.args.self.now.heights ++ h ∷ [] = c.in_ok-push.ensures.items ∙ ap (λ (l : List StoredHeight). l ++ h ∷ []) (c.reserve.ensures.items ∙ ap (λ (s : Store). s.heights) c.self.view_is) in
     subst (λ (hs : List StoredHeight). KeepsHeights hs v1.state (ps ++ p ∷ [])) (sym pushed) (keeps_push c.args.self.now.heights ps v0 v1 h p may written touches settled)
 
-pub returns-clause-over : goal.returns-clause-over
-returns-clause-over g c = λ told.
+pub returns-clause-readable : goal.returns-clause-readable
+returns-clause-readable g c = λ told.
     let v0 = g.D.Disk.view c.args.disk.now in
     let v1 = g.D.Disk.view c.write_mark.new.disk in
     let h = c.in_ok-published.published in
@@ -71,9 +71,22 @@ returns-clause-over g c = λ told.
     let touches = at_mark (λ n text. TouchesOnly (is_of n) v0 v1) c.mark.inside.height c.bytes.result.now c.args.mark h
     (ap (λ (m : Mark). m.height) c.mark.view_is) (c.bytes.ensures ∙ c.in_ok-text.ensures) c.in_ok-published.ensures.mark (c.write_mark.ensures.touches told) in
     let pushed = c.in_ok-push.ensures.items ∙ ap (λ (l : List StoredHeight). l ++ h ∷ []) c.reserve.ensures.items in
-    subst (λ (store : Store). IsOver store v1.state.files) (sym (gained _ c.args.self.now c.push.new.self.items h c.self.view_is pushed))
-    (over_push c.args.self.now v0 v1 h (c.requires.over told) (below_mark c.args.self.now.heights c.args.mark h c.in_ok-published.ensures.mark c.requires.above)
-    (subst (AllByRecursion (AllByRecursion (IsKept v0.state.files))) (sym c.in_ok-published.ensures.stacks) (c.requires.kept told)) written touches)
+    subst (λ (store : Store). IsReadable store.heights v1.state.files) (sym (gained _ c.args.self.now c.push.new.self.items h c.self.view_is pushed))
+    (readable_push c.args.self.now v0 v1 h written touches (c.requires.readable told) (below_mark c.args.self.now.heights c.args.mark h c.in_ok-published.ensures.mark c.requires.above)
+    (subst (AllByRecursion (AllByRecursion (IsKept v0.state.files))) (sym c.in_ok-published.ensures.stacks) (c.requires.kept told)))
+
+pub returns-clause-writable : goal.returns-clause-writable
+returns-clause-writable g c = λ told n writable.
+    let v0 = g.D.Disk.view c.args.disk.now in
+    let v1 = g.D.Disk.view c.write_mark.new.disk in
+    let h = c.in_ok-published.published in
+    let written = at_mark (λ n text. HasWritten n text v0 v1) c.mark.inside.height c.bytes.result.now c.args.mark h
+    (ap (λ (m : Mark). m.height) c.mark.view_is) (c.bytes.ensures ∙ c.in_ok-text.ensures) c.in_ok-published.ensures.mark (c.in_ok-write_mark.ensures.written told) in
+    let touches = at_mark (λ n text. TouchesOnly (is_of n) v0 v1) c.mark.inside.height c.bytes.result.now c.args.mark h
+    (ap (λ (m : Mark). m.height) c.mark.view_is) (c.bytes.ensures ∙ c.in_ok-text.ensures) c.in_ok-published.ensures.mark (c.write_mark.ensures.touches told) in
+    let pushed = c.in_ok-push.ensures.items ∙ ap (λ (l : List StoredHeight). l ++ h ∷ []) c.reserve.ensures.items in
+    subst (λ (store : Store). IsWritable store n v1.state.files) (sym (gained _ c.args.self.now c.push.new.self.items h c.self.view_is pushed))
+    (writable_push c.args.self.now v0 v1 h written touches n writable)
 
 pub invariant_of-self-2 : goal.invariant_of-self-2
 invariant_of-self-2 g c =

@@ -5,9 +5,10 @@ use Rattle.disk_model.specs.declared.name.Name.TheVariants as name
 use Rattle.disk_model.specs.Files.{same_name}
 use Rattle.disk_model.specs.Call.{remove}
 use Rattle.disk_model.specs.Frame.{touches_call, done_settles}
-use Rattle.height_store.specs.Kept.{IsOver, KeepsHeights, without_published}
+use Rattle.store_spec.specs.Image.{without_published}
+use Rattle.height_store.specs.Kept.{IsReadable, IsWritable, KeepsHeights}
 use Rattle.height_store.specs.Store.{Store, IsStore}
-use Rattle.height_store.proofs.Losing.{removed_images, nothing_removed, keeps_without, over_without, store_without, newest_test, absent_not_newest, found_listed, disk_never, lost}
+use Rattle.height_store.proofs.Losing.{removed_images, nothing_removed, keeps_without, readable_without, writable_without, store_without, newest_test, absent_not_newest, found_listed, disk_never, lost}
 use Rattle.height_store.proofs.store.HeightStore.purge.Goals as goal
 
 pub returns-in-None-clause-last_height : goal.returns-in-None-clause-last_height
@@ -63,11 +64,17 @@ pub invariant_of-self : goal.invariant_of-self
 invariant_of-self g c = subst IsStore (sym (lost _ c.args.self.now c.drop_height.new.heights.items c.args.height c.self.view_is c.drop_height.ensures))
     (store_without c.args.self.now c.args.height (subst IsStore c.self.view_is c.self.invariant))
 
-pub returns-clause-over : goal.returns-clause-over
-returns-clause-over g c = λ told.
+pub returns-clause-readable : goal.returns-clause-readable
+returns-clause-readable g c = λ told.
     let v1 = g.D.Disk.view c.remove.new.self in
-    subst (λ (store : Store). IsOver store v1.state.files) (sym (lost _ c.args.self.now c.drop_height.new.heights.items c.args.height c.self.view_is c.drop_height.ensures))
-    (over_without _ v1 c.args.height (c.in_ok-remove.ensures.does told) c.args.self.now (c.requires told))
+    subst (λ (store : Store). IsReadable store.heights v1.state.files) (sym (lost _ c.args.self.now c.drop_height.new.heights.items c.args.height c.self.view_is c.drop_height.ensures))
+    (readable_without _ v1 c.args.height (c.in_ok-remove.ensures.does told) c.args.self.now.heights (c.requires told))
+
+pub returns-clause-writable : goal.returns-clause-writable
+returns-clause-writable g c = λ told n writable.
+    let v1 = g.D.Disk.view c.remove.new.self in
+    subst (λ (store : Store). IsWritable store n v1.state.files) (sym (lost _ c.args.self.now c.drop_height.new.heights.items c.args.height c.self.view_is c.drop_height.ensures))
+    (writable_without _ v1 c.args.height (c.in_ok-remove.ensures.does told) c.args.self.now n writable)
 
 pub returns-clause-stands : goal.returns-clause-stands
 returns-clause-stands g c = λ told ps settled keeps.

@@ -1,4 +1,5 @@
 use Rattle.std.proofs.Common.{◌≡◌, map, ap, sym, subst, refl}
+use Rattle.height_store.specs.Laws.{over_after}
 use Rattle.machine_spec.specs.Machine.{Machine}
 use Rattle.whole_state.specs.Whole.{HasParts}
 use Rattle.state_manager.specs.StateKept.{HeldState, KeepsState, Publishes}
@@ -20,7 +21,7 @@ returns-clause-publishes g c =
       stands = λ told ps m k settled heights.
           on_ok_both _ _ c.checkpoint.result (on_ok_given _ _ c.checkpoint.result (c.checkpoint.ensures.settled told) settled) (c.checkpoint.ensures.stands told ps m.live (parts m k) settled heights);
       images = λ told ps m k settled heights. c.checkpoint.ensures.images told ps m.live (parts m k) settled heights;
-      over = c.checkpoint.ensures.over;
-      given_least = c.checkpoint.ensures.given.0;
-      given_most = c.checkpoint.ensures.given.1;
+      over = λ told. over_after c.checkpoint.result c.args.store.now c.checkpoint.new.store _ _ (c.requires.over told) (c.checkpoint.ensures.readable told) (c.checkpoint.ensures.writable told);
+      given_least = c.checkpoint.ensures.given.least;
+      given_most = c.checkpoint.ensures.given.most;
     })

@@ -1,6 +1,7 @@
 use Rattle.std.proofs.Common.{◌∙◌, ap, sym, subst, refl, arith}
 use Rattle.std.specs.Prelude.{IsTrue}
 use Rattle.height_store.specs.Kept.{IsOver}
+use Rattle.height_store.specs.Laws.{over_after}
 use Rattle.script_text.specs.declared.command.Command.TheVariants as commands
 use Rattle.state_manager.specs.Kept.{Held, DoesLine}
 use Rattle.state_manager.proofs.Purging.{Purges, RepliesTo, purge_line}
@@ -22,7 +23,7 @@ returns-clause-line g c =
       refused = λ h. let same = c.purge.ensures.refused h in (same.0, ap g.D.Disk.view same.1);
       given_least = omega (arith, c.purge.ensures.given);
       given_most = omega (arith, c.purge.ensures.given);
-      over = c.purge.ensures.over;
+      over = λ told. over_after c.purge.result c.self.inside.store c.purge.new.self _ _ (over told) (c.purge.ensures.readable told) (c.purge.ensures.writable told);
       stands = c.purge.ensures.stands;
       images = c.purge.ensures.images;
       settled = c.purge.ensures.settled;

@@ -1,0 +1,100 @@
+-- How many bytes are appended and read.
+use Rattle.std.proofs.Common.{◌≡◌, ◌⊎◌, ℕ, ◌+◌, ◌*◌, ◌/◌, ◌<◌, ◌≤◌, ◌==◌, if◌then◌else◌, true, false, List, [], ◌∷◌, length, map, sum_by, take, get_or, Option, Some, None, inl, inr, refl, sym, ap, subst, ◌∙◌, arith}
+use Rattle.std.specs.List.{AllByRecursion, AllZip}
+use Rattle.std.specs.Option.{option_map, option_map_or}
+use Rattle.std.proofs.lemmas.Bool.{cases_Bool, eqb-true, eq-eqb, ne_eqb, false≢true}
+use Rattle.std.proofs.lemmas.List.{length-map}
+use Rattle.std.proofs.lemmas.List.Sums.{sum_by-cons, sum_by_more, sum_by-take-le}
+use Rattle.format_spec.specs.Bytes.{Bytes, part_count}
+use Rattle.format_spec.specs.declared.limits.TheConstants.{PAGE_SIZE, CHUNK_SIZE}
+use Rattle.format_spec.proofs.Cuts.{heads}
+use Rattle.state_spec.specs.State.{SystemPart}
+use Rattle.state_spec.specs.Files.{memories_in}
+use Rattle.state_spec.specs.SystemText.{system_text}
+use Rattle.state_spec.specs.Manifest.{chunk_hashes}
+use Rattle.store_spec.specs.Mark.{Mark, MarkMemory, IsMark, mark_text, mark_length, memory_counts}
+use Rattle.store_spec.proofs.MarkLengths.{mark_long}
+use Rattle.sys_state.specs.System.{System, part_of}
+use Rattle.disk_model.specs.View.{DiskView}
+use Rattle.disk_model.specs.Looking.{OnlyLooks, looks_then, looks_more}
+use Rattle.page_file.specs.Files.{NumberedFile}
+use Rattle.height_store.specs.Store.{StoredHeight, height_at, numbers_of}
+use Rattle.store_spec.specs.Whole.{file_bytes, whole_counts, whole_length}
+use Rattle.whole_state.specs.Whole.{bytes_at, pages_holding}
+use Rattle.whole_state.specs.Written.{IsMemoryBytes, IsWholeStack, whole_stack, pages_in}
+use Rattle.whole_state.proofs.Marked.{length-chunk_hashes}
+
+-- ---- a mark of memories that are written whole
+
+one_memory : (m : MarkMemory) (bytes : Bytes) (stack : List NumberedFile) → m.layers ≡ numbers_of stack → m.sums ≡ chunk_hashes bytes → IsMemoryBytes bytes → IsWholeStack bytes stack → memory_counts m ≡ whole_counts bytes
+one_memory m bytes stack layers sums good whole = λ i. (layer i, (ap length sums ∙ length-chunk_hashes bytes) i)
+  where
+    named : length m.layers ≡ length (numbers_of (whole_stack whole.number (pages_in bytes)))
+    named = ap length (layers ∙ ap numbers_of whole.whole)
+
+    layer : length m.layers ≡ (if length bytes == 0 then 0 else 1)
+    layer = elim (cases_Bool (length bytes == 0)) [
+      | inl empty ↦
+          let pages : (pages_in bytes == 0) ≡ true = eq-eqb (pages_in bytes) 0 (omega (arith, eqb-true (length bytes) 0 empty)) in
+          let none : length (numbers_of (whole_stack whole.number (pages_in bytes))) ≡ 0 = rw pages refl in
+          rw empty (named ∙ none)
+      | inr some ↦
+          let more : length bytes ≡ 0 → ⊥ = λ is. false≢true (sym some ∙ eq-eqb (length bytes) 0 is) in
+          let pages : (pages_in bytes == 0) ≡ false = ne_eqb (pages_in bytes) 0 (λ is. more (omega (arith, is, good.whole))) in
+          let one : length (numbers_of (whole_stack whole.number (pages_in bytes))) ≡ 1 = rw pages refl in
+          rw some (named ∙ one)
+    ]
+
+all_memories : (ms : List MarkMemory) (memories : List Bytes) (stacks : List (List NumberedFile)) → map (λ m. m.layers) ms ≡ map numbers_of stacks → map (λ m. m.sums) ms ≡ map chunk_hashes memories
+    → AllByRecursion IsMemoryBytes memories → AllZip IsWholeStack memories stacks → map memory_counts ms ≡ map whole_counts memories
+all_memories [] [] stacks layers sums good whole = refl
+all_memories [] (b ∷ memories) stacks layers sums good whole = absurd cc
+all_memories (m ∷ ms) [] stacks layers sums good whole = absurd cc
+all_memories (m ∷ ms) (b ∷ memories) [] layers sums good whole = absurd whole
+all_memories (m ∷ ms) (b ∷ memories) (s ∷ stacks) layers sums good whole =
+    let l = heads m.layers (numbers_of s) (map (λ (x : MarkMemory). x.layers) ms) (map numbers_of stacks) layers in
+    let h = heads m.sums (chunk_hashes b) (map (λ (x : MarkMemory). x.sums) ms) (map chunk_hashes memories) sums in
+    λ i. one_memory m b s l.0 h.0 good.0 whole.0 i ∷ all_memories ms memories stacks l.1 h.1 good.1 whole.1 i
+
+-- What the page files of whole memories and the mark over them have in all.
+pub whole_spent : (m : Mark) (s : SystemPart) (memories : List Bytes) (stacks : List (List NumberedFile)) → IsMark m s → map (λ x. x.layers) m.memories ≡ map numbers_of stacks → map (λ x. x.sums) m.memories ≡ map chunk_hashes memories
+    → AllByRecursion IsMemoryBytes memories → AllZip IsWholeStack memories stacks → sum_by file_bytes memories + length (mark_text m) ≡ whole_length (length (system_text s)) memories
+whole_spent m s memories stacks good layers sums fit whole =
+    let text : length m.system ≡ length (system_text s) = ap (λ (t : Bytes). length t) good.system_spelled in
+    let chunks : length m.system_sums ≡ part_count CHUNK_SIZE (length (system_text s)) = ap length good.system_sums ∙ length-chunk_hashes m.system ∙ ap (part_count CHUNK_SIZE) text in
+    let counts = all_memories m.memories memories stacks layers sums fit whole in
+    ap (λ (n : ℕ). sum_by file_bytes memories + n) (mark_long m s good ∙ (λ i. mark_length (text i) (counts i) (chunks i)))
+
+-- ---- reading
+
+-- all pages hold a byte of a whole memory
+pub all_held : (most pages len : ℕ) → most ≡ pages → len ≡ most * PAGE_SIZE → PAGE_SIZE * pages_holding 0 len ≡ pages * PAGE_SIZE
+all_held most pages len is long = elim (cases_Bool (len == 0)) [
+  | inl none ↦ rw none (omega (arith, eqb-true len 0 none, is, long))
+  | inr some ↦ rw some (omega (arith, is, long))
+]
+
+abbrev sizes : ℕ → ℕ
+sizes count = count * PAGE_SIZE
+
+-- one memory more
+pub reads_next : (pages : List ℕ) (i count : ℕ) (old mid new : DiskView) → i < length pages → count ≡ get_or pages i count → OnlyLooks (sum_by sizes (take i pages)) old mid → OnlyLooks (count * PAGE_SIZE) mid new
+    → OnlyLooks (sum_by sizes (take (i + 1) pages)) old new
+reads_next pages i count old mid new lt here first second =
+    let e : sum_by sizes (take i pages) + count * PAGE_SIZE ≡ sum_by sizes (take (i + 1) pages) = ap (λ (n : ℕ). sum_by sizes (take i pages) + n * PAGE_SIZE) here ∙ sym (sum_by_more sizes pages i count lt) in
+    subst (λ (n : ℕ). OnlyLooks n old new) e (looks_then (sum_by sizes (take i pages)) (count * PAGE_SIZE) old mid new first second)
+
+all_sizes : (ms : List (Bytes × ℕ)) → sum_by sizes (map (λ m. m.1) ms) ≡ sum_by (λ (m : Bytes × ℕ). m.1 * PAGE_SIZE) ms
+all_sizes [] = refl
+all_sizes (m ∷ ms) = omega (arith, all_sizes ms, sum_by-cons sizes m.1 (map (λ (x : Bytes × ℕ). x.1) ms), sum_by-cons (λ (x : Bytes × ℕ). x.1 * PAGE_SIZE) m ms)
+
+bytes_of : (o : Option StoredHeight) (system : System) → Some system ≡ option_map (λ h. h.system) o → option_map_or (λ h. sum_by (λ (m : Bytes × ℕ). m.1 * PAGE_SIZE) (memories_in (part_of h.system))) o 0 ≡ sum_by (λ (m : Bytes × ℕ). m.1 * PAGE_SIZE) (memories_in (part_of system))
+bytes_of None system is = absurd cc
+bytes_of (Some h) system is = let same : system ≡ h.system = cc is in ap (λ (x : System). sum_by (λ (m : Bytes × ℕ). m.1 * PAGE_SIZE) (memories_in (part_of x))) (sym same)
+
+-- the first memories have no more bytes than all
+pub reads_within : (hs : List StoredHeight) (height : ℕ) (system : System) (pages : List ℕ) → Some system ≡ option_map (λ h. h.system) (height_at hs height) → pages ≡ map (λ m. m.1) (memories_in (part_of system)) → (i : ℕ) (old new : DiskView)
+    → OnlyLooks (sum_by sizes (take i pages)) old new → OnlyLooks (bytes_at hs height) old new
+reads_within hs height system pages is are i old new looks =
+    let all : sum_by sizes pages ≡ bytes_at hs height = ap (sum_by sizes) are ∙ all_sizes (memories_in (part_of system)) ∙ sym (bytes_of (height_at hs height) system is) in
+    looks_more _ (bytes_at hs height) old new (omega (arith, sum_by-take-le sizes pages i, all)) looks
