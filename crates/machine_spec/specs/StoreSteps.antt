@@ -10,7 +10,7 @@ use Rattle.store_spec.specs.Image.{Published}
 use Rattle.script_text.specs.declared.command.HeightOrLive.{HeightOrLive}
 use Rattle.script_text.specs.declared.reply.Reply.TheVariants as replies
 use Rattle.script_text.specs.declared.reply.Refusal.TheVariants.{NoHeight, HeightLow, ManyMarks, LastHeight}
-use Rattle.machine_spec.specs.Machine.{Machine, Outcome, answered, unless, unless_none, on_state, start, newest, published_at}
+use Rattle.machine_spec.specs.Machine.{Machine, Outcome, answered, unless, unless_none, on_state, resumed_at, newest, published_at}
 
 -- there is a newest published height, and this one isn't above it
 abbrev pub is_low : ℕ → List Published → Bool
@@ -58,7 +58,7 @@ reset_step m h =
     (not (is_some (published_at h m.published)), NoHeight)
     ∷ (not (is_newest h m.published), HeightLow)
     ∷ []
-    ) m (λ m. answered replies.Fine (start m.published))
+    ) m (λ m. answered replies.Fine (resumed_at (newest m.published) m))
 
 -- `scratch HL`
 abbrev pub scratch_step : Machine → HeightOrLive → Outcome

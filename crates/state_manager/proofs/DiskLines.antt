@@ -29,7 +29,7 @@ use Rattle.script_text.specs.declared.command.HeightOrLive.{HeightOrLive}
 use Rattle.script_text.specs.declared.reply.Reply.{Reply}
 use Rattle.script_text.specs.declared.reply.Reply.TheVariants as replies
 use Rattle.script_text.specs.declared.reply.Refusal.TheVariants as refusals
-use Rattle.machine_spec.specs.Machine.{Machine, Outcome, answered, newest, published_at, start, start_at}
+use Rattle.machine_spec.specs.Machine.{Machine, Outcome, answered, anew, newest, published_at, resumed_at, start}
 use Rattle.machine_spec.specs.Step.{step}
 use Rattle.state_manager.specs.Kept.{Held, DoesLine, Keeps, KeepsEach, KeepsStates, Performs, PerformsOn, published_height, standing}
 use Rattle.state_manager.specs.StateKept.{HeldState, KeepsState, Publishes}
@@ -276,14 +276,18 @@ reset_none m height none = rw none refl
 pub reset_low : (m : Machine) (height : ℕ) (s : State) → published_at height m.published ≡ Some s → option_map_or (λ p. p.height == height) (newest m.published) false ≡ false → step m (commands.Reset height) ≡ answered (replies.Refused refusals.HeightLow) m
 reset_low m height s there low = rw (there, low) refl
 
+begun_again : (m : Machine) (height : ℕ) (o : Option Published) → option_map_or (λ p. p.height == height) o false ≡ true → resumed_at o m ≡ resumed_at o (anew m.published)
+begun_again m height None e = absurd (false≢true e)
+begun_again m height (Some p) e = refl
+
 pub resets : (m : Machine) (height : ℕ) (s : State) → published_at height m.published ≡ Some s → option_map_or (λ p. p.height == height) (newest m.published) false ≡ true → step m (commands.Reset height) ≡ answered replies.Fine (start m.published)
-resets m height s there last = rw (there, last) refl
+resets m height s there last = rw (there, last) (ap (answered replies.Fine) (begun_again m height (newest m.published) last))
 
 -- a store that opens has no state in memory
 pub none_in_memory : (ps : List Published) → ((start ps).memory ≡ []) × ((start ps).published ≡ ps)
 none_in_memory ps = go (newest ps)
   where
-    go : (o : Option Published) → ((start_at o ps).memory ≡ []) × ((start_at o ps).published ≡ ps)
+    go : (o : Option Published) → ((resumed_at o (anew ps)).memory ≡ []) × ((resumed_at o (anew ps)).published ≡ ps)
     go None = (refl, refl)
     go (Some p) = (refl, refl)
 
