@@ -9,8 +9,7 @@ use Rattle.std.specs.Ordering.{eq_by_cmp}
 use Rattle.std.specs.declared.cmp.Ordering.{Ordering}
 use Rattle.std.specs.declared.cmp.Ordering.TheVariants.{Less, Equal, Greater}
 use Rattle.format_spec.specs.Bytes.{Bytes, bytes_cmp, same_bytes}
-use Rattle.state_spec.specs.State.{Canister, Memory}
-use Rattle.sys_state.specs.Calls.{without}
+use Rattle.state_spec.specs.State.{Canister, Memory, without}
 use Rattle.sys_state.specs.declared.mem.Mem.{Mem}
 use Rattle.sys_state.specs.declared.mem.Mem.TheVariants.{Heap, Stable}
 use Rattle.machine_spec.specs.States.{NamedMemory, canister_memories, memory_of, with_memory}

@@ -9,16 +9,16 @@ use Rattle.std.proofs.lemmas.List.Quantifiers.{position-Some}
 use Rattle.std.proofs.lemmas.Bool.{and_parts, and_from}
 use Rattle.format_spec.specs.Bytes.{Bytes, bytes_cmp}
 use Rattle.format_spec.specs.declared.limits.TheConstants.{PAGE_SIZE}
-use Rattle.state_spec.specs.State.{SystemPart, CanisterPart, IsMemory, canisters_from, state_from}
+use Rattle.state_spec.specs.State.{SystemPart, CanisterPart, canisters_from, state_from}
 use Rattle.state_spec.specs.Files.{heap_name, stable_name}
 use Rattle.state_spec.specs.Memory.{page_at}
 use Rattle.disk_model.specs.Files.{Files}
 use Rattle.store_spec.specs.Image.{Published, Layer, IsLayerOf, AreLayersOf, GivesHeight, OpensAt, GivesTrueHeight, StandsFor, heights_of, or_else, page_from, memory_from, memories_from}
 use Rattle.store_spec.specs.Mark.{MarkMemory, FitsMemory}
-use Rattle.machine_spec.specs.Sound.{Ascend, AreHeights, MayBegin}
+use Rattle.machine_spec.specs.Sound.{Ascend, AreHeights, IsPaged, MayBegin}
 use Rattle.machine_spec.proofs.Lists.{weaker, joined}
 use Rattle.machine_spec.proofs.Canisters.{memories_in}
-use Rattle.machine_spec.proofs.Opened.{opened_whole, begins_alike}
+use Rattle.machine_spec.proofs.Opened.{no_rounds, opened_whole, begins_alike}
 
 -- ---- numbers that ascend by places
 
@@ -73,10 +73,10 @@ seconds R P h (x ∷ xs) [] all = absurd all
 seconds R P h (x ∷ xs) (y ∷ ys) all = (h x y all.0, seconds R P h xs ys all.1)
 
 -- a memory as its files give it
-one_memory : (files : Files) (numbers : List ℕ) (n : ℕ) (ls : List Layer) → AllZip (IsLayerOf files n) numbers ls → IsMemory (record { bytes = memory_from n ls; rounds = [] })
+one_memory : (files : Files) (numbers : List ℕ) (n : ℕ) (ls : List Layer) → AllZip (IsLayerOf files n) numbers ls → IsPaged (record { bytes = memory_from n ls; rounds = [] })
 one_memory files numbers n ls there =
     let long : length (memory_from n ls) ≡ n * PAGE_SIZE = memory_length n ls (seconds (IsLayerOf files n) IsGood (λ _ l h. h.good.whole) numbers ls there) in
-    record { whole_pages = omega (arith, long); rounds_ascend = refl; rounds_within = tt }
+    (record { whole_pages = omega (arith, long) }, no_rounds (memory_from n ls))
 
 -- ---- all memories
 
@@ -92,7 +92,7 @@ bytes_of cs ls = map (λ e. memory_from e.0.1 e.1) (zip (parts_of cs) ls)
 record Built (h : ℕ) (cs : Parts) (ls : List (List Layer)) : Type 0 where
   below : (k : Bytes) → below_all bytes_cmp k cs ≡ true → below_all bytes_cmp k (canisters_from h cs (bytes_of cs ls)) ≡ true
   sorted : is_sorted bytes_cmp cs ≡ true → is_sorted bytes_cmp (canisters_from h cs (bytes_of cs ls)) ≡ true
-  good : AllByRecursion (λ n. IsMemory n.memory) (memories_in (canisters_from h cs (bytes_of cs ls)))
+  good : AllByRecursion (λ n. IsPaged n.memory) (memories_in (canisters_from h cs (bytes_of cs ls)))
 
 built : (files : Files) (h : ℕ) (cs : Parts) (ms : List MarkMemory) (ls : List (List Layer)) → AllZip FitsMemory ms (parts_of cs) → AllZip (AreLayersOf files) (zip ms (parts_of cs)) ls → Built h cs ls
 built files h [] [] [] fits there = record { below = λ k e. refl; sorted = λ e. refl; good = tt }

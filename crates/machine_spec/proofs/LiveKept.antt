@@ -4,20 +4,17 @@ use Rattle.std.specs.List.{AllByRecursion}
 use Rattle.std.specs.FinMap.{find, put}
 use Rattle.format_spec.specs.Bytes.{Bytes, path_cmp}
 use Rattle.format_spec.specs.declared.limits.TheConstants.{PAGE_SIZE, MAX_CANISTERS, MAX_ENTRIES}
-use Rattle.state_spec.specs.State.{State, Canister, Memory, IsMemory, pages_of, memory_limit, state_limit, is_reserved}
-use Rattle.state_spec.specs.Memory.{read, grow, write, no_memory}
-use Rattle.state_spec.proofs.Memories.{grow_good, grow_rounds, write_good}
-use Rattle.sys_state.specs.Calls.{has_conflict, without}
+use Rattle.state_spec.specs.State.{State, Canister, Memory, pages_of, memory_limit, state_limit, is_reserved, has_conflict, without}
+use Rattle.state_spec.specs.Memory.{grow, write, no_memory}
+use Rattle.state_spec.proofs.Memories.{grow_good, grow_keeps_rounds, grow_rounds, write_good, write_keeps_rounds}
 use Rattle.sys_state.specs.declared.mem.Mem.{Mem}
-use Rattle.script_text.specs.declared.command.HeightOrLive.{HeightOrLive}
 use Rattle.script_text.specs.declared.reply.Refusal.{Refusal}
-use Rattle.script_text.specs.declared.reply.Refusal.TheVariants.{Exists, ManyCanisters, NoCanister, MemoryFull, StateFull, NoHeight}
-use Rattle.script_text.specs.declared.reply.Refusal.TheVariants.{Reserved, PathConflict, TreeFull, NoPath, PastEnd}
-use Rattle.script_text.specs.declared.reply.Reply.TheVariants as replies
-use Rattle.machine_spec.specs.Machine.{Machine, Outcome, answered, now_live, refused_if, unless, unless_none, state_at}
+use Rattle.script_text.specs.declared.reply.Refusal.TheVariants.{Exists, ManyCanisters, NoCanister, MemoryFull, StateFull}
+use Rattle.script_text.specs.declared.reply.Refusal.TheVariants.{Reserved, PathConflict, TreeFull, NoPath}
+use Rattle.machine_spec.specs.Machine.{Machine, Outcome, now_live, refused_if, unless, unless_none}
 use Rattle.machine_spec.specs.States.{NamedMemory, canister_memories, memories_of, canister_in, with_canister, without_canister, newborn, memory_of, with_memory, pages_with, state_pages}
-use Rattle.machine_spec.specs.LiveSteps.{canister_step, drop_step, grow_step, write_step, module_step, certify_step, time_step, put_step, del_step, read_step}
-use Rattle.machine_spec.specs.Sound.{IsSound, IsWholeState, IsWithin, IsBornBy}
+use Rattle.machine_spec.specs.LiveSteps.{canister_step, drop_step, grow_step, write_step, module_step, certify_step, time_step, put_step, del_step}
+use Rattle.machine_spec.specs.Sound.{IsSound, IsPaged, IsWholeState, IsWithin, IsBornBy}
 use Rattle.machine_spec.proofs.Lists.{joined, parts}
 use Rattle.machine_spec.proofs.Canisters.{of_found, with_one, without_one, with_other, sorted_with, sorted_without}
 use Rattle.machine_spec.proofs.WrittenRounds.{write_each_round}
@@ -87,14 +84,6 @@ del_kept m path s =
     ∷ []
     ) m (λ m. now_live m (record m.live { entries = without path_cmp path m.live.entries })) s (λ _. entries_kept m (without path_cmp path m.live.entries) s)
 
-pub read_kept : (m : Machine) (at : HeightOrLive) (id : Bytes) (mem : Mem) (from n : ℕ) → IsSound m → IsSound (read_step m at id mem from n).after
-read_kept m at id mem from n s =
-    if_some IsSound (state_at m at) NoHeight m (λ t. unless_none (canister_in t id) NoCanister m (λ c.
-    unless ((nat_lt (length (memory_of c mem).bytes) (from + n), PastEnd) ∷ []) m (λ m. answered (replies.Bytes (read (memory_of c mem) from n)) m))) s
-    (λ t _. if_some IsSound (canister_in t id) NoCanister m (λ c.
-    unless ((nat_lt (length (memory_of c mem).bytes) (from + n), PastEnd) ∷ []) m (λ m. answered (replies.Bytes (read (memory_of c mem) from n)) m)) s
-    (λ c _. if_not_refused IsSound ((nat_lt (length (memory_of c mem).bytes) (from + n), PastEnd) ∷ []) m (λ m. answered (replies.Bytes (read (memory_of c mem) from n)) m) s (λ _. s)))
-
 -- ---- a canister
 
 -- a canister of the same memories
@@ -106,7 +95,7 @@ same_memories m id c d found s same =
     with_memories m (with_canister m.live id d) s (record {
       version = s.live.version;
       sorted = sorted_with id d m.live.canisters s.live.sorted;
-      memories = all (λ n. IsMemory n.memory) s.live.memories;
+      memories = all (λ n. IsPaged n.memory) s.live.memories;
     }) all
 
 pub module_kept : (m : Machine) (id : Bytes) (wasm : Option Bytes) → IsSound m → IsSound (module_step m id wasm).after
@@ -121,12 +110,12 @@ drop_kept m id s = if_some IsSound (canister_in m.live id) NoCanister m (λ c. n
     with_memories m (without_canister m.live id) s (record {
       version = s.live.version;
       sorted = sorted_without id m.live.canisters s.live.sorted;
-      memories = all (λ n. IsMemory n.memory) s.live.memories;
+      memories = all (λ n. IsPaged n.memory) s.live.memories;
     }) all)
 
 -- a new canister has no page
-no_memory_good : IsMemory no_memory
-no_memory_good = record { whole_pages = refl; rounds_ascend = refl; rounds_within = tt }
+no_memory_good : IsPaged no_memory
+no_memory_good = (record { whole_pages = refl }, record { rounds_ascend = refl; rounds_within = tt })
 
 pub canister_kept : (m : Machine) (id : Bytes) → IsSound m → IsSound (canister_step m id).after
 canister_kept m id s =
@@ -136,13 +125,13 @@ canister_kept m id s =
     with_live m (with_canister m.live id c) s (record {
       version = s.live.version;
       sorted = sorted_with id c cs s.live.sorted;
-      memories = with_one (λ n. IsMemory n.memory) id c cs s.live.memories (no_memory_good, (no_memory_good, tt));
+      memories = with_one (λ n. IsPaged n.memory) id c cs s.live.memories (no_memory_good, (no_memory_good, tt));
     }) (with_one (IsBornBy m.height) id c cs (live_within m s) (record { birth = omega arith; rounds = tt }, (record { birth = omega arith; rounds = tt }, tt))))
 
 -- ---- one memory changes in the round of the live height
 
 changed_kept : (m : Machine) (id : Bytes) (mem : Mem) (c : Canister) (new : Memory) → canister_in m.live id ≡ Some c → IsSound m
-    → (IsMemory (memory_of c mem) → IsMemory new)
+    → (IsPaged (memory_of c mem) → IsPaged new)
     → (AllByRecursion (λ r. r.1 ≤ m.height) (memory_of c mem).rounds → AllByRecursion (λ r. r.1 ≤ m.height) new.rounds)
     → IsSound (record m { live = with_canister m.live id (with_memory c mem new) })
 changed_kept m id mem c new found s good low =
@@ -154,7 +143,7 @@ changed_kept m id mem c new found s good low =
     with_live m (with_canister m.live id d) s (record {
       version = s.live.version;
       sorted = sorted_with id d cs s.live.sorted;
-      memories = one (λ n. IsMemory n.memory) s.live.memories good;
+      memories = one (λ n. IsPaged n.memory) s.live.memories good;
     }) (one (IsBornBy m.height) (live_within m s) (λ born. record { birth = born.birth; rounds = low born.rounds }))
 
 pub grow_kept : (m : Machine) (id : Bytes) (mem : Mem) (n : ℕ) → IsSound m → IsSound (grow_step m id mem n).after
@@ -169,7 +158,7 @@ grow_kept m id mem n s =
     ∷ (nat_lt (state_limit m.live.version) (state_pages m.live + n), StateFull)
     ∷ []
     ) m (λ m. now_live m (with_canister m.live id (with_memory c mem (grow (memory_of c mem) n)))) s (λ _.
-    changed_kept m id mem c (grow (memory_of c mem) n) found s (grow_good (memory_of c mem) n)
+    changed_kept m id mem c (grow (memory_of c mem) n) found s (λ h. (grow_good (memory_of c mem) n h.0, grow_keeps_rounds (memory_of c mem) n h.1))
     (λ all. subst (AllByRecursion (λ r. r.1 ≤ m.height)) (sym (grow_rounds (memory_of c mem) n)) all)))
 
 pub write_kept : (m : Machine) (id : Bytes) (mem : Mem) (at : ℕ) (bytes : Bytes) → IsSound m → IsSound (write_step m id mem at bytes).after
@@ -184,5 +173,5 @@ write_kept m id mem at bytes s =
     ∷ (nat_lt (state_limit m.live.version) (state_pages m.live + (pages_with (memory_of c mem) at (length bytes) - pages_of (memory_of c mem))), StateFull)
     ∷ []
     ) m (λ m. now_live m (with_canister m.live id (with_memory c mem (write m.height (memory_of c mem) at bytes)))) s (λ _.
-    changed_kept m id mem c (write m.height (memory_of c mem) at bytes) found s (write_good m.height (memory_of c mem) at bytes)
+    changed_kept m id mem c (write m.height (memory_of c mem) at bytes) found s (λ h. (write_good m.height (memory_of c mem) at bytes h.0, write_keeps_rounds m.height (memory_of c mem) at bytes h.1))
     (write_each_round (λ r. r.1 ≤ m.height) m.height (memory_of c mem) at bytes (λ p. omega arith))))

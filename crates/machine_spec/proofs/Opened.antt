@@ -4,10 +4,10 @@ use Rattle.std.specs.List.{AllByRecursion, flat_map}
 use Rattle.std.specs.FinMap.{is_sorted}
 use Rattle.std.specs.FinMap.Entries.{below_all}
 use Rattle.format_spec.specs.Bytes.{Bytes, bytes_cmp}
-use Rattle.state_spec.specs.State.{State, Canister, CanisterPart, IsMemory, part_of, canister_from, canisters_from, state_from, system_of, memory_bytes, without_history, canister_without_history}
+use Rattle.state_spec.specs.State.{State, Canister, CanisterPart, HasPageRounds, part_of, canister_from, canisters_from, state_from, system_of, memory_bytes, without_history, canister_without_history}
 use Rattle.store_spec.specs.Image.{Published, SamePublished}
 use Rattle.machine_spec.specs.Machine.{opened}
-use Rattle.machine_spec.specs.Sound.{IsWholeState, IsWithin, IsBornBy, MayBegin}
+use Rattle.machine_spec.specs.Sound.{IsPaged, IsWholeState, IsWithin, IsBornBy, MayBegin}
 use Rattle.machine_spec.proofs.Canisters.{Canisters, memories_in}
 
 born_from : (h k : ℕ) → h ≤ k → (cs : List (Bytes × CanisterPart)) (ms : List Bytes) → AllByRecursion (IsBornBy k) (memories_in (canisters_from h cs ms))
@@ -44,16 +44,19 @@ fresh_sorted h [] = refl
 fresh_sorted h (c ∷ cs) =
     ap (λ (b : Bool). b && is_sorted bytes_cmp (map (fresh h) cs)) (fresh_below h c.0 cs) ∙ ap (λ (b : Bool). below_all bytes_cmp c.0 cs && b) (fresh_sorted h cs)
 
-fresh_good : (h : ℕ) (cs : Canisters) → AllByRecursion (λ n. IsMemory n.memory) (memories_in cs) → AllByRecursion (λ n. IsMemory n.memory) (memories_in (map (fresh h) cs))
+pub no_rounds : (bytes : Bytes) → HasPageRounds (record { bytes = bytes; rounds = [] })
+no_rounds bytes = record { rounds_ascend = refl; rounds_within = tt }
+
+fresh_good : (h : ℕ) (cs : Canisters) → AllByRecursion (λ n. IsPaged n.memory) (memories_in cs) → AllByRecursion (λ n. IsPaged n.memory) (memories_in (map (fresh h) cs))
 fresh_good h [] all = tt
 fresh_good h (c ∷ cs) all =
-    (record { whole_pages = all.0.whole_pages; rounds_ascend = refl; rounds_within = tt }, (record { whole_pages = all.1.0.whole_pages; rounds_ascend = refl; rounds_within = tt }, fresh_good h cs all.1.1))
+    ((record { whole_pages = all.0.0.whole_pages }, no_rounds c.1.heap.bytes), ((record { whole_pages = all.1.0.0.whole_pages }, no_rounds c.1.stable.bytes), fresh_good h cs all.1.1))
 
 pub opened_whole : (p : Published) → IsWholeState p.state → IsWholeState (opened p)
 opened_whole p w = record {
   version = opened_version p ∙ w.version;
   sorted = ap (is_sorted bytes_cmp) (opened_canisters p) ∙ fresh_sorted p.height p.state.canisters ∙ w.sorted;
-  memories = subst (λ (cs : Canisters). AllByRecursion (λ n. IsMemory n.memory) (memories_in cs)) (sym (opened_canisters p)) (fresh_good p.height p.state.canisters w.memories);
+  memories = subst (λ (cs : Canisters). AllByRecursion (λ n. IsPaged n.memory) (memories_in cs)) (sym (opened_canisters p)) (fresh_good p.height p.state.canisters w.memories);
 }
 
 -- ---- heights that differ in births and rounds alone open alike

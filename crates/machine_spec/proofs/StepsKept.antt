@@ -10,10 +10,11 @@ use Rattle.script_text.specs.declared.command.Command.TheVariants.{Checkpoint, S
 use Rattle.script_text.specs.declared.reply.Reply.TheVariants as replies
 use Rattle.machine_spec.specs.Machine.{Machine}
 use Rattle.machine_spec.specs.HeightSteps.{tree_root, counts_of}
+use Rattle.machine_spec.specs.LiveSteps.{read_reply}
 use Rattle.machine_spec.specs.WitnessSteps.{witness_text}
 use Rattle.machine_spec.specs.Answers.{Turn, after_command, after_turn, after_turns}
 use Rattle.machine_spec.specs.Sound.{IsSound, StepKeeps}
-use Rattle.machine_spec.proofs.LiveKept.{canister_kept, drop_kept, grow_kept, write_kept, module_kept, certify_kept, time_kept, put_kept, del_kept, read_kept}
+use Rattle.machine_spec.proofs.LiveKept.{canister_kept, drop_kept, grow_kept, write_kept, module_kept, certify_kept, time_kept, put_kept, del_kept}
 use Rattle.machine_spec.proofs.HeightKept.{asked_kept, round_kept, forget_kept, checkpoint_kept, purge_kept, reset_kept}
 
 pub step_keeps : (m : Machine) (command : Command) → StepKeeps m command
@@ -26,7 +27,7 @@ step_keeps m (Certify id bytes) s = certify_kept m id bytes s
 step_keeps m (Time time) s = time_kept m time s
 step_keeps m (Put path value) s = put_kept m path value s
 step_keeps m (Del path) s = del_kept m path s
-step_keeps m (Read at id mem offset len) s = read_kept m at id mem offset len s
+step_keeps m (Read at id mem offset len) s = asked_kept m at (λ t. read_reply t id mem offset len) s
 step_keeps m Heights s = s
 step_keeps m (Root at) s = asked_kept m at (λ t. replies.Root (root_of t)) s
 step_keeps m (Manifest at) s = asked_kept m at counts_of s

@@ -4,18 +4,22 @@ use Rattle.std.specs.FinMap.{is_sorted}
 use Rattle.std.specs.List.{AllByRecursion}
 use Rattle.format_spec.specs.Bytes.{bytes_cmp}
 use Rattle.format_spec.specs.declared.limits.TheConstants.{MAX_HEIGHTS, MAX_PUBLISHED}
-use Rattle.state_spec.specs.State.{State, IsMemory}
+use Rattle.state_spec.specs.State.{State, Memory, IsMemory, HasPageRounds}
 use Rattle.store_spec.specs.Image.{Published, heights_of}
 use Rattle.script_text.specs.declared.command.Command.{Command}
 use Rattle.machine_spec.specs.Machine.{Machine, start, opened}
 use Rattle.machine_spec.specs.States.{NamedMemory, memories_of}
 use Rattle.machine_spec.specs.Step.{step}
 
--- a state of version 1 in order, each of its memories of whole pages, with rounds of its pages
+-- whole pages, and rounds of pages that are there
+abbrev pub IsPaged : Memory → Type 0
+IsPaged m = IsMemory m × HasPageRounds m
+
+-- a state of version 1 in order of ids, with such memories
 pub record IsWholeState (s : State) : Type 0 where
   pub version : s.version ≡ 1
   pub sorted : IsTrue (is_sorted bytes_cmp s.canisters)
-  pub memories : AllByRecursion (λ n. IsMemory n.memory) (memories_of s)
+  pub memories : AllByRecursion (λ n. IsPaged n.memory) (memories_of s)
 
 -- a canister is born, and its pages are written, at this height or before
 pub record IsBornBy (height : ℕ) (n : NamedMemory) : Type 0 where
