@@ -1,12 +1,12 @@
 -- How many bytes a line appends to the disk, and how many it reads at most.
-use Rattle.std.specs.Prelude.{ℕ, ◌+◌, ◌-◌, ◌*◌, ◌/◌, ◌==◌, ◌||◌, if◌then◌else◌, nat_le, length, sum_by, is_some, Bool, false, Option, Some, None}
+use Rattle.std.specs.Prelude.{ℕ, ◌+◌, ◌-◌, ◌*◌, ◌/◌, ◌==◌, ◌||◌, if◌then◌else◌, nat_le, length, is_some, Bool, false, Option, Some, None}
 use Rattle.std.specs.List.{last_or}
 use Rattle.std.specs.Option.{option_map_or}
-use Rattle.format_spec.specs.Bytes.{Bytes, part_count}
-use Rattle.format_spec.specs.declared.limits.TheConstants.{PAGE_SIZE, CHUNK_SIZE, HASH_SIZE, MAX_PUBLISHED}
+use Rattle.format_spec.specs.declared.limits.TheConstants.{PAGE_SIZE, MAX_PUBLISHED}
 use Rattle.state_spec.specs.State.{State, system_of, memory_bytes}
 use Rattle.state_spec.specs.Memory.{pages_for}
 use Rattle.state_spec.specs.SystemText.{system_text}
+use Rattle.store_spec.specs.Whole.{whole_length}
 use Rattle.script_text.specs.declared.command.Command.{Command}
 use Rattle.script_text.specs.declared.command.Command.TheVariants.{Read, Checkpoint, Reset, Scratch}
 use Rattle.script_text.specs.declared.command.HeightOrLive.{HeightOrLive}
@@ -14,21 +14,9 @@ use Rattle.script_text.specs.declared.command.HeightOrLive.TheVariants.{Live, He
 use Rattle.machine_spec.specs.Machine.{Machine, published_at}
 use Rattle.machine_spec.specs.StoreSteps.{is_low, is_newest}
 
--- a page file of all pages of a memory: a header, one range, and the pages; none for no pages
-abbrev pub file_bytes : Bytes → ℕ
-file_bytes memory = if length memory == 0 then 0 else 32 + 12 + length memory
-
--- what a mark has for a memory that was written whole: its counts, the number of its page file, and a hash a chunk
-abbrev pub mark_part : Bytes → ℕ
-mark_part memory = 4 + (if length memory == 0 then 0 else 8) + HASH_SIZE * part_count CHUNK_SIZE (length memory)
-
--- the mark of a state whose memories were written whole, with its system text of so many bytes
-abbrev pub mark_bytes : ℕ → State → ℕ
-mark_bytes text s = 84 + text + sum_by mark_part (memory_bytes s) + HASH_SIZE * part_count CHUNK_SIZE text
-
--- a published height of which all is written: a page file a memory, and the mark
+-- a published height of which all is written: a page file a memory that isn't empty, and the mark
 unfoldable pub whole_bytes : State → ℕ
-whole_bytes s = sum_by file_bytes (memory_bytes s) + mark_bytes (length (system_text (system_of s))) s
+whole_bytes s = whole_length (length (system_text (system_of s))) (memory_bytes s)
 
 -- a checkpoint writes the newest height in memory, where it isn't refused
 abbrev pub checkpoint_bytes : Machine → ℕ
