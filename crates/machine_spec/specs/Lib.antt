@@ -1,9 +1,11 @@
 pub mod Answers
 pub mod Computing
+pub mod Costs
 pub mod HeightSteps
 pub mod LiveSteps
 pub mod Machine
 pub mod Script
+pub mod Sound
 pub mod States
 pub mod Step
 pub mod StoreSteps

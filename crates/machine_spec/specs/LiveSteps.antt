@@ -1,16 +1,17 @@
 -- The steps of lines on the live state. Refusals stand in the order in which they are looked at.
-use Rattle.std.specs.Prelude.{ℕ, ◌+◌, ◌-◌, ◌*◌, ◌&&◌, not, nat_le, nat_lt, List, [], ◌∷◌, length, is_some, Option}
+use Rattle.std.specs.Prelude.{ℕ, ◌+◌, ◌-◌, ◌*◌, ◌&&◌, not, nat_le, nat_lt, List, [], ◌∷◌, length, is_some, Option, Some, None, if◌then◌else◌}
 use Rattle.std.specs.FinMap.{find, put}
 use Rattle.format_spec.specs.Bytes.{Bytes, path_cmp}
 use Rattle.format_spec.specs.declared.limits.TheConstants.{PAGE_SIZE, MAX_CANISTERS, MAX_ENTRIES}
-use Rattle.state_spec.specs.State.{pages_of, memory_limit, state_limit, is_reserved, has_conflict, without}
+use Rattle.state_spec.specs.State.{State, Canister, Memory, pages_of, memory_limit, state_limit, is_reserved, has_conflict, without}
 use Rattle.state_spec.specs.Memory.{read, grow, write}
 use Rattle.sys_state.specs.declared.mem.Mem.{Mem}
 use Rattle.script_text.specs.declared.command.HeightOrLive.{HeightOrLive}
 use Rattle.script_text.specs.declared.reply.Refusal.TheVariants.{Exists, ManyCanisters, NoCanister, MemoryFull, StateFull}
 use Rattle.script_text.specs.declared.reply.Refusal.TheVariants.{Reserved, PathConflict, TreeFull, NoPath, PastEnd}
+use Rattle.script_text.specs.declared.reply.Reply.{Reply}
 use Rattle.script_text.specs.declared.reply.Reply.TheVariants as replies
-use Rattle.machine_spec.specs.Machine.{Machine, Outcome, answered, unless, unless_none, on_canister, on_state, now_live}
+use Rattle.machine_spec.specs.Machine.{Machine, Outcome, answered, unless, on_canister, on_state, now_live}
 use Rattle.machine_spec.specs.States.{canister_in, with_canister, without_canister, newborn, memory_of, with_memory}
 use Rattle.machine_spec.specs.States.{pages_with, state_pages}
 
@@ -77,10 +78,20 @@ del_step m path =
     ∷ []
     ) m (λ m. now_live m (record m.live { entries = without path_cmp path m.live.entries }))
 
+-- what is told of bytes of a memory
+abbrev pub bytes_told : Memory → ℕ → ℕ → Reply
+bytes_told memory from n =
+    if nat_lt (length memory.bytes) (from + n) then replies.Refused PastEnd else replies.Bytes (read memory from n)
+
+-- of those of a canister, if there is one
+abbrev pub canister_told : Option Canister → Mem → ℕ → ℕ → Reply
+canister_told None mem from n = replies.Refused NoCanister
+canister_told (Some c) mem from n = bytes_told (memory_of c mem) from n
+
+-- what `read` answers of a state
+abbrev pub read_reply : State → Bytes → Mem → ℕ → ℕ → Reply
+read_reply s id mem from n = canister_told (canister_in s id) mem from n
+
 -- `read HL ID MEM OFFSET LEN` answers bytes
 abbrev pub read_step : Machine → HeightOrLive → Bytes → Mem → ℕ → ℕ → Outcome
-read_step m at id mem from n = on_state m at (λ s. unless_none (canister_in s id) NoCanister m (λ c.
-    unless (
-    (nat_lt (length (memory_of c mem).bytes) (from + n), PastEnd)
-    ∷ []
-    ) m (λ m. answered (replies.Bytes (read (memory_of c mem) from n)) m)))
+read_step m at id mem from n = on_state m at (λ s. answered (read_reply s id mem from n) m)

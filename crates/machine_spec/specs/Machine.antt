@@ -28,14 +28,22 @@ newest ps = last_or None ps
 unfoldable pub opened : Published → State
 opened p = state_from p.state.version p.height (system_of p.state) (memory_bytes p.state)
 
--- the machine of a store with this newest height
-abbrev pub start_at : Option Published → List Published → Machine
-start_at None ps = record { live = empty_state; height = 1; memory = []; published = ps }
-start_at (Some p) ps = record { live = opened p; height = p.height + 1; memory = []; published = ps }
+-- the machine of a store with these heights, where nothing is there yet to go on from
+abbrev pub anew : List Published → Machine
+anew ps = record { live = empty_state; height = 1; memory = []; published = ps }
+
+-- the machine begun again at a published height: live is its state, one height above, and nothing is in memory
+abbrev pub resumed : Published → Machine → Machine
+resumed p m = record m { live = opened p; height = p.height + 1; memory = [] }
+
+-- begun again at this height, if there is one
+abbrev pub resumed_at : Option Published → Machine → Machine
+resumed_at None m = m
+resumed_at (Some p) m = resumed p m
 
 -- the machine of a store that opens at these heights: it goes on from the newest one, or from nothing
 abbrev pub start : List Published → Machine
-start ps = start_at (newest ps) ps
+start ps = resumed_at (newest ps) (anew ps)
 
 -- a reply, and the machine after it
 pub record Outcome : Type 0 where

@@ -1,5 +1,6 @@
 -- Plain states, as the steps of the machine change them.
-use Rattle.std.specs.Prelude.{ℕ, ◌+◌, ◌==◌, max, if◌then◌else◌, [], Option, None}
+use Rattle.std.specs.Prelude.{ℕ, ◌+◌, ◌==◌, max, if◌then◌else◌, List, [], ◌∷◌, Option, None}
+use Rattle.std.specs.List.{flat_map}
 use Rattle.std.specs.FinMap.{find, put}
 use Rattle.format_spec.specs.Bytes.{Bytes, bytes_cmp}
 use Rattle.state_spec.specs.State.{State, Canister, Memory, pages_of, system_of, all_pages, without}
@@ -38,3 +39,21 @@ pages_with m at n = if n == 0 then pages_of m else max (pages_of m) (pages_for (
 -- the pages of all memories
 abbrev pub state_pages : State → ℕ
 state_pages s = all_pages (system_of s).canisters
+
+-- ---- the memories of a state, in the order of files
+
+-- a memory by its canister and its kind, with the birth of the canister
+pub record NamedMemory : Type 0 where
+  pub id : Bytes
+  pub mem : Mem
+  pub birth : ℕ
+  pub memory : Memory
+
+abbrev pub canister_memories : Bytes × Canister → List NamedMemory
+canister_memories c =
+    record { id = c.0; mem = Heap; birth = c.1.birth; memory = c.1.heap }
+    ∷ record { id = c.0; mem = Stable; birth = c.1.birth; memory = c.1.stable }
+    ∷ []
+
+abbrev pub memories_of : State → List NamedMemory
+memories_of s = flat_map canister_memories s.canisters

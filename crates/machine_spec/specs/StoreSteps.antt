@@ -1,16 +1,16 @@
 -- The steps of lines on published heights.
 use Rattle.std.specs.Prelude.{ℕ, ◌/◌, ◌==◌, not, nat_le, Bool, false, if◌then◌else◌, List, [], ◌∷◌, ◌++◌, length, map}
-use Rattle.std.specs.Prelude.{filter, is_some, None}
+use Rattle.std.specs.Prelude.{is_some, None}
 use Rattle.std.specs.List.{last_or, range_with_len}
 use Rattle.std.specs.Option.{option_map_or}
 use Rattle.format_spec.specs.declared.limits.TheConstants.{PAGE_SIZE, MAX_PUBLISHED}
 use Rattle.state_spec.specs.State.{State, memory_bytes}
 use Rattle.state_spec.specs.Root.{root_of}
-use Rattle.store_spec.specs.Image.{Published}
+use Rattle.store_spec.specs.Image.{Published, without_published}
 use Rattle.script_text.specs.declared.command.HeightOrLive.{HeightOrLive}
 use Rattle.script_text.specs.declared.reply.Reply.TheVariants as replies
 use Rattle.script_text.specs.declared.reply.Refusal.TheVariants.{NoHeight, HeightLow, ManyMarks, LastHeight}
-use Rattle.machine_spec.specs.Machine.{Machine, Outcome, answered, unless, unless_none, on_state, start, newest, published_at}
+use Rattle.machine_spec.specs.Machine.{Machine, Outcome, answered, unless, unless_none, on_state, resumed_at, newest, published_at}
 
 -- there is a newest published height, and this one isn't above it
 abbrev pub is_low : ℕ → List Published → Bool
@@ -38,10 +38,6 @@ checkpoint_step m = unless_none (last_or None m.memory) NoHeight m (λ k.
     ) m (λ m. answered (replies.Published k.0 (root_of k.1))
     (record m { published = m.published ++ record { height = k.0; state = k.1; layers = whole_layers k.1 } ∷ [] })))
 
--- the published heights but for this one
-abbrev pub without_published : ℕ → List Published → List Published
-without_published h ps = filter (λ p. not (p.height == h)) ps
-
 -- `purge H` removes a published height that isn't the newest
 abbrev pub purge_step : Machine → ℕ → Outcome
 purge_step m h =
@@ -49,7 +45,7 @@ purge_step m h =
     (not (is_some (published_at h m.published)), NoHeight)
     ∷ (is_newest h m.published, LastHeight)
     ∷ []
-    ) m (λ m. answered replies.Fine (record m { published = without_published h m.published }))
+    ) m (λ m. answered replies.Fine (record m { published = without_published m.published h }))
 
 -- `reset H` begins again at the newest published height, and drops what is in memory
 abbrev pub reset_step : Machine → ℕ → Outcome
@@ -58,7 +54,7 @@ reset_step m h =
     (not (is_some (published_at h m.published)), NoHeight)
     ∷ (not (is_newest h m.published), HeightLow)
     ∷ []
-    ) m (λ m. answered replies.Fine (start m.published))
+    ) m (λ m. answered replies.Fine (resumed_at (newest m.published) m))
 
 -- `scratch HL`
 abbrev pub scratch_step : Machine → HeightOrLive → Outcome

@@ -5,15 +5,20 @@ ghost use Rattle.std.specs.List.{range_with_len};
 ghost use Rattle.state_spec.specs.Example.{one_byte};
 ghost use Rattle.state_spec.specs.Root.{root_of};
 ghost use Rattle.store_spec.specs.Example.{one_height};
+ghost use Rattle.sys_state.specs.declared.mem.Mem.TheVariants.{Heap};
+ghost use Rattle.script_text.specs.declared.command.Command.TheVariants as commands;
 ghost use Rattle.script_text.specs.declared.command.Command.TheVariants.{Checkpoint, Heights, Scratch};
-ghost use Rattle.script_text.specs.declared.command.HeightOrLive.TheVariants.{Height};
-ghost use Rattle.script_text.specs.declared.reply.Refusal.TheVariants.{HeightLow, ManyMarks};
+ghost use Rattle.script_text.specs.declared.command.HeightOrLive.TheVariants.{Height, Live};
+ghost use Rattle.script_text.specs.declared.reply.Refusal.TheVariants.{HeightLow, ManyMarks, NoHeight};
 ghost use Rattle.script_text.specs.declared.reply.Reply.TheVariants as replies;
 ghost use Rattle.machine_spec.specs.Answers.{answers, after_turns};
-ghost use Rattle.machine_spec.specs.Machine.{start, state_at};
+ghost use Rattle.machine_spec.specs.Costs.{appends, reads};
+ghost use Rattle.machine_spec.specs.HeightSteps.{counts_of, tree_root};
+ghost use Rattle.machine_spec.specs.Machine.{opened, start, state_at};
 ghost use Rattle.machine_spec.specs.Script.{turns_of, output_of, machine_after};
 ghost use Rattle.machine_spec.specs.States.{empty_state};
 ghost use Rattle.machine_spec.specs.Step.{step};
+ghost use Rattle.machine_spec.specs.WitnessSteps.{witness_text};
 
 /// Nothing is written for an empty script, for empty lines and for comments.
 #[tactic(auto, unfolding(crate::specs::Computing::scripts_compute))]
@@ -61,6 +66,36 @@ pub fn entries_by_path()
         ≡ codes "ok\nrefused PathConflict\nrefused PathConflict\nrefused Reserved\nrefused NoPath\nok\n" }
     ensures labels { output_of (codes "put /0x7375626e6574/x 05\ndel /subnet/x\nput subnet 05\nput / 05\nput /a//b 05\nput /0x 05\nput /a+b 05\nput /canister/x 05")
         ≡ codes "ok\nok\nrefused BadLine\nrefused BadLine\nrefused BadLine\nrefused BadLine\nrefused BadLine\nrefused Reserved\n" }
+{}
+
+/// A round keeps the live state at its height, where it stays as it was until it is forgotten.
+#[tactic(auto, unfolding(crate::specs::Computing::scripts_compute))]
+pub fn states_in_memory()
+    ensures round { (step (start []) commands.Round).reply ≡ replies.Round 1 (tree_root empty_state) }
+    ensures stays { answers (machine_after (codes "canister 00\nwrite 00 heap 0 01\nround\nwrite 00 heap 0 02")) (turns_of (codes "read 1 00 heap 0 1\nread live 00 heap 0 1"))
+        ≡ codes "data 01\ndata 02\n" }
+    ensures forgotten { answers (machine_after (codes "round\nround")) (turns_of (codes "forget 1\nheights\nforget 1\nread 1 00 heap 0 0"))
+        ≡ codes "ok\nheights live 3 memory 2 published -\nrefused NoHeight\nrefused NoHeight\n" }
+{}
+
+/// What a state hashes to, and what is told of it, is asked of the live state or of one at a height.
+#[tactic(auto, unfolding(crate::specs::Computing::scripts_compute))]
+pub fn questions()
+    ensures root { (step (start (one_height ∷ [])) (commands.Root Live)).reply ≡ replies.Root (root_of (opened one_height)) }
+    ensures manifest { (step (start (one_height ∷ [])) (commands.Manifest (Height 1))).reply ≡ counts_of one_byte }
+    ensures tree { (step (start (one_height ∷ [])) (commands.Tree (Height 1))).reply ≡ replies.Tree (tree_root one_byte) }
+    ensures witness { (step (start (one_height ∷ [])) (commands.Witness (Height 1) ((codes "time" ∷ []) ∷ []))).reply
+        ≡ replies.Witness (witness_text one_byte ((codes "time" ∷ []) ∷ [])) }
+    ensures nowhere { (step (start (one_height ∷ [])) (commands.Tree (Height 2))).reply ≡ replies.Refused NoHeight }
+{}
+
+/// A checkpoint of one canister with one page appends a page file of 4,140 bytes and a mark of 200.
+#[tactic(auto, unfolding(crate::specs::Computing::scripts_compute))]
+pub fn bytes_of_lines()
+    ensures appended { appends (machine_after (codes "canister 00\ngrow 00 heap 1\nround")) Checkpoint ≡ 4340 }
+    ensures refused { appends (machine_after (codes "round\ncheckpoint")) Checkpoint ≡ 0 }
+    ensures pages { reads (start (one_height ∷ [])) (commands.Read (Height 1) (0 ∷ []) Heap 4095 2) ≡ Some 8192 }
+    ensures none { reads (start (one_height ∷ [])) (commands.Read Live (0 ∷ []) Heap 4095 2) ≡ Some 0 }
 {}
 
 /// Lines on published heights where there are none.

@@ -1,10 +1,14 @@
 //! What every step keeps, and where a machine begins.
 
-ghost use Rattle.std.specs.Prelude.{◌≡◌, []};
+ghost use Rattle.std.specs.Prelude.{◌≡◌, List, []};
+ghost use Rattle.disk_model.specs.Files.{Files};
+ghost use Rattle.store_spec.specs.Image.{OpensAt, Published, SamePublished, StandsFor};
 ghost use Rattle.script_text.specs.declared.command.Command.{Command};
 ghost use Rattle.script_text.specs.declared.reply.Refusal.{Refusal};
-ghost use Rattle.machine_spec.specs.Machine.{Machine, start};
+ghost use Rattle.machine_spec.specs.Answers.{Turn, after_turns};
+ghost use Rattle.machine_spec.specs.Machine.{Machine, opened, start};
 ghost use Rattle.machine_spec.specs.Script.{RefusalKeeps};
+ghost use Rattle.machine_spec.specs.Sound.{AreHeights, IsSound, MayBegin, StartIsSound, StepKeeps};
 ghost use Rattle.machine_spec.specs.States.{empty_state};
 
 /// A command that is refused leaves the machine as it was.
@@ -15,4 +19,31 @@ pub fn refused_commands_keep()
 /// The machine of a store where nothing is published has an empty live state of height 1, and no other.
 pub fn an_empty_store_begins_anew()
     ensures { start [] ≡ record { live = empty_state; height = 1; memory = []; published = [] } }
+{}
+
+/// The machine of a store that opens at published heights is sound.
+pub fn start_is_sound()
+    ensures { (ps : List Published) → StartIsSound ps }
+{}
+
+/// Each step of a sound machine leaves one, whatever the command says.
+pub fn steps_keep_soundness()
+    ensures { (m : Machine) (command : Command) → StepKeeps m command }
+{}
+
+/// So do turns, lines without a reply and lines that are no command among them.
+pub fn turns_keep_soundness()
+    ensures { (m : Machine) (turns : List Turn) → IsSound m → IsSound (after_turns m turns) }
+{}
+
+/// Published heights that differ in births and rounds alone, as those that a disk gives, open alike.
+pub fn same_heights_open_alike()
+    ensures opened { (p q : Published) → SamePublished p q → opened p ≡ opened q }
+    ensures may { (p q : Published) → SamePublished p q → MayBegin p → MayBegin q }
+{}
+
+/// The heights that files open at, or stand for, are such that a machine may begin at them.
+pub fn heights_of_files_are_heights()
+    ensures opened { (files : Files) (ps : List Published) → OpensAt files ps → AreHeights ps }
+    ensures stands { (files : Files) (ps : List Published) → StandsFor files ps → AreHeights ps }
 {}

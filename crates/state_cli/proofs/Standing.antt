@@ -15,7 +15,7 @@ use Rattle.height_store.specs.Kept.{StandsForSome, StandsAsBefore, StandsForEith
 use Rattle.height_store.specs.Laws.{kept_stands}
 use Rattle.height_store.specs.Bad.{IsFirstBadMark, IsFirstBadPage}
 use Rattle.height_store.specs.Refused.{bad_mark_refused, bad_page_refused}
-use Rattle.machine_spec.specs.Machine.{Machine, newest, start_at, start}
+use Rattle.machine_spec.specs.Machine.{Machine, anew, newest, resumed_at, start}
 use Rattle.state_manager.specs.Kept.{Held, Keeps}
 use Rattle.state_manager.specs.declared.stop.OpenError.{OpenError}
 use Rattle.state_manager.specs.declared.stop.OpenError.TheVariants as opening
@@ -88,7 +88,7 @@ opens_well (opening.BadPage number) files ps stands marks pages bad = bad_page_r
 opens_well opening.Fault files ps stands marks pages bad = bad
 opens_well opening.Memory files ps stands marks pages bad = bad
 
-published_at : (last : Option Published) (ps : List Published) → (start_at last ps).published ≡ ps
+published_at : (last : Option Published) (ps : List Published) → (resumed_at last (anew ps)).published ≡ ps
 published_at None ps = refl
 published_at (Some p) ps = refl
 

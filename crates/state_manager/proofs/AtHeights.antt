@@ -18,9 +18,9 @@ use Rattle.sys_state.specs.System.{System, part_of, kept_of, record_of, part_of_
 use Rattle.height_store.specs.Store.{StoredHeight, height_at, heights_in}
 use Rattle.whole_state.specs.Whole.{KnowsHeight}
 use Rattle.machine_spec.specs.Machine.{opened, start, newest}
-use Rattle.state_manager.specs.Kept.{standing}
+use Rattle.machine_spec.specs.States.{empty_state}
 use Rattle.state_manager.specs.Sizes.{HaveSizes}
-use Rattle.state_manager.specs.StateKept.{HeldState, KeepsState}
+use Rattle.state_manager.specs.StateKept.{HeldState, KeepsState, live_of}
 use Rattle.state_manager.proofs.Hashed.{sizes_in}
 use Rattle.state_manager.proofs.Splits.{sorted_images}
 
@@ -44,7 +44,7 @@ pub opened_version : (p : Published) → p.state.version ≡ 1 → (opened p).ve
 unfolding opened state_from
 opened_version p one = one
 
-pub opened_kept : (h : StoredHeight) (p : Published) → KnowsHeight h p → KeepsState (record { system = h.system; memories = memory_bytes p.state; height = p.height }) (standing (p.height, opened p))
+pub opened_kept : (h : StoredHeight) (p : Published) → KnowsHeight h p → KeepsState (record { system = h.system; memories = memory_bytes p.state; height = p.height }) (p.height, opened p)
 opened_kept h p knows = record {
   version = opened_version p knows.version;
   sorted = ids_ascend (opened p) h.system knows.system knows.good.parts.mark.system_good.ids_ascend;
@@ -54,7 +54,7 @@ opened_kept h p knows = record {
 }
 
 pub loaded_kept : (h : StoredHeight) (p : Published) → KnowsHeight h p → (height : ℕ) → h.mark.height ≡ height → (held : HeldState) → held.system ≡ h.system → held.memories ≡ memory_bytes p.state → (height + 1 < 2 ^ 64 → held.height ≡ height + 1)
-    → KeepsState held (start (p ∷ []))
+    → KeepsState held (p.height + 1, opened p)
 loaded_kept h p knows height is held system memories next =
     let k = opened_kept h p knows in
     let few : height + 1 < 2 ^ 64 = omega (arith, knows.good.parts.mark.height_fits, is) in
@@ -164,8 +164,8 @@ last_there (h ∷ i ∷ hs) height e = elim (cases_Bool (h.mark.height == height
 ]
 
 -- the machine of a store goes on from the newest height
-pub begun : (held : HeldState) (p : Published) (ps : List Published) → KeepsState held (start (p ∷ [])) → newest ps ≡ Some p → KeepsState held (start ps)
+pub begun : (held : HeldState) (p : Published) (ps : List Published) → KeepsState held (p.height + 1, opened p) → newest ps ≡ Some p → KeepsState held (live_of (start ps))
 begun held p ps k last = rw last (record { version = k.version; sorted = k.sorted; system = k.system; memories = k.memories; height = k.height })
 
-pub begun_empty : (held : HeldState) (ps : List Published) → KeepsState held (start []) → ps ≡ [] → KeepsState held (start ps)
+pub begun_empty : (held : HeldState) (ps : List Published) → KeepsState held (1, empty_state) → ps ≡ [] → KeepsState held (live_of (start ps))
 begun_empty held ps k none = rw none k

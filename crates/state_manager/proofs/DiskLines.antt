@@ -29,10 +29,13 @@ use Rattle.script_text.specs.declared.command.HeightOrLive.{HeightOrLive}
 use Rattle.script_text.specs.declared.reply.Reply.{Reply}
 use Rattle.script_text.specs.declared.reply.Reply.TheVariants as replies
 use Rattle.script_text.specs.declared.reply.Refusal.TheVariants as refusals
-use Rattle.machine_spec.specs.Machine.{Machine, Outcome, answered, newest, published_at, start, start_at}
+use Rattle.machine_spec.specs.Machine.{Machine, Outcome, answered, anew, newest, published_at, resumed_at, start}
+use Rattle.machine_spec.specs.Sound.{IsSound as IsSoundMachine, AreHeights}
 use Rattle.machine_spec.specs.Step.{step}
-use Rattle.state_manager.specs.Kept.{Held, DoesLine, Keeps, KeepsEach, KeepsStates, Performs, PerformsOn, published_height, standing}
-use Rattle.state_manager.specs.StateKept.{HeldState, KeepsState, Publishes}
+use Rattle.machine_spec.proofs.StartKept.{start_is_sound}
+use Rattle.machine_spec.proofs.StepsKept.{step_keeps}
+use Rattle.state_manager.specs.Kept.{Held, DoesLine, Keeps, KeepsEach, KeepsStates, Performs, PerformsOn, published_height}
+use Rattle.state_manager.specs.StateKept.{HeldState, KeepsState, Publishes, live_of}
 use Rattle.state_manager.proofs.Standing.{FoundHeight, PublishedAt, find_height, knows_same, published_some, shows_same}
 
 on_ok_always : {T E : Type 0} (P : Type 0) (result : Result T E) → P → OnOk result P
@@ -78,7 +81,7 @@ pub failed_line : (tells : Bool) (held : Held) (before after : DiskView) (result
 failed_line tells held before after result command failed over looks = looks_line tells held before after result command over looks (λ told m k. if_failed _ result failed)
 
 -- a line that needs no disk
-module _ (tells : Bool) (old now : Held) (view : DiskView) (command : Command) (over : IsTrue tells → IsOver old.store view.state.files) (store : now.store ≡ old.store) (same : now.closed ≡ old.closed) where
+module _ (tells : Bool) (old now : Held) (view : DiskView) (command : Command) (over : IsTrue tells → IsOver old.store view.state.files) (store : now.store ≡ old.store) (same : now.stopped ≡ old.stopped) where
   pub apart_line : (result : Result Reply StoreError) → ((m : Machine) → KeepsStates old m → IfOk result (λ reply. Performs (Ok reply) now m command)) → DoesLine tells old now view view result command
   apart_line result performs = record {
     reply = λ told m k. answers result m k (performs m k.states);
@@ -93,6 +96,7 @@ module _ (tells : Bool) (old now : Held) (view : DiskView) (command : Command) (
       answers (Ok reply) m k h = (
         h.0,
         record {
+          sound = step_keeps m command k.sound;
           states = h.1;
           over = rw store k.over;
           settled = k.settled;
@@ -110,13 +114,13 @@ shown_some held s m sound k at height e = published_some (ShowsHeight s.files) (
 -- ---- `checkpoint`
 
 -- the last state in memory is the machine's
-pub last_kept : (helds : List HeldState) (ks : List (ℕ × State)) (a : HeldState) → KeepsEach helds ks → Some a ≡ slice_get helds (length helds - 1) → (k : ℕ × State) × (last_or None ks ≡ Some k) × KeepsState a (standing k)
+pub last_kept : (helds : List HeldState) (ks : List (ℕ × State)) (a : HeldState) → KeepsEach helds ks → Some a ≡ slice_get helds (length helds - 1) → (k : ℕ × State) × (last_or None ks ≡ Some k) × KeepsState a k
 last_kept helds ks a each e = from None helds ks each e
   where
-    from : (o : Option (ℕ × State)) (helds : List HeldState) (ks : List (ℕ × State)) → KeepsEach helds ks → Some a ≡ slice_get helds (length helds - 1) → (k : ℕ × State) × (last_or o ks ≡ Some k) × KeepsState a (standing k)
+    from : (o : Option (ℕ × State)) (helds : List HeldState) (ks : List (ℕ × State)) → KeepsEach helds ks → Some a ≡ slice_get helds (length helds - 1) → (k : ℕ × State) × (last_or o ks ≡ Some k) × KeepsState a k
     from o [] ks each e = absurd (cc e)
     from o (b ∷ helds) [] each e = absurd each
-    from o (b ∷ []) (k ∷ []) each e = let one : a ≡ b = cc e in (k, refl, subst (λ (x : HeldState). KeepsState x (standing k)) (sym one) each.0)
+    from o (b ∷ []) (k ∷ []) each e = let one : a ≡ b = cc e in (k, refl, subst (λ (x : HeldState). KeepsState x k) (sym one) each.0)
     from o (b ∷ []) (k ∷ l ∷ ks) each e = absurd each.1
     from o (b ∷ c ∷ helds) (k ∷ []) each e = absurd each.1
     from o (b ∷ c ∷ helds) (k ∷ l ∷ ks) each e =
@@ -156,7 +160,7 @@ as_many_heights (h ∷ hs) [] each = absurd each
 as_many_heights (h ∷ hs) (p ∷ ps) each = omega (arith, as_many_heights hs ps each.1)
 
 -- the same live state, beside other published heights
-pub live_beside : (a : HeldState) (m n : Machine) → n.live ≡ m.live → n.height ≡ m.height → KeepsState a m → KeepsState a n
+pub live_beside : (a : HeldState) (m n : Machine) → n.live ≡ m.live → n.height ≡ m.height → KeepsState a (live_of m) → KeepsState a (live_of n)
 live_beside a m n live height k = record {
   version = rw live k.version;
   sorted = rw live k.sorted;
@@ -202,7 +206,7 @@ as_step reply o p m e r a = (r ∙ sym (ap (λ (x : Outcome). x.reply) e), ap (�
 -- a height is published, or that failed
 module _ (tells : Bool) (old now : Held) (before after : DiskView) (a : HeldState) (last : Some a ≡ slice_get old.memory (length old.memory - 1))
     (low : option_map_or (λ newest. nat_le a.height newest) (last_or None (heights_in old.store.heights)) false ≡ false) (few : length old.store.heights < MAX_PUBLISHED)
-    (live : now.live ≡ old.live) (memory : now.memory ≡ old.memory) (closed : now.closed ≡ old.closed)
+    (live : now.live ≡ old.live) (memory : now.memory ≡ old.memory) (closed : now.stopped ≡ old.stopped)
     (sound : IsTrue tells → IsImageNow after.state after.state.files)
     (root : Result Bytes StoreError) (publishes : Publishes tells a old.store now.store before after root) where
   images_of : IsTrue tells → (m : Machine) → Keeps old before.state m → LeavesOnly before after (StandsForEither m.published (step m commands.Checkpoint).after.published)
@@ -210,7 +214,7 @@ module _ (tells : Bool) (old now : Held) (before after : DiskView) (a : HeldStat
       let kk = last_kept old.memory m.memory a k.states.memory last in
       subst (λ (o : Outcome). LeavesOnly before after (StandsForEither m.published o.after.published)) (sym (checkpoints tells old before m a last k.states low few))
       (subst (λ (h : ℕ). LeavesOnly before after (StandsForEither m.published (m.published ++ whole h kk.0.1 ∷ []))) kk.2.height
-      (publishes.images told m.published (standing kk.0) kk.2 k.settled k.heights))
+      (publishes.images told m.published kk.0 kk.2 k.settled k.heights))
 
   pub checkpoint_failed : (result : Result Reply StoreError) → IsErr result → DoesLine tells old now before after result commands.Checkpoint
   checkpoint_failed result failed = record {
@@ -230,11 +234,13 @@ module _ (tells : Bool) (old now : Held) (before after : DiskView) (a : HeldStat
   checkpoint_done hash done = record {
     reply = λ told m k.
         let kk = last_kept old.memory m.memory a k.states.memory last in
-        let told_root : hash ≡ root_of kk.0.1 = subst (λ (r : Result Bytes StoreError). IfOk r (λ x. x ≡ root_of kk.0.1)) done (publishes.root (standing kk.0) kk.2) in
+        let told_root : hash ≡ root_of kk.0.1 = subst (λ (r : Result Bytes StoreError). IfOk r (λ x. x ≡ root_of kk.0.1)) done (publishes.root kk.0 kk.2) in
         let stands : IsSettled after.state × KeepsHeights now.store.heights after.state (m.published ++ whole a.height kk.0.1 ∷ []) =
-        subst (λ (r : Result Bytes StoreError). OnOk r (IsSettled after.state × KeepsHeights now.store.heights after.state (m.published ++ whole a.height kk.0.1 ∷ []))) done (publishes.stands told m.published (standing kk.0) kk.2 k.settled k.heights) in
+        subst (λ (r : Result Bytes StoreError). OnOk r (IsSettled after.state × KeepsHeights now.store.heights after.state (m.published ++ whole a.height kk.0.1 ∷ []))) done (publishes.stands told m.published kk.0 kk.2 k.settled k.heights) in
         let heights : KeepsHeights now.store.heights after.state (m.published ++ whole kk.0.0 kk.0.1 ∷ []) = subst (λ (h : ℕ). KeepsHeights now.store.heights after.state (m.published ++ whole h kk.0.1 ∷ [])) kk.2.height stands.1 in
+        let does = checkpoints tells old before m a last k.states low few in
         let keeps : Keeps now after.state (published_with m kk.0) = record {
+          sound = subst (λ (o : Outcome). IsSoundMachine o.after) does (step_keeps m commands.Checkpoint k.sound);
           states = record {
             usable = rw closed k.states.usable;
             live = rw live (live_beside old.live m (published_with m kk.0) refl refl k.states.live);
@@ -245,7 +251,7 @@ module _ (tells : Bool) (old now : Held) (before after : DiskView) (a : HeldStat
           settled = stands.0;
           heights = heights;
         } in
-        subst (λ (o : Outcome). (replies.Published a.height hash ≡ o.reply) × Keeps now after.state o.after) (sym (checkpoints tells old before m a last k.states low few)) (cc (kk.2.height, told_root), keeps);
+        subst (λ (o : Outcome). (replies.Published a.height hash ≡ o.reply) × Keeps now after.state o.after) (sym does) (cc (kk.2.height, told_root), keeps);
     images = images_of;
     over = λ told. subst (λ (r : Result Bytes StoreError). OnOk r (IsOver now.store after.state.files)) done (publishes.over told);
     given_least = publishes.given_least;
@@ -276,21 +282,26 @@ reset_none m height none = rw none refl
 pub reset_low : (m : Machine) (height : ℕ) (s : State) → published_at height m.published ≡ Some s → option_map_or (λ p. p.height == height) (newest m.published) false ≡ false → step m (commands.Reset height) ≡ answered (replies.Refused refusals.HeightLow) m
 reset_low m height s there low = rw (there, low) refl
 
+begun_again : (m : Machine) (height : ℕ) (o : Option Published) → option_map_or (λ p. p.height == height) o false ≡ true → resumed_at o m ≡ resumed_at o (anew m.published)
+begun_again m height None e = absurd (false≢true e)
+begun_again m height (Some p) e = refl
+
 pub resets : (m : Machine) (height : ℕ) (s : State) → published_at height m.published ≡ Some s → option_map_or (λ p. p.height == height) (newest m.published) false ≡ true → step m (commands.Reset height) ≡ answered replies.Fine (start m.published)
-resets m height s there last = rw (there, last) refl
+resets m height s there last = rw (there, last) (ap (answered replies.Fine) (begun_again m height (newest m.published) last))
 
 -- a store that opens has no state in memory
 pub none_in_memory : (ps : List Published) → ((start ps).memory ≡ []) × ((start ps).published ≡ ps)
 none_in_memory ps = go (newest ps)
   where
-    go : (o : Option Published) → ((start_at o ps).memory ≡ []) × ((start_at o ps).published ≡ ps)
+    go : (o : Option Published) → ((resumed_at o (anew ps)).memory ≡ []) × ((resumed_at o (anew ps)).published ≡ ps)
     go None = (refl, refl)
     go (Some p) = (refl, refl)
 
-pub starts : (now : Held) (s : DiskState) (ps : List Published) → IsSound s → now.closed ≡ false → KeepsState now.live (start ps) → now.memory ≡ [] → IsOver now.store s.files → IsSettled s → KeepsHeights now.store.heights s ps → Keeps now s (start ps)
-starts now s ps sound usable live memory over settled heights =
+pub starts : (now : Held) (s : DiskState) (ps : List Published) → IsSound s → now.stopped ≡ None → KeepsState now.live (live_of (start ps)) → now.memory ≡ [] → IsOver now.store s.files → IsSettled s → KeepsHeights now.store.heights s ps → IsSoundMachine (start ps) → Keeps now s (start ps)
+starts now s ps sound usable live memory over settled heights machine =
     let none = none_in_memory ps in
     record {
+      sound = machine;
       states = record {
         usable = usable;
         live = live;
@@ -305,8 +316,8 @@ starts now s ps sound usable live memory over settled heights =
 pub reset_done : (tells : Bool) (old now : Held) (before after : DiskView) (height : ℕ) → (IsTrue tells → IsImageNow after.state after.state.files) → (IsTrue tells → IsOver old.store before.state.files)
     → (IsTrue tells → (most : ℕ) × OnlyLooks most before after) → is_some (height_at old.store.heights height) ≡ true
     → option_map_or (λ newest. newest == height) (last_or None (heights_in old.store.heights)) false ≡ true
-    → now.store ≡ old.store → now.closed ≡ old.closed → now.memory ≡ []
-    → (IsTrue tells → (ps : List Published) → AllZip (ShowsHeight before.state.files) old.store.heights ps → KeepsState now.live (start ps)) → (IsTrue tells → IsImageNow before.state before.state.files)
+    → now.store ≡ old.store → now.stopped ≡ old.stopped → now.memory ≡ []
+    → (IsTrue tells → (ps : List Published) → AllZip (ShowsHeight before.state.files) old.store.heights ps → KeepsState now.live (live_of (start ps))) → (IsTrue tells → IsImageNow before.state before.state.files)
     → DoesLine tells old now before after (Ok replies.Fine) (commands.Reset height)
 reset_done tells old now before after height sound over looks there last store closed memory live before_sound = record {
   reply = λ told m k.
@@ -314,7 +325,7 @@ reset_done tells old now before after height sound over looks there last store c
       let is_last = sym (newest_test (λ n. n == height) old.store.heights m.published k.states.published) ∙ last in
       let l = (looks told).1 in
       let state : Keeps now after.state (start m.published) = starts now after.state m.published (sound told) (closed ∙ k.states.usable) (live told m.published (k.heights.images before.state.files (before_sound told)).each) memory
-      (rw (l.state, store) (over told)) (rw l.state k.settled) (rw (l.state, store) k.heights) in
+      (rw (l.state, store) (over told)) (rw l.state k.settled) (rw (l.state, store) k.heights) (start_is_sound m.published k.sound.published) in
       subst (λ (o : Outcome). (replies.Fine ≡ o.reply) × Keeps now after.state o.after) (sym (resets m height s.0 s.1 is_last)) (refl, state);
   images = λ told m k. looks_leave (looks told).0 before after (StandsForEither m.published (step m (commands.Reset height)).after.published) (looks told).1 (λ image now. inl (kept_stands old.store.heights before.state m.published k.heights image now));
   over = λ told. let l = (looks told).1 in rw (l.state, store) (over told);
@@ -329,7 +340,7 @@ reset_done tells old now before after height sound over looks there last store c
 pub looks_behind : (most : ℕ) (old mid new : DiskView) (P : Files → Type 0) → LeavesOnly old mid P → OnlyLooks most mid new → LeavesOnly old new P
 looks_behind most old mid new P before looks = then old mid new P before (looks_leave most mid new P looks before.now)
 
-pub opens_keeping : (now : Held) (mid after : DiskState) (ps : List Published) → after ≡ mid → IsImageNow after after.files → now.closed ≡ false → now.memory ≡ [] → IsOver now.store mid.files → IsSettled mid → KeepsHeights now.store.heights mid ps
-    → IsImageNow mid mid.files → (AllZip (ShowsHeight mid.files) now.store.heights ps → KeepsState now.live (start ps)) → Keeps now after (start ps)
-opens_keeping now mid after ps same sound usable memory over settled heights mid_sound live =
-    starts now after ps sound usable (live (heights.images mid.files mid_sound).each) memory (rw same over) (rw same settled) (rw same heights)
+pub opens_keeping : (now : Held) (mid after : DiskState) (ps : List Published) → after ≡ mid → IsImageNow after after.files → now.stopped ≡ None → now.memory ≡ [] → IsOver now.store mid.files → IsSettled mid → KeepsHeights now.store.heights mid ps
+    → IsImageNow mid mid.files → (AllZip (ShowsHeight mid.files) now.store.heights ps → KeepsState now.live (live_of (start ps))) → AreHeights ps → Keeps now after (start ps)
+opens_keeping now mid after ps same sound usable memory over settled heights mid_sound live may =
+    starts now after ps sound usable (live (heights.images mid.files mid_sound).each) memory (rw same over) (rw same settled) (rw same heights) (start_is_sound ps may)

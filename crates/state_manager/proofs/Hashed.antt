@@ -18,15 +18,8 @@ use Rattle.tree_spec.specs.Labelled.{state_tree}
 use Rattle.tree_spec.specs.Tree.{Tree, reconstruct}
 use Rattle.sys_state.specs.System.{System, part_of}
 use Rattle.sys_state.specs.declared.record.CanisterRecord.{CanisterRecord}
-use Rattle.std.proofs.Common.{Result, Ok, Err}
-use Rattle.std.specs.Result.{IfOk}
-use Rattle.byte_codec.specs.declared.error.NoMemory.{NoMemory}
-use Rattle.machine_spec.specs.Machine.{Machine}
-use Rattle.script_text.specs.declared.command.Command.TheVariants as commands
-use Rattle.script_text.specs.declared.command.HeightOrLive.TheVariants.{Live}
-use Rattle.script_text.specs.declared.reply.Reply.{Reply}
 use Rattle.state_manager.proofs.MemoryLines.{parts_of_state}
-use Rattle.state_manager.specs.StateKept.{HeldState, KeepsState, PerformsState}
+use Rattle.state_manager.specs.StateKept.{HeldState, KeepsState}
 use Rattle.state_manager.specs.Sizes.{HaveSizes, sizes_of}
 
 pub sizes_in : (s : System) → map (λ (memory : Bytes × ℕ). memory.1 * PAGE_SIZE) (memories_in (part_of s)) ≡ sizes_of s.canisters
@@ -56,9 +49,5 @@ pub witness_text_is : (s : State) (paths : List (List Bytes)) (w : Tree) (text :
 unfolding witness_text
 witness_text_is s paths w text a b = a ∙ ap cbor b
 
-pub after_counts : (held : HeldState) (m : Machine) → KeepsState held m → (result : Result Reply NoMemory) → IfOk result (λ reply. reply ≡ counts_of m.live) → PerformsState result held m (commands.Manifest Live)
-after_counts held m k (Ok reply) is = (is, k)
-after_counts held m k (Err e) is = tt
-
-pub parts_kept : (held : HeldState) (system : System) (m : Machine) → KeepsState held m → system ≡ held.system → system_of m.live ≡ part_of system
-parts_kept held system m k is = sym (ap part_of (is ∙ k.system) ∙ parts_of_state m.live)
+pub parts_kept : (held : HeldState) (system : System) (k : ℕ × State) → KeepsState held k → system ≡ held.system → system_of k.1 ≡ part_of system
+parts_kept held system k keeps is = sym (ap part_of (is ∙ keeps.system) ∙ parts_of_state k.1)

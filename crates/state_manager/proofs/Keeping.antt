@@ -13,7 +13,7 @@ use Rattle.sys_state.specs.System.{System, kept_of, record_of}
 use Rattle.sys_state.specs.declared.record.CanisterRecord.{CanisterRecord}
 use Rattle.machine_spec.specs.Machine.{Machine}
 use Rattle.machine_spec.specs.States.{canister_in, with_canister, without_canister, newborn}
-use Rattle.state_manager.specs.StateKept.{HeldState, KeepsState}
+use Rattle.state_manager.specs.StateKept.{HeldState, KeepsState, live_of}
 use Rattle.state_manager.proofs.Pairs.{take_front, drop_front}
 use Rattle.state_manager.proofs.Splits.{images, find_images, put_images, without_images, sorted-put, sorted-without, comes, stays}
 
@@ -49,7 +49,7 @@ length-kept s = length-map s.canisters (λ (c : Bytes × Canister). (c.0, record
 pub record SameBeside (old new : HeldState) : Type 0 where
   pub height : new.height ≡ old.height
 
-module _ (held now : HeldState) (m : Machine) (k : KeepsState held m) (beside : SameBeside held now) where
+module _ (held now : HeldState) (m : Machine) (k : KeepsState held (live_of m)) (beside : SameBeside held now) where
   there : images record_of m.live.canisters ≡ held.system.canisters
   there = sym (ap (λ (s : System). s.canisters) k.system)
 
@@ -57,7 +57,7 @@ module _ (held now : HeldState) (m : Machine) (k : KeepsState held m) (beside : 
   in_front front before e = sym (length-map front (λ (c : Bytes × Canister). (c.0, record_of c.1))) ∙ ap length e
 
   -- nothing has changed
-  pub kept_same : now.system ≡ held.system → now.memories ≡ held.memories → KeepsState now m
+  pub kept_same : now.system ≡ held.system → now.memories ≡ held.memories → KeepsState now (live_of m)
   kept_same system memories = record {
     version = k.version;
     sorted = k.sorted;
@@ -69,7 +69,7 @@ module _ (held now : HeldState) (m : Machine) (k : KeepsState held m) (beside : 
   -- a canister has come
   pub kept_create : (id : Bytes) → calls.Creates held.system now.system id (calls.newborn held.height)
       → now.memories ≡ take (2 * place_of bytes_cmp id held.system.canisters) held.memories ++ ([] ∷ [] ∷ drop (2 * place_of bytes_cmp id held.system.canisters) held.memories)
-      → KeepsState now (record m { live = with_canister m.live id (newborn m.height) })
+      → KeepsState now (live_of (record m { live = with_canister m.live id (newborn m.height) }))
   kept_create id c memories =
       let nb : Canister = newborn held.height in
       let cs : Canisters = m.live.canisters in
@@ -86,19 +86,19 @@ module _ (held now : HeldState) (m : Machine) (k : KeepsState held m) (beside : 
       ∙ ap (λ (ms : List Bytes). bytes_in split.front ++ ([] ∷ [] ∷ ms)) (drop_front (bytes_in split.front) (bytes_in split.back) at count)
       ∙ sym (bytes-append split.front ((id, nb) ∷ split.back))
       ∙ sym (ap bytes_in (split.put_is nb)) in
-      let keeps : KeepsState now (record m { live = with_canister m.live id nb }) = record {
+      let keeps : KeepsState now (live_of (record m { live = with_canister m.live id nb })) = record {
         version = k.version;
         sorted = sorted-put id nb cs k.sorted;
         system = c.now ∙ ap (λ (s : System). calls.with_canister s id (record_of nb)) k.system ∙ ap (λ (rs : List (Bytes × CanisterRecord)). record (kept_of m.live) { canisters = rs }) (sym (put_images record_of id nb cs));
         memories = all;
         height = beside.height ∙ k.height;
       } in
-      subst (λ (n : ℕ). KeepsState now (record m { live = with_canister m.live id (newborn n) })) k.height keeps
+      subst (λ (n : ℕ). KeepsState now (live_of (record m { live = with_canister m.live id (newborn n) }))) k.height keeps
 
   -- a canister is gone
   pub kept_remove : (id : Bytes) → calls.Removes held.system now.system id
       → now.memories ≡ take (2 * place_of bytes_cmp id held.system.canisters) held.memories ++ drop 2 (drop (2 * place_of bytes_cmp id held.system.canisters) held.memories)
-      → KeepsState now (record m { live = without_canister m.live id })
+      → KeepsState now (live_of (record m { live = without_canister m.live id }))
   kept_remove id c memories =
       let cs : Canisters = m.live.canisters in
       let split = stays record_of id c.c cs c.split.before c.split.after k.sorted (there ∙ c.split.old_is) in
@@ -125,7 +125,7 @@ module _ (held now : HeldState) (m : Machine) (k : KeepsState held m) (beside : 
   pub kept_change : (id : Bytes) (change : CanisterRecord → CanisterRecord) (c new : Canister) → canister_in m.live id ≡ Some c → record_of new ≡ change (record_of c)
       → calls.Changes held.system now.system id change
       → ((front back : Canisters) → length front ≡ place_of bytes_cmp id held.system.canisters → held.memories ≡ bytes_in front ++ c.heap.bytes ∷ c.stable.bytes ∷ bytes_in back → now.memories ≡ bytes_in front ++ new.heap.bytes ∷ new.stable.bytes ∷ bytes_in back)
-      → KeepsState now (record m { live = with_canister m.live id new })
+      → KeepsState now (live_of (record m { live = with_canister m.live id new }))
   kept_change id change c new found same done memories =
       let cs : Canisters = m.live.canisters in
       let split = stays record_of id done.c cs done.split.before done.split.after k.sorted (there ∙ done.split.old_is) in

@@ -17,15 +17,15 @@ use Rattle.machine_spec.specs.LiveSteps.{canister_step, drop_step, module_step, 
 use Rattle.machine_spec.specs.Machine.{Machine, now_live}
 use Rattle.machine_spec.specs.States.{canister_in, with_canister, without_canister, newborn}
 use Rattle.state_manager.specs.Changes.{Alters}
-use Rattle.state_manager.specs.StateKept.{HeldState, KeepsState, AfterState}
+use Rattle.state_manager.specs.StateKept.{HeldState, KeepsState, AfterState, live_of}
 use Rattle.state_manager.proofs.Keeping.{SameBeside, is_found, length-kept, kept_same, kept_create, kept_remove, kept_change}
 use Rattle.state_manager.proofs.Stepped.{alters_two, alters_three, alters_found}
 
 abbrev pub Same : HeldState → HeldState → Type 0
 Same old now = (now.system ≡ old.system) × (now.memories ≡ old.memories)
 
-module _ (old now : HeldState) (m : Machine) (k : KeepsState old m) (beside : SameBeside old now) where
-  same : Same old now → KeepsState now m
+module _ (old now : HeldState) (m : Machine) (k : KeepsState old (live_of m)) (beside : SameBeside old now) where
+  same : Same old now → KeepsState now (live_of m)
   same s = kept_same old now m k beside s.0 s.1
 
   found : (id : Bytes) → is_some (calls.canister_in old.system id) ≡ is_some (canister_in m.live id)

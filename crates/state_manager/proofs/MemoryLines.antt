@@ -24,11 +24,11 @@ use Rattle.sys_state.specs.declared.record.CanisterRecord.{CanisterRecord}
 use Rattle.script_text.specs.declared.reply.Reply.{Reply}
 use Rattle.script_text.specs.declared.reply.Reply.TheVariants.{Refused}
 use Rattle.script_text.specs.declared.reply.Refusal.TheVariants as refusals
-use Rattle.machine_spec.specs.LiveSteps.{grow_step, write_step, read_step}
+use Rattle.machine_spec.specs.LiveSteps.{grow_step, write_step, read_reply, bytes_told, canister_told}
 use Rattle.machine_spec.specs.Machine.{Machine, Outcome, now_live, unless, unless_none, answered}
 use Rattle.machine_spec.specs.States.{canister_in, with_canister, memory_of, with_memory, pages_with, state_pages}
 use Rattle.state_manager.specs.Changes.{Alters}
-use Rattle.state_manager.specs.StateKept.{HeldState, KeepsState, AfterState}
+use Rattle.state_manager.specs.StateKept.{HeldState, KeepsState, AfterState, live_of}
 use Rattle.state_manager.specs.Memories.{pages_more, written, write_refusal}
 use Rattle.state_manager.specs.Places.{index_of}
 use Rattle.state_manager.proofs.Indexed.{pick, heap_with, stable_with, pair_get, pair_set}
@@ -94,8 +94,8 @@ more_is round m at (b ∷ w) = rw (some_bytes b w) (write_pages round m at (b �
 with_is : (m : Memory) (at n : ℕ) → pages_with m at n - pages_of m ≡ pages_more (pages_of m) at n
 with_is m at n = elim (n == 0) as (λ (b : Bool). (if b then pages_of m else max (pages_of m) (pages_for (at + n))) - pages_of m ≡ (if b then 0 else max (pages_of m) (pages_for (at + n)) - pages_of m)) [ true ↦ omega arith | false ↦ refl ]
 
-module _ (old now : HeldState) (m : Machine) (k : KeepsState old m) (beside : SameBeside old now) (id : Bytes) (mem : Mem) where
-  same : Same old now → KeepsState now m
+module _ (old now : HeldState) (m : Machine) (k : KeepsState old (live_of m)) (beside : SameBeside old now) (id : Bytes) (mem : Mem) where
+  same : Same old now → KeepsState now (live_of m)
   same s = kept_same old now m k beside s.0 s.1
 
   -- a memory of a canister has changed
@@ -103,7 +103,7 @@ module _ (old now : HeldState) (m : Machine) (k : KeepsState old m) (beside : Sa
       → calls.Changes old.system now.system id (calls.extended mem more)
       → now.memories ≡ set old.memories (index_of (place_of bytes_cmp id old.system.canisters) mem) x
       → (get_or old.memories (index_of (place_of bytes_cmp id old.system.canisters) mem) [] ≡ (memory_of c mem).bytes → x ≡ new.bytes)
-      → KeepsState now (record m { live = with_canister m.live id (with_memory c mem new) })
+      → KeepsState now (live_of (record m { live = with_canister m.live id (with_memory c mem new) }))
   kept_memory c new more x found pages done memories bytes =
       let n : ℕ = place_of bytes_cmp id old.system.canisters in
       kept_change old now m k beside id (calls.extended mem more) c (with_memory c mem new) found (record_with mem c new more pages) done
@@ -182,48 +182,56 @@ module _ (old now : HeldState) (m : Machine) (k : KeepsState old m) (beside : Sa
       (λ d. (refl, kept_memory c (write m.height (memory_of c mem) at w) (pages_more pages at (length w)) x its.1 (more_is m.height (memory_of c mem) at w ∙ ap (λ (p : ℕ). pages_of (memory_of c mem) + pages_more p at (length w)) (sym of_memory)) d.0 d.1 (λ was. d.2 ∙ ap (λ (b : Bytes). written b at w) was ∙ write_is m.height (memory_of c mem) at w))))
 
 -- a canister that the system lacks isn't there
-pub absent_there : (held : HeldState) (m : Machine) → KeepsState held m → (id : Bytes) (act : Canister → Outcome) → calls.canister_in held.system id ≡ None
-    → (Refused refusals.NoCanister ≡ (unless_none (canister_in m.live id) refusals.NoCanister m act).reply) × KeepsState held (unless_none (canister_in m.live id) refusals.NoCanister m act).after
-absent_there held m k id act h =
-    let none : canister_in m.live id ≡ None = no_canister (canister_in m.live id) (sym (found_there m.live id) ∙ sym (ap (λ (s : System). calls.canister_in s id) k.system) ∙ h) in
-    subst (λ (o : Option Canister). (Refused refusals.NoCanister ≡ (unless_none o refusals.NoCanister m act).reply) × KeepsState held (unless_none o refusals.NoCanister m act).after) (sym none) (refl, k)
+absent : (held : HeldState) (k : ℕ × State) → KeepsState held k → (id : Bytes) → calls.canister_in held.system id ≡ None → canister_in k.1 id ≡ None
+absent held k keeps id h = none (canister_in k.1 id) (sym (found_there k.1 id) ∙ sym (ap (λ (s : System). calls.canister_in s id) keeps.system) ∙ h)
   where
-    no_canister : (o : Option Canister) → option_map record_of o ≡ None → o ≡ None
-    no_canister None e = refl
-    no_canister (Some c) e = absurd (cc e)
+    none : (o : Option Canister) → option_map record_of o ≡ None → o ≡ None
+    none None e = refl
+    none (Some c) e = absurd (cc e)
 
--- the canister of the machine, and the bytes of one of its memories
-pub record IsThere (held : HeldState) (m : Machine) (id : Bytes) (n : ℕ) (mem : Mem) : Type 0 where
+pub absent_there : (held : HeldState) (m : Machine) → KeepsState held (live_of m) → (id : Bytes) (act : Canister → Outcome) → calls.canister_in held.system id ≡ None
+    → (Refused refusals.NoCanister ≡ (unless_none (canister_in m.live id) refusals.NoCanister m act).reply) × KeepsState held (live_of (unless_none (canister_in m.live id) refusals.NoCanister m act).after)
+absent_there held m k id act h =
+    subst (λ (o : Option Canister). (Refused refusals.NoCanister ≡ (unless_none o refusals.NoCanister m act).reply) × KeepsState held (live_of (unless_none o refusals.NoCanister m act).after)) (sym (absent held (live_of m) k id h)) (refl, k)
+
+pub reads_nowhere : (held : HeldState) (k : ℕ × State) → KeepsState held k → (id : Bytes) (mem : Mem) (from len : ℕ) → calls.canister_in held.system id ≡ None → Refused refusals.NoCanister ≡ read_reply k.1 id mem from len
+reads_nowhere held k keeps id mem from len h = sym (ap (λ (o : Option Canister). canister_told o mem from len) (absent held k keeps id h))
+
+-- the canister of a state, and the bytes of one of its memories
+pub record IsThere (held : HeldState) (state : State) (id : Bytes) (n : ℕ) (mem : Mem) : Type 0 where
   pub canister : Canister
-  pub found : canister_in m.live id ≡ Some canister
+  pub found : canister_in state id ≡ Some canister
   pub bytes : get_or held.memories (index_of n mem) [] ≡ (memory_of canister mem).bytes
 
-pub is_there : (held : HeldState) (m : Machine) → KeepsState held m → (id : Bytes) (n : ℕ) (mem : Mem) → Stands bytes_cmp id held.system.canisters n → IsThere held m id n mem
-is_there held m k id n mem s =
-    let split = stays record_of id s.value m.live.canisters s.at.before s.at.after k.sorted (sym (ap (λ (t : System). t.canisters) k.system) ∙ s.at.split) in
+pub is_there : (held : HeldState) (k : ℕ × State) → KeepsState held k → (id : Bytes) (n : ℕ) (mem : Mem) → Stands bytes_cmp id held.system.canisters n → IsThere held k.1 id n mem
+is_there held k keeps id n mem s =
+    let split = stays record_of id s.value k.1.canisters s.at.before s.at.after keeps.sorted (sym (ap (λ (t : System). t.canisters) keeps.system) ∙ s.at.split) in
     let count : length split.front ≡ n = sym (length-map split.front (λ (c : Bytes × Canister). (c.0, record_of c.1))) ∙ ap length split.front_is ∙ s.at.count in
     let c : Canister = split.value in
-    let all : held.memories ≡ bytes_in split.front ++ c.heap.bytes ∷ c.stable.bytes ∷ bytes_in split.back = k.memories ∙ ap bytes_in split.whole ∙ bytes-append split.front ((id, c) ∷ split.back) in
+    let all : held.memories ≡ bytes_in split.front ++ c.heap.bytes ∷ c.stable.bytes ∷ bytes_in split.back = keeps.memories ∙ ap bytes_in split.whole ∙ bytes-append split.front ((id, c) ∷ split.back) in
     record {
       canister = c;
       found = split.found;
       bytes = ap (λ (ms : List Bytes). get_or ms (index_of n mem) []) all ∙ pair_get (bytes_in split.front) (bytes_in split.back) c.heap.bytes c.stable.bytes [] n mem (length-bytes split.front ∙ ap (λ (j : ℕ). 2 * j) count) ∙ picked mem c;
     }
 
--- a reading line finds the canister
-module _ (held : HeldState) (m : Machine) (k : KeepsState held m) (id : Bytes) (n : ℕ) (mem : Mem) (s : Stands bytes_cmp id held.system.canisters n) (from len : ℕ) where
-  read_by : (reply : Reply) → (t : IsThere held m id n mem) → AfterState (Ok reply) held (unless ((nat_lt (length (memory_of t.canister mem).bytes) (from + len), refusals.PastEnd) ∷ []) m (λ m. answered (replies.Bytes (read (memory_of t.canister mem) from len)) m)) → AfterState (Ok reply) held (read_step m Live id mem from len)
-  read_by reply t h = subst (λ (o : Option Canister). AfterState (Ok reply) held (unless_none o refusals.NoCanister m (λ c. unless ((nat_lt (length (memory_of c mem).bytes) (from + len), refusals.PastEnd) ∷ []) m (λ m. answered (replies.Bytes (read (memory_of c mem) from len)) m)))) (sym t.found) h
+-- `read` of a state finds the canister
+module _ (held : HeldState) (k : ℕ × State) (keeps : KeepsState held k) (id : Bytes) (n : ℕ) (mem : Mem) (s : Stands bytes_cmp id held.system.canisters n) (from len : ℕ) where
+  read_by : (t : IsThere held k.1 id n mem) → read_reply k.1 id mem from len ≡ bytes_told (memory_of t.canister mem) from len
+  read_by t = ap (λ (o : Option Canister). canister_told o mem from len) t.found
 
-  pub reads_past : length (get_or held.memories (index_of n mem) []) < from + len → AfterState (Ok (Refused refusals.PastEnd)) held (read_step m Live id mem from len)
+  abbrev told_by : Bool → Memory → Reply
+  told_by past memory = if past then Refused refusals.PastEnd else replies.Bytes (read memory from len)
+
+  pub reads_past : length (get_or held.memories (index_of n mem) []) < from + len → Refused refusals.PastEnd ≡ read_reply k.1 id mem from len
   reads_past h =
-      let t = is_there held m k id n mem s in
+      let t = is_there held k keeps id n mem s in
       let past : nat_lt (length (memory_of t.canister mem).bytes) (from + len) ≡ true = lt-ltb (length (memory_of t.canister mem).bytes) (from + len) (subst (λ (b : Bytes). length b < from + len) t.bytes h) in
-      read_by (Refused refusals.PastEnd) t (subst (λ (b : Bool). AfterState (Ok (Refused refusals.PastEnd)) held (unless ((b, refusals.PastEnd) ∷ []) m (λ m. answered (replies.Bytes (read (memory_of t.canister mem) from len)) m))) (sym past) (refl, k))
+      sym (read_by t ∙ ap (λ (b : Bool). told_by b (memory_of t.canister mem)) past)
 
-  pub reads_bytes : (bytes : Bytes) → from + len ≤ length (get_or held.memories (index_of n mem) []) → bytes ≡ take len (drop from (get_or held.memories (index_of n mem) [])) → AfterState (Ok (replies.Bytes bytes)) held (read_step m Live id mem from len)
+  pub reads_bytes : (bytes : Bytes) → from + len ≤ length (get_or held.memories (index_of n mem) []) → bytes ≡ take len (drop from (get_or held.memories (index_of n mem) [])) → replies.Bytes bytes ≡ read_reply k.1 id mem from len
   reads_bytes bytes h is =
-      let t = is_there held m k id n mem s in
+      let t = is_there held k keeps id n mem s in
       let within : nat_lt (length (memory_of t.canister mem).bytes) (from + len) ≡ false = le-ltb (length (memory_of t.canister mem).bytes) (from + len) (subst (λ (b : Bytes). from + len ≤ length b) t.bytes h) in
       let same : bytes ≡ read (memory_of t.canister mem) from len = is ∙ ap (λ (b : Bytes). take len (drop from b)) t.bytes in
-      read_by (replies.Bytes bytes) t (subst (λ (b : Bool). AfterState (Ok (replies.Bytes bytes)) held (unless ((b, refusals.PastEnd) ∷ []) m (λ m. answered (replies.Bytes (read (memory_of t.canister mem) from len)) m))) (sym within) (ap (λ (b : Bytes). replies.Bytes b) same, k))
+      ap (λ (b : Bytes). replies.Bytes b) same ∙ sym (read_by t ∙ ap (λ (b : Bool). told_by b (memory_of t.canister mem)) within)

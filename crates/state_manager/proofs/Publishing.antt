@@ -1,17 +1,17 @@
 -- The state that is published.
-use Rattle.std.proofs.Common.{◌≡◌, List, Result, Ok, Err, ◌∙◌, sym}
+use Rattle.std.proofs.Common.{◌≡◌, ℕ, List, Result, Ok, Err, ◌∙◌, sym}
 use Rattle.std.specs.Result.{OnOk}
 use Rattle.format_spec.specs.Bytes.{Bytes}
+use Rattle.state_spec.specs.State.{State}
 use Rattle.sys_state.specs.System.{System}
-use Rattle.machine_spec.specs.Machine.{Machine}
 use Rattle.whole_state.specs.Whole.{HasParts}
 use Rattle.state_manager.specs.StateKept.{HeldState, KeepsState}
 
-pub has_parts : (held : HeldState) (m : Machine) → KeepsState held m → (system : System) (memories : List Bytes) → held.system ≡ system → held.memories ≡ memories → HasParts m.live system memories
-has_parts held m k system memories one all = record {
-  version = k.version;
-  parts = sym k.system ∙ one;
-  bytes = sym k.memories ∙ all;
+pub has_parts : (held : HeldState) (k : ℕ × State) → KeepsState held k → (system : System) (memories : List Bytes) → held.system ≡ system → held.memories ≡ memories → HasParts k.1 system memories
+has_parts held k keeps system memories one all = record {
+  version = keeps.version;
+  parts = sym keeps.system ∙ one;
+  bytes = sym keeps.memories ∙ all;
 }
 
 pub on_ok_both : {T E : Type 0} (A B : Type 0) (result : Result T E) → OnOk result A → OnOk result B → OnOk result (A × B)

@@ -20,7 +20,9 @@ use Rattle.script_text.specs.declared.reply.Reply.TheVariants as replies
 use Rattle.script_text.specs.declared.reply.Refusal.{Refusal}
 use Rattle.script_text.specs.declared.reply.Refusal.TheVariants as refusals
 use Rattle.machine_spec.specs.Machine.{Machine, Outcome, answered, newest}
+use Rattle.machine_spec.specs.Sound.{IsSound}
 use Rattle.machine_spec.specs.Step.{step}
+use Rattle.machine_spec.proofs.StepsKept.{step_keeps}
 use Rattle.state_manager.specs.Causes.{purge_reply}
 use Rattle.state_manager.specs.Kept.{Held, DoesLine, Keeps, KeepsStates, PerformsOn}
 use Rattle.state_manager.proofs.DiskLines.{apart_line, height_absent, height_there, live_beside}
@@ -55,7 +57,7 @@ pub record Purges {T : Type 0} (tells : Bool) (old now : Held) (before after : D
   pub settled : IsTrue tells → OnOk r (IsSettled before.state → IsSettled after.state)
 
 module _ {T : Type 0} (tells : Bool) (old now : Held) (before after : DiskView) (height : ℕ) (r : Result T StoreError) (reply : Result Reply StoreError) (says : RepliesTo r reply) (p : Purges tells old now before after height r)
-    (live : now.live ≡ old.live) (memory : now.memory ≡ old.memory) (closed : now.closed ≡ old.closed)
+    (live : now.live ≡ old.live) (memory : now.memory ≡ old.memory) (closed : now.stopped ≡ old.stopped)
     (over : IsTrue tells → IsOver old.store before.state.files) (sound : IsTrue tells → IsImageNow after.state after.state.files) where
   refuses : (reason : Refusal) → (now.store ≡ old.store) × (after ≡ before) → ((m : Machine) → KeepsStates old m → step m (commands.Purge height) ≡ answered (replies.Refused reason) m) → reply ≡ Ok (replies.Refused reason)
       → DoesLine tells old now before after reply (commands.Purge height)
@@ -127,7 +129,9 @@ module _ {T : Type 0} (tells : Bool) (old now : Held) (before after : DiskView) 
           let done : (P : Type 0) → OnOk r P → P = λ P h. subst (λ (x : Result Reply StoreError). OnOk x P) is (over_after a b P h) in
           let heights = done _ (p.stands told m.published k.settled k.heights) in
           let settled = done _ (p.settled told) k.settled in
+          let does = does_purge there older m k.states in
           let keeps : Keeps now after.state (without m) = record {
+            sound = subst (λ (o : Outcome). IsSound o.after) does (step_keeps m (commands.Purge height) k.sound);
             states = record {
               usable = closed ∙ k.states.usable;
               live = rw live (live_beside old.live m (without m) refl refl k.states.live);
@@ -138,7 +142,7 @@ module _ {T : Type 0} (tells : Bool) (old now : Held) (before after : DiskView) 
             settled = settled;
             heights = heights;
           } in
-          subst (λ (o : Outcome). (y ≡ o.reply) × Keeps now after.state o.after) (sym (does_purge there older m k.states)) (is_fine a b y is, keeps)
+          subst (λ (o : Outcome). (y ≡ o.reply) × Keeps now after.state o.after) (sym does) (is_fine a b y is, keeps)
 
   pub purge_line : DoesLine tells old now before after reply (commands.Purge height)
   purge_line = elim (cases_Bool (is_some (height_at old.store.heights height))) [

@@ -6,11 +6,10 @@ use Rattle.std.specs.FinMap.{find}
 use Rattle.std.specs.List.{flat_map}
 use Rattle.std.specs.Option.{option_map, IsSomeAnd}
 use Rattle.std.specs.Ordering.{eq_by_cmp}
-use Rattle.std.specs.Prelude.{slice_get, ⊤}
+use Rattle.std.specs.Prelude.{slice_get, ⊤, if◌then◌else◌}
 use Rattle.format_spec.specs.Bytes.{Bytes, bytes_cmp}
 use Rattle.format_spec.specs.declared.limits.TheConstants.{PAGE_SIZE, MAX_CANISTERS}
 use Rattle.state_spec.specs.Files.{heap_name, stable_name, memories_in}
-use Rattle.state_spec.specs.Memory.{read}
 use Rattle.state_spec.specs.State.{State, Canister, CanisterPart, SystemPart, system_of, memory_bytes}
 use Rattle.store_spec.specs.Image.{Published}
 use Rattle.sys_state.specs.Calls as calls
@@ -21,25 +20,19 @@ use Rattle.sys_state.specs.declared.mem.Mem.TheVariants.{Heap, Stable}
 use Rattle.sys_state.specs.declared.record.CanisterRecord.{CanisterRecord}
 use Rattle.height_store.specs.Store.{StoredHeight}
 use Rattle.whole_state.specs.Whole.{KnowsHeight, IsMemoryAt}
-use Rattle.script_text.specs.declared.command.Command.TheVariants as commands
-use Rattle.script_text.specs.declared.command.HeightOrLive.{HeightOrLive}
-use Rattle.script_text.specs.declared.command.HeightOrLive.TheVariants.{Live}
 use Rattle.script_text.specs.declared.reply.Reply.{Reply}
 use Rattle.script_text.specs.declared.reply.Reply.TheVariants as replies
 use Rattle.script_text.specs.declared.reply.Refusal.TheVariants.{NoCanister, PastEnd}
-use Rattle.machine_spec.specs.LiveSteps.{read_step}
-use Rattle.machine_spec.specs.Machine.{Machine, Outcome, answered, opened, state_at, unless, unless_none}
+use Rattle.machine_spec.specs.LiveSteps.{bytes_told, canister_told, read_reply}
+use Rattle.machine_spec.specs.Machine.{opened}
 use Rattle.machine_spec.specs.States.{canister_in, memory_of}
-use Rattle.machine_spec.specs.Step.{step}
-use Rattle.state_manager.specs.Kept.{standing}
 use Rattle.state_manager.specs.Places.{index_of}
-use Rattle.state_manager.specs.StateKept.{HeldState, AfterState}
+use Rattle.state_manager.specs.StateKept.{HeldState}
 use Rattle.state_manager.proofs.AtHeights.{opened_kept}
 use Rattle.state_manager.proofs.Hashed.{sizes_in}
 use Rattle.state_manager.proofs.Indexed.{index_within, pair_get, pick, size_at}
 use Rattle.state_manager.proofs.Keeping.{Canisters, bytes_in}
-use Rattle.state_manager.proofs.Standing.{asks_there}
-use Rattle.state_manager.proofs.MemoryLines.{absent_there, parts_of_state, reads_bytes, reads_past}
+use Rattle.state_manager.proofs.MemoryLines.{parts_of_state, reads_bytes, reads_nowhere, reads_past}
 
 -- ---- states with the same parts and bytes answer the same
 
@@ -70,45 +63,18 @@ same_ids : (s t : State) → system_of s ≡ system_of t → map (λ (c : Bytes 
 unfolding system_of
 same_ids s t e = sym (ids_of_parts s.canisters _) ∙ ap (λ (p : SystemPart). map (λ (c : Bytes × CanisterPart). c.0) p.canisters) e ∙ ids_of_parts t.canisters _
 
-abbrev read_of : Machine → Option Canister → Mem → ℕ → ℕ → Outcome
-read_of m o mem from len = unless_none o NoCanister m (λ c.
-    unless ((nat_lt (length (memory_of c mem).bytes) (from + len), PastEnd) ∷ []) m (λ m. answered (replies.Bytes (read (memory_of c mem) from len)) m))
-
-read_end : (past : Bool) (bytes : Bytes) (m n : Machine)
-    → (unless ((past, PastEnd) ∷ []) m (λ m. answered (replies.Bytes bytes) m)).reply ≡ (unless ((past, PastEnd) ∷ []) n (λ m. answered (replies.Bytes bytes) m)).reply
-read_end true bytes m n = refl
-read_end false bytes m n = refl
-
-reply_of_bytes : (from len : ℕ) (m n : Machine) (a b : Bytes) → a ≡ b
-    → (unless ((nat_lt (length a) (from + len), PastEnd) ∷ []) m (λ m. answered (replies.Bytes (take len (drop from a))) m)).reply ≡ (unless ((nat_lt (length b) (from + len), PastEnd) ∷ []) n (λ m. answered (replies.Bytes (take len (drop from b))) m)).reply
-reply_of_bytes from len m n a b e =
-    ap (λ (x : Bytes). (unless ((nat_lt (length x) (from + len), PastEnd) ∷ []) m (λ m. answered (replies.Bytes (take len (drop from x))) m)).reply) e ∙ read_end (nat_lt (length b) (from + len)) (take len (drop from b)) m n
-
-read_same : (o p : Option Canister) → SameReads o p → (m n : Machine) (mem : Mem) (from len : ℕ) → (read_of m o mem from len).reply ≡ (read_of n p mem from len).reply
-read_same None None same m n mem from len = refl
-read_same None (Some d) same m n mem from len = absurd same
-read_same (Some c) None same m n mem from len = absurd same
-read_same (Some c) (Some d) same m n Heap from len = reply_of_bytes from len m n c.heap.bytes d.heap.bytes same.0
-read_same (Some c) (Some d) same m n Stable from len = reply_of_bytes from len m n c.stable.bytes d.stable.bytes same.1
-
-read_stays : (o : Option Canister) (m : Machine) (mem : Mem) (from len : ℕ) → (read_of m o mem from len).after ≡ m
-read_stays None m mem from len = refl
-read_stays (Some c) m mem from len = end (nat_lt (length (memory_of c mem).bytes) (from + len)) (read (memory_of c mem) from len)
+told_same : (o p : Option Canister) → SameReads o p → (mem : Mem) (from len : ℕ) → canister_told o mem from len ≡ canister_told p mem from len
+told_same None None same mem from len = refl
+told_same None (Some d) same mem from len = absurd same
+told_same (Some c) None same mem from len = absurd same
+told_same (Some c) (Some d) same mem from len = by mem same
   where
-    end : (past : Bool) (bytes : Bytes) → (unless ((past, PastEnd) ∷ []) m (λ m. answered (replies.Bytes bytes) m)).after ≡ m
-    end true bytes = refl
-    end false bytes = refl
+    bytes_same : (a b : Bytes) → a ≡ b → (if nat_lt (length a) (from + len) then replies.Refused PastEnd else replies.Bytes (take len (drop from a))) ≡ (if nat_lt (length b) (from + len) then replies.Refused PastEnd else replies.Bytes (take len (drop from b)))
+    bytes_same a b e = ap (λ (x : Bytes). if nat_lt (length x) (from + len) then replies.Refused PastEnd else replies.Bytes (take len (drop from x))) e
 
-same_to_itself : (o : Option Canister) → SameReads o o
-same_to_itself None = tt
-same_to_itself (Some c) = (refl, refl)
-
--- a line that reads a state, as one on a machine of which it is the live one
-pub reads_at : (m : Machine) (at : HeightOrLive) (n : Machine) → state_at m at ≡ Some n.live → (id : Bytes) (mem : Mem) (from len : ℕ) (reply : Reply) → reply ≡ (step n (commands.Read Live id mem from len)).reply
-    → (reply ≡ (step m (commands.Read at id mem from len)).reply) × ((step m (commands.Read at id mem from len)).after ≡ m)
-reads_at m at n e id mem from len reply is =
-    let o : Option Canister = canister_in n.live id in
-    asks_there m at n.live e (λ s. read_of m (canister_in s id) mem from len) reply (is ∙ read_same o o (same_to_itself o) n m mem from len) (read_stays o m mem from len)
+    by : (mem : Mem) → (c.heap.bytes ≡ d.heap.bytes) × (c.stable.bytes ≡ d.stable.bytes) → bytes_told (memory_of c mem) from len ≡ bytes_told (memory_of d mem) from len
+    by Heap same = bytes_same c.heap.bytes d.heap.bytes same.0
+    by Stable same = bytes_same c.stable.bytes d.stable.bytes same.1
 
 -- ---- where a memory is
 
@@ -163,33 +129,30 @@ module _ (h : StoredHeight) (p : Published) (knows : KnowsHeight h p) (id : Byte
   abbrev held : HeldState
   held = record { system = h.system; memories = memory_bytes p.state; height = p.height }
 
-  abbrev open_machine : Machine
-  open_machine = standing (p.height, opened p)
-
-  answers : (reply : Reply) → AfterState (Ok reply) held (read_step open_machine Live id mem from len) → reply ≡ (step (standing (p.height, p.state)) (commands.Read Live id mem from len)).reply
-  answers reply after =
+  answers : (reply : Reply) → reply ≡ read_reply (opened p) id mem from len → reply ≡ read_reply p.state id mem from len
+  answers reply is =
       let ids = same_ids (opened p) p.state (sym (parts_of_state (opened p)) ∙ ap part_of knows.system ∙ sym knows.parts) in
-      after.0 ∙ read_same (canister_in (opened p) id) (canister_in p.state id) (alike id (opened p).canisters p.state.canisters ids knows.bytes) open_machine (standing (p.height, p.state)) mem from len
+      is ∙ told_same (canister_in (opened p) id) (canister_in p.state id) (alike id (opened p).canisters p.state.canisters ids knows.bytes) mem from len
 
-  pub reads_no_canister : (system : System) → system ≡ h.system → calls.canister_in system id ≡ None → replies.Refused NoCanister ≡ (step (standing (p.height, p.state)) (commands.Read Live id mem from len)).reply
+  pub reads_no_canister : (system : System) → system ≡ h.system → calls.canister_in system id ≡ None → replies.Refused NoCanister ≡ read_reply p.state id mem from len
   reads_no_canister system is none =
-      answers (replies.Refused NoCanister) (absent_there held open_machine (opened_kept h p knows) id _ (sym (ap (λ (s : System). calls.canister_in s id) is) ∙ none))
+      answers (replies.Refused NoCanister) (reads_nowhere held (p.height, opened p) (opened_kept h p knows) id mem from len (sym (ap (λ (s : System). calls.canister_in s id) is) ∙ none))
 
   module _ (n : ℕ) (at : Stands bytes_cmp id h.system.canisters n) where
     size : (index_of n mem < length (memory_bytes p.state)) × (length (get_or (memory_bytes p.state) (index_of n mem) []) ≡ calls.pages_of mem at.value * PAGE_SIZE)
     size = size_at h.system.canisters at.at.before at.at.after id at.value (memory_bytes p.state) n mem [] (knows.sizes ∙ sizes_in h.system) at.at.split at.at.count
 
-    pub reads_past_end : calls.pages_of mem at.value * PAGE_SIZE < from + len → replies.Refused PastEnd ≡ (step (standing (p.height, p.state)) (commands.Read Live id mem from len)).reply
+    pub reads_past_end : calls.pages_of mem at.value * PAGE_SIZE < from + len → replies.Refused PastEnd ≡ read_reply p.state id mem from len
     reads_past_end past =
-        answers (replies.Refused PastEnd) (reads_past held open_machine (opened_kept h p knows) id n mem at from len (subst (λ (k : ℕ). k < from + len) (sym size.1) past))
+        answers (replies.Refused PastEnd) (reads_past held (p.height, opened p) (opened_kept h p knows) id n mem at from len (subst (λ (k : ℕ). k < from + len) (sym size.1) past))
 
     pub memory_there : IsMemoryAt p.state (index_of n mem) (get_or (memory_bytes p.state) (index_of n mem) [])
     memory_there = slice_get-get_or (memory_bytes p.state) (index_of n mem) [] size.0
 
     pub reads_these : (bytes : Bytes) → from + len ≤ calls.pages_of mem at.value * PAGE_SIZE → bytes ≡ take len (drop from (get_or (memory_bytes p.state) (index_of n mem) []))
-        → replies.Bytes bytes ≡ (step (standing (p.height, p.state)) (commands.Read Live id mem from len)).reply
+        → replies.Bytes bytes ≡ read_reply p.state id mem from len
     reads_these bytes within is =
-        answers (replies.Bytes bytes) (reads_bytes held open_machine (opened_kept h p knows) id n mem at from len bytes (subst (λ (k : ℕ). from + len ≤ k) (sym size.1) within) is)
+        answers (replies.Bytes bytes) (reads_bytes held (p.height, opened p) (opened_kept h p knows) id n mem at from len bytes (subst (λ (k : ℕ). from + len ≤ k) (sym size.1) within) is)
 
 -- the same, of a system that is that of the height
 module _ (id : Bytes) (mem : Mem) (n from len : ℕ) (h : StoredHeight) (p : Published) (knows : KnowsHeight h p) where
@@ -204,13 +167,13 @@ module _ (id : Bytes) (mem : Mem) (n from len : ℕ) (h : StoredHeight) (p : Pub
     refl,
   )
 
-  pub past : (system : System) → system ≡ h.system → (at : Stands bytes_cmp id system.canisters n) → calls.pages_of mem at.value * PAGE_SIZE < from + len → replies.Refused PastEnd ≡ (step (standing (p.height, p.state)) (commands.Read Live id mem from len)).reply
+  pub past : (system : System) → system ≡ h.system → (at : Stands bytes_cmp id system.canisters n) → calls.pages_of mem at.value * PAGE_SIZE < from + len → replies.Refused PastEnd ≡ read_reply p.state id mem from len
   past system is at above =
       let stands = stands_there system is at in
       reads_past_end h p knows id mem from len n stands.0 (subst (λ (c : CanisterRecord). calls.pages_of mem c * PAGE_SIZE < from + len) (sym stands.1) above)
 
   pub these : (system : System) → system ≡ h.system → (at : Stands bytes_cmp id system.canisters n) (bytes : Bytes) (file : ℕ) → file ≡ index_of n mem → from + len ≤ calls.pages_of mem at.value * PAGE_SIZE
-      → ((memory : Bytes) → IsMemoryAt p.state file memory → bytes ≡ take len (drop from memory)) → replies.Bytes bytes ≡ (step (standing (p.height, p.state)) (commands.Read Live id mem from len)).reply
+      → ((memory : Bytes) → IsMemoryAt p.state file memory → bytes ≡ take len (drop from memory)) → replies.Bytes bytes ≡ read_reply p.state id mem from len
   these system is at bytes file place within taken =
       let stands = stands_there system is at in
       let there : IsMemoryAt p.state file (get_or (memory_bytes p.state) (index_of n mem) []) = ap (slice_get (memory_bytes p.state)) place ∙ memory_there h p knows id mem from len n stands.0 in

@@ -23,18 +23,18 @@ use Rattle.disk_model.specs.Files.{Files}
 use Rattle.height_store.specs.Kept.{ShowsHeight}
 use Rattle.height_store.specs.Store.{StoredHeight, height_at}
 use Rattle.whole_state.specs.Whole.{KnowsHeight}
-use Rattle.state_manager.specs.Kept.{Held, KeepsStates, KeepsEach, Performs, held_at, published_height, standing}
-use Rattle.state_manager.specs.StateKept.{HeldState, KeepsState, PerformsState}
+use Rattle.state_manager.specs.Kept.{Held, KeepsStates, KeepsEach, Performs, held_at, published_height}
+use Rattle.state_manager.specs.StateKept.{HeldState, KeepsState, live_of}
 
 -- ---- the states in memory
 
 -- what is held at a height, beside what the machine has there
 abbrev pub Found : Option HeldState → ℕ → Option State → Type 0
 Found None h None = Unit {0}
-Found (Some held) h (Some s) = KeepsState held (standing (h, s))
+Found (Some held) h (Some s) = KeepsState held (h, s)
 Found _ h _ = ⊥
 
-height_test : (held : HeldState) (k : ℕ × State) (h : ℕ) → KeepsState held (standing k) → (held.height == h) ≡ (k.0 == h)
+height_test : (held : HeldState) (k : ℕ × State) (h : ℕ) → KeepsState held k → (held.height == h) ≡ (k.0 == h)
 height_test held k h keeps = ap (λ (n : ℕ). n == h) keeps.height
 
 pub finds : (helds : List HeldState) (ks : List (ℕ × State)) (h : ℕ) → KeepsEach helds ks → Found (find (λ a. a.height == h) helds) h (kept_at h ks)
@@ -42,7 +42,7 @@ finds [] [] h each = tt
 finds [] (k ∷ ks) h each = absurd each
 finds (a ∷ helds) [] h each = absurd each
 finds (a ∷ helds) (k ∷ ks) h each = elim (cases_Bool (k.0 == h)) [
-  | inl here ↦ rw (height_test a k h each.0, here) (subst (λ (n : ℕ). KeepsState a (standing (n, k.1))) (exact_unsigned_eq k.0 h here) each.0)
+  | inl here ↦ rw (height_test a k h each.0, here) (subst (λ (n : ℕ). KeepsState a (n, k.1)) (exact_unsigned_eq k.0 h here) each.0)
   | inr there ↦ rw (height_test a k h each.0, there) (finds helds ks h each.1)
 ]
 
@@ -55,7 +55,7 @@ drops (a ∷ helds) (k ∷ ks) h each = elim (cases_Bool (k.0 == h)) [
   | inr there ↦ rw (height_test a k h each.0, there) (each.0, drops helds ks h each.1)
 ]
 
-pub joins : (helds : List HeldState) (ks : List (ℕ × State)) (a : HeldState) (k : ℕ × State) → KeepsEach helds ks → KeepsState a (standing k) → KeepsEach (helds ++ a ∷ []) (ks ++ k ∷ [])
+pub joins : (helds : List HeldState) (ks : List (ℕ × State)) (a : HeldState) (k : ℕ × State) → KeepsEach helds ks → KeepsState a k → KeepsEach (helds ++ a ∷ []) (ks ++ k ∷ [])
 joins [] [] a k each keeps = (keeps, tt)
 joins [] (x ∷ ks) a k each keeps = absurd each
 joins (b ∷ helds) [] a k each keeps = absurd each
@@ -73,10 +73,6 @@ same_heights [] (k ∷ ks) each = absurd each
 same_heights (a ∷ helds) [] each = absurd each
 same_heights (a ∷ helds) (k ∷ ks) each = cc (each.0.height, same_heights helds ks each.1)
 
--- the live state, kept at its height
-pub stands : (held : HeldState) (m : Machine) → KeepsState held m → KeepsState held (standing (m.height, m.live))
-stands held m k = record { version = k.version; sorted = k.sorted; system = k.system; memories = k.memories; height = k.height }
-
 -- ---- lines that ask about a state
 
 -- the machine's state in memory that a line asks about
@@ -87,19 +83,19 @@ in_memory m (Height h) = kept_at h m.memory
 -- what the machine has where the manager finds something
 abbrev pub FoundIn : Option HeldState → Option State → Type 0
 FoundIn None s = s ≡ None
-FoundIn (Some held) s = (n : Machine) × KeepsState held n × (s ≡ Some n.live)
+FoundIn (Some held) s = (k : ℕ × State) × KeepsState held k × (s ≡ Some k.1)
 
 by_found : (o : Option HeldState) (h : ℕ) (s : Option State) → Found o h s → FoundIn o s
 by_found None h None f = refl
 by_found None h (Some s) f = absurd f
 by_found (Some a) h None f = absurd f
-by_found (Some a) h (Some s) f = (standing (h, s), f, refl)
+by_found (Some a) h (Some s) f = ((h, s), f, refl)
 
 found_at : (held : Held) (m : Machine) → KeepsStates held m → (at : HeightOrLive) → FoundIn (held_at held at) (in_memory m at)
-found_at held m k Live = (m, k.live, refl)
+found_at held m k Live = (live_of m, k.live, refl)
 found_at held m k (Height h) = by_found (held_at held (Height h)) h (kept_at h m.memory) (finds held.memory m.memory h k.memory)
 
-pub at_some : (held : Held) (m : Machine) → KeepsStates held m → (at : HeightOrLive) (a : HeldState) → Some a ≡ held_at held at → (n : Machine) × KeepsState a n × (in_memory m at ≡ Some n.live)
+pub at_some : (held : Held) (m : Machine) → KeepsStates held m → (at : HeightOrLive) (a : HeldState) → Some a ≡ held_at held at → (n : ℕ × State) × KeepsState a n × (in_memory m at ≡ Some n.1)
 at_some held m k at a e = subst (λ (o : Option HeldState). FoundIn o (in_memory m at)) (sym e) (found_at held m k at)
 
 pub at_none : (held : Held) (m : Machine) → KeepsStates held m → (at : HeightOrLive) → None ≡ held_at held at → in_memory m at ≡ None
@@ -211,11 +207,11 @@ line_published held m k at height e act reply after is =
     unchanged held m k reply (on_state m at act) (asks_there m at p.published.state p.state act reply is (after p.published.state))
 
 pub line_some : (held : Held) (m : Machine) (k : KeepsStates held m) → (at : HeightOrLive) → None ≡ published_height held at → (a : HeldState) → (e : Some a ≡ held_at held at) → (act : State → Outcome) (reply : Reply)
-    → ((s : State) → (act s).after ≡ m) → reply ≡ (act (at_some held m k at a e).0.live).reply
+    → ((s : State) → (act s).after ≡ m) → reply ≡ (act (at_some held m k at a e).0.1).reply
     → (reply ≡ (on_state m at act).reply) × KeepsStates held (on_state m at act).after × ((on_state m at act).after.published ≡ m.published)
 line_some held m k at none a e act reply after is =
     let n = at_some held m k at a e in
-    unchanged held m k reply (on_state m at act) (asks_there m at n.0.live (published_none held m k at none ∙ n.2) act reply is (after n.0.live))
+    unchanged held m k reply (on_state m at act) (asks_there m at n.0.1 (published_none held m k at none ∙ n.2) act reply is (after n.0.1))
 
 pub line_none : (held : Held) (m : Machine) → KeepsStates held m → (at : HeightOrLive) → None ≡ published_height held at → None ≡ held_at held at → (act : State → Outcome)
     → (replies.Refused NoHeight ≡ (on_state m at act).reply) × KeepsStates held (on_state m at act).after × ((on_state m at act).after.published ≡ m.published)
@@ -233,10 +229,6 @@ module _ (held : Held) (m : Machine) (k : KeepsStates held m) (at : HeightOrLive
   performs_published height e (Err x) is = tt
 
   pub performs_in_memory : None ≡ published_height held at → (a : HeldState) → (e : Some a ≡ held_at held at) → (result : Result Reply NoMemory)
-      → IfOk result (λ reply. reply ≡ tell (at_some held m k at a e).0.live) → Performs result held m command
+      → IfOk result (λ reply. reply ≡ tell (at_some held m k at a e).0.1) → Performs result held m command
   performs_in_memory none a e (Ok reply) is = told reply (line_some held m k at none a e (λ s. answered (tell s) m) reply (λ s. refl) is)
   performs_in_memory none a e (Err x) is = tt
-
-pub counts_kept : (a : HeldState) (n : Machine) (result : Result Reply NoMemory) → PerformsState result a n (commands.Manifest Live) → IfOk result (λ reply. reply ≡ counts_of n.live)
-counts_kept a n (Ok reply) h = h.0
-counts_kept a n (Err x) h = tt

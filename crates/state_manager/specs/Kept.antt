@@ -16,16 +16,17 @@ use Rattle.script_text.specs.declared.command.HeightOrLive.{HeightOrLive}
 use Rattle.script_text.specs.declared.command.HeightOrLive.TheVariants.{Live, Height}
 use Rattle.script_text.specs.declared.reply.Reply.{Reply}
 use Rattle.machine_spec.specs.Machine.{Machine}
+use Rattle.machine_spec.specs.Sound.{IsSound}
 use Rattle.machine_spec.specs.Step.{step}
-use Rattle.state_manager.specs.StateKept.{HeldState, KeepsState}
+use Rattle.state_manager.specs.StateKept.{HeldState, KeepsState, live_of}
 use Rattle.state_manager.specs.declared.stop.Stop.{Stop}
 
--- the live state, the states in memory, ascending by height, the published heights, and whether an earlier call stopped
+-- the live state, the states in memory, ascending by height, the published heights, and how an earlier call stopped
 pub record Held : Type 0 where
   pub live : HeldState
   pub memory : List HeldState
   pub store : Store
-  pub closed : Bool
+  pub stopped : Option Stop
 
 -- heights in memory are at most 2^62
 abbrev pub HaveHeights : Held → Type 0
@@ -41,26 +42,23 @@ abbrev pub published_height : Held → HeightOrLive → Option ℕ
 published_height held Live = None
 published_height held (Height h) = if is_some (height_at held.store.heights h) then Some h else None
 
--- a machine at this height, of which this is the live state
-abbrev pub standing : ℕ × State → Machine
-standing k = record { live = k.1; height = k.0; memory = []; published = [] }
-
 -- each state in memory is the machine's
 abbrev pub KeepsEach : List HeldState → List (ℕ × State) → Type 0
 KeepsEach [] [] = ⊤
-KeepsEach (held ∷ helds) (k ∷ ks) = KeepsState held (standing k) × KeepsEach helds ks
+KeepsEach (held ∷ helds) (k ∷ ks) = KeepsState held k × KeepsEach helds ks
 KeepsEach _ _ = ⊥
 
 -- What the manager holds in memory is that machine's, but for the rounds of pages, and each published height is known.
 pub record KeepsStates (held : Held) (m : Machine) : Type 0 where
-  pub usable : held.closed ≡ false
-  pub live : KeepsState held.live m
+  pub usable : held.stopped ≡ None
+  pub live : KeepsState held.live (live_of m)
   pub memory : KeepsEach held.memory m.memory
   pub published : AllZip KnowsHeight held.store.heights m.published
 
--- The manager and its disk are that machine: besides, every image of the disk stands for the machine's published heights,
--- nothing is pending, and the store is over the files.
+-- The manager and its disk are that machine, which is sound: besides, every image of the disk stands for the machine's
+-- published heights, nothing is pending, and the store is over the files.
 pub record Keeps (held : Held) (s : DiskState) (m : Machine) : Type 0 where
+  pub sound : IsSound m
   pub states : KeepsStates held m
   pub over : IsOver held.store s.files
   pub settled : IsSettled s
@@ -101,4 +99,4 @@ pub record DoesLine (tells : Bool) (old new : Held) (before after : DiskView) (r
   pub over : IsTrue tells → OnOk result (IsOver new.store after.state.files)
   pub given_least : old.store.given ≤ new.store.given
   pub given_most : new.store.given ≤ old.store.given + 2048
-  pub same : new.closed ≡ old.closed
+  pub same : new.stopped ≡ old.stopped

@@ -3,7 +3,7 @@ use Rattle.std.specs.Prelude.{◌≡◌, ◌≤◌, ◌+◌, ℕ, Bool, true, Li
 use Rattle.std.specs.FinMap.{is_sorted}
 use Rattle.byte_codec.specs.declared.error.NoMemory.{NoMemory}
 use Rattle.format_spec.specs.Bytes.{Bytes, bytes_cmp}
-use Rattle.state_spec.specs.State.{memory_bytes}
+use Rattle.state_spec.specs.State.{State, memory_bytes}
 use Rattle.state_spec.specs.Root.{root_of}
 use Rattle.store_spec.specs.Image.{Published}
 use Rattle.disk_model.specs.State.{IsSettled}
@@ -30,18 +30,22 @@ pub record IsHeldState (held : HeldState) : Type 0 where
   pub sizes : HaveSizes held.system.canisters held.memories
   pub from_one : 1 ≤ held.height
 
--- It is the live state of that machine, but for the rounds of pages, on which no reply depends. The canisters are in
--- order of ids, as every step keeps them.
-pub record KeepsState (held : HeldState) (m : Machine) : Type 0 where
-  pub version : m.live.version ≡ 1
-  pub sorted : is_sorted bytes_cmp m.live.canisters ≡ true
-  pub system : held.system ≡ kept_of m.live
-  pub memories : held.memories ≡ memory_bytes m.live
-  pub height : held.height ≡ m.height
+-- It is this state at this height, but for the rounds of pages, on which no reply depends. The canisters are in order of
+-- ids, as every step keeps them.
+pub record KeepsState (held : HeldState) (k : ℕ × State) : Type 0 where
+  pub version : k.1.version ≡ 1
+  pub sorted : is_sorted bytes_cmp k.1.canisters ≡ true
+  pub system : held.system ≡ kept_of k.1
+  pub memories : held.memories ≡ memory_bytes k.1
+  pub height : held.height ≡ k.0
+
+-- the live state of a machine, at its height
+abbrev pub live_of : Machine → ℕ × State
+live_of m = (m.height, m.live)
 
 -- the reply is that of the outcome, and the live state of the machine after it is kept
 abbrev pub AfterState : Result Reply NoMemory → HeldState → Outcome → Type 0
-AfterState (Ok reply) now outcome = (reply ≡ outcome.reply) × KeepsState now outcome.after
+AfterState (Ok reply) now outcome = (reply ≡ outcome.reply) × KeepsState now (live_of outcome.after)
 AfterState (Err e) now outcome = Unit {0}
 
 -- the same of the machine's step for a command
@@ -51,11 +55,11 @@ PerformsState result now m command = AfterState result now (step m command)
 -- What publishing a state at its height does: every image meanwhile stands for the heights before or those after, at most
 -- 2,048 numbers are given, and at Ok the height is published, with the root of the state.
 pub record Publishes (tells : Bool) (held : HeldState) (old new : Store) (before after : DiskView) (result : Result Bytes StoreError) : Type 0 where
-  pub root : (m : Machine) → KeepsState held m → IfOk result (λ root. root ≡ root_of m.live)
-  pub stands : IsTrue tells → (ps : List Published) (m : Machine) → KeepsState held m → IsSettled before.state → KeepsHeights old.heights before.state ps
-      → OnOk result (IsSettled after.state × KeepsHeights new.heights after.state (ps ++ whole held.height m.live ∷ []))
-  pub images : IsTrue tells → (ps : List Published) (m : Machine) → KeepsState held m → IsSettled before.state → KeepsHeights old.heights before.state ps
-      → LeavesOnly before after (StandsForEither ps (ps ++ whole held.height m.live ∷ []))
+  pub root : (k : ℕ × State) → KeepsState held k → IfOk result (λ root. root ≡ root_of k.1)
+  pub stands : IsTrue tells → (ps : List Published) (k : ℕ × State) → KeepsState held k → IsSettled before.state → KeepsHeights old.heights before.state ps
+      → OnOk result (IsSettled after.state × KeepsHeights new.heights after.state (ps ++ whole held.height k.1 ∷ []))
+  pub images : IsTrue tells → (ps : List Published) (k : ℕ × State) → KeepsState held k → IsSettled before.state → KeepsHeights old.heights before.state ps
+      → LeavesOnly before after (StandsForEither ps (ps ++ whole held.height k.1 ∷ []))
   pub over : IsTrue tells → OnOk result (IsOver new after.state.files)
   pub given_least : old.given ≤ new.given
   pub given_most : new.given ≤ old.given + 2048

@@ -1,6 +1,6 @@
 //! A state at its height, and the lines on it.
 
-ghost use Rattle.std.specs.Prelude.{◌≡◌, ◌≤◌, ◌<◌, ◌+◌, ◌-◌, ◌^◌, [], length, map, IsTrue, IfOk, IfSome};
+ghost use Rattle.std.specs.Prelude.{◌≡◌, ◌≤◌, ◌<◌, ◌+◌, ◌-◌, ◌^◌, ℕ, [], length, map, IsTrue, IfOk, IfSome};
 ghost use Rattle.std.specs.List.{AllByRecursion};
 ghost use Rattle.format_spec.specs.declared.limits.TheConstants.{MAX_MODULE, MAX_CERTIFIED, MAX_VALUE, MAX_HEIGHT, MAX_PUBLISHED};
 ghost use Rattle.state_spec.specs.Manifest.{manifest_of};
@@ -11,11 +11,13 @@ ghost use Rattle.manifest.specs.Fits.{FitsText};
 ghost use Rattle.height_store.specs.Errors.{HasCause as StoreCause};
 ghost use Rattle.height_store.specs.Kept.{IsOver};
 ghost use Rattle.machine_spec.specs.HeightSteps.{counts_of, tree_root};
+ghost use Rattle.machine_spec.specs.LiveSteps.{read_reply};
+ghost use Rattle.machine_spec.specs.Machine.{Machine};
+ghost use Rattle.machine_spec.specs.States.{empty_state};
 ghost use Rattle.machine_spec.specs.WitnessSteps.{witness_text};
-ghost use Rattle.machine_spec.specs.Machine.{Machine, start};
 ghost use Rattle.state_manager.specs.Places.{index_of};
 ghost use Rattle.state_manager.specs.Sizes.{HaveSizes};
-ghost use Rattle.state_manager.specs.StateKept.{KeepsState, PerformsState, Publishes};
+ghost use Rattle.state_manager.specs.StateKept.{KeepsState, PerformsState, Publishes, live_of};
 
 use crate::canisters::{create_canister, remove_canister};
 use crate::memories::{copy_memories, grow_memory, write_memory};
@@ -26,7 +28,7 @@ use hash_domain::Hash32;
 use hash_tree::StateTree;
 use height_store::{HeightStore, StoreError};
 use manifest::{Manifest, from_scratch};
-use script_text::{Command, HeightOrLive, Refusal, Reply};
+use script_text::{Command, Refusal, Reply};
 use std::alloc::Global;
 use std::marker::Model;
 use sys_state::{CanisterId, Mem, Path, SysState};
@@ -66,7 +68,7 @@ pub fn memory_index(place: u32, mem: Mem) -> usize
 impl HeightState {
     /// The state of an empty store: no canister and no entry, at time 0 and height 1.
     pub fn new(alloc: Global) -> HeightState
-        ensures { KeepsState result (start []) }
+        ensures { KeepsState result (1, empty_state) }
     {
         HeightState {
             sys: SysState::new(alloc),
@@ -90,21 +92,21 @@ impl HeightState {
 
     /// `canister ID`
     pub fn create(&mut self, alloc: Global, id: &CanisterId) -> Result<Reply, NoMemory>
-        ensures { (m : Machine) → KeepsState self.old m → PerformsState result self.new m (Command.Canister id.now) }
+        ensures { (m : Machine) → KeepsState self.old (live_of m) → PerformsState result self.new m (Command.Canister id.now) }
     {
         create_canister(alloc, &mut self.sys, &mut self.memories, id, self.height)
     }
 
     /// `drop ID`
     pub fn remove(&mut self, id: &CanisterId) -> Result<Reply, NoMemory>
-        ensures { (m : Machine) → KeepsState self.old m → PerformsState result self.new m (Command.Remove id.now) }
+        ensures { (m : Machine) → KeepsState self.old (live_of m) → PerformsState result self.new m (Command.Remove id.now) }
     {
         remove_canister(&mut self.sys, &mut self.memories, id)
     }
 
     /// `grow ID MEM N`
     pub fn grow(&mut self, id: &CanisterId, mem: Mem, pages: u64) -> Result<Reply, NoMemory>
-        ensures { (m : Machine) → KeepsState self.old m → PerformsState result self.new m (Command.Grow id.now mem pages) }
+        ensures { (m : Machine) → KeepsState self.old (live_of m) → PerformsState result self.new m (Command.Grow id.now mem pages) }
     {
         let Ok(place) = self.sys.place(id) else {
             return Ok(Reply::Refused(Refusal::NoCanister));
@@ -121,7 +123,7 @@ impl HeightState {
         offset: u64,
         bytes: &[u8],
     ) -> Result<Reply, NoMemory>
-        ensures { (m : Machine) → KeepsState self.old m → PerformsState result self.new m (Command.Write id.now mem offset bytes.now) }
+        ensures { (m : Machine) → KeepsState self.old (live_of m) → PerformsState result self.new m (Command.Write id.now mem offset bytes.now) }
     {
         let Ok(place) = self.sys.place(id) else {
             return Ok(Reply::Refused(Refusal::NoCanister));
@@ -135,7 +137,7 @@ impl HeightState {
     /// `module ID HEX` and `module ID none`
     pub fn install(&mut self, id: &CanisterId, module: Option<Blob>) -> Result<Reply, NoMemory>
         requires { IfSome «module» (λ wasm. length wasm ≤ MAX_MODULE) }
-        ensures { (m : Machine) → KeepsState self.old m → PerformsState result self.new m (Command.Module id.now «module») }
+        ensures { (m : Machine) → KeepsState self.old (live_of m) → PerformsState result self.new m (Command.Module id.now «module») }
     {
         reply_to(self.sys.set_module(id, module))
     }
@@ -143,7 +145,7 @@ impl HeightState {
     /// `certify ID HEX`
     pub fn certify(&mut self, id: &CanisterId, bytes: Blob) -> Result<Reply, NoMemory>
         requires { length bytes ≤ MAX_CERTIFIED }
-        ensures { (m : Machine) → KeepsState self.old m → PerformsState result self.new m (Command.Certify id.now bytes) }
+        ensures { (m : Machine) → KeepsState self.old (live_of m) → PerformsState result self.new m (Command.Certify id.now bytes) }
     {
         reply_to(self.sys.set_certified(id, bytes))
     }
@@ -151,14 +153,14 @@ impl HeightState {
     /// `put PATH HEX`
     pub fn put(&mut self, alloc: Global, path: Path, value: Blob) -> Result<Reply, NoMemory>
         requires { length value ≤ MAX_VALUE }
-        ensures { (m : Machine) → KeepsState self.old m → PerformsState result self.new m (Command.Put path value) }
+        ensures { (m : Machine) → KeepsState self.old (live_of m) → PerformsState result self.new m (Command.Put path value) }
     {
         reply_to(self.sys.put(alloc, path, value))
     }
 
     /// `time N`
     pub fn set_time(&mut self, time: u64) -> Result<Reply, NoMemory>
-        ensures { (m : Machine) → KeepsState self.old m → PerformsState result self.new m (Command.Time time) }
+        ensures { (m : Machine) → KeepsState self.old (live_of m) → PerformsState result self.new m (Command.Time time) }
     {
         self.sys.set_time(time);
         Ok(Reply::Fine)
@@ -166,12 +168,12 @@ impl HeightState {
 
     /// `del PATH`
     pub fn delete(&mut self, path: &Path) -> Result<Reply, NoMemory>
-        ensures { (m : Machine) → KeepsState self.old m → PerformsState result self.new m (Command.Del path.now) }
+        ensures { (m : Machine) → KeepsState self.old (live_of m) → PerformsState result self.new m (Command.Del path.now) }
     {
         reply_to(self.sys.del(path))
     }
 
-    /// `read live ID MEM OFFSET LEN`
+    /// `read` of the state.
     pub fn read(
         &self,
         alloc: Global,
@@ -180,7 +182,7 @@ impl HeightState {
         offset: u64,
         len: u64,
     ) -> Result<Reply, NoMemory>
-        ensures { (m : Machine) → KeepsState self.now m → PerformsState result self.now m (Command.Read HeightOrLive.Live id.now mem offset len) }
+        ensures { (k : ℕ × State) → KeepsState self.now k → IfOk result (λ reply. reply ≡ read_reply k.1 id.now mem offset len) }
     {
         let Ok(place) = self.sys.place(id) else {
             return Ok(Reply::Refused(Refusal::NoCanister));
@@ -193,27 +195,27 @@ impl HeightState {
         Ok(Reply::Bytes(Blob::from_slice(alloc, bytes)?))
     }
 
-    // The manifest of the live state, all of whose bytes are hashed.
+    // The manifest of the state, all of whose bytes are hashed.
     pub fn manifest(&self, alloc: Global) -> Result<Manifest, NoMemory>
-        ensures value { (m : Machine) → KeepsState self.now m → IfOk result (λ found. found ≡ manifest_of m.live) }
+        ensures value { (k : ℕ × State) → KeepsState self.now k → IfOk result (λ found. found ≡ manifest_of k.1) }
         ensures fits { IfOk result FitsText }
     {
         let system = self.sys.encode(alloc)?;
         from_scratch(alloc, system.bytes(), &self.sys, &self.memories)
     }
 
-    /// The root hash of the manifest of the live state, all of whose bytes are hashed.
+    /// The root hash of the manifest of the state, all of whose bytes are hashed.
     pub fn root(&self, alloc: Global) -> Result<Hash32, NoMemory>
-        ensures { (m : Machine) → KeepsState self.now m → IfOk result (λ root. root ≡ root_of m.live) }
+        ensures { (k : ℕ × State) → KeepsState self.now k → IfOk result (λ root. root ≡ root_of k.1) }
     {
         let manifest = self.manifest(alloc)?;
         let meta = manifest.meta(alloc)?;
         Ok(meta.root())
     }
 
-    /// `manifest live`
+    /// What the manifest of the state counts.
     pub fn count_manifest(&self, alloc: Global) -> Result<Reply, NoMemory>
-        ensures { (m : Machine) → KeepsState self.now m → PerformsState result self.now m (Command.Manifest HeightOrLive.Live) }
+        ensures { (k : ℕ × State) → KeepsState self.now k → IfOk result (λ reply. reply ≡ counts_of k.1) }
     {
         let manifest = self.manifest(alloc)?;
         count_manifest(alloc, &manifest)
@@ -245,17 +247,17 @@ impl HeightState {
         })
     }
 
-    /// `tree live`: the root of the tree.
+    /// The root of the tree of the state.
     pub fn tree_root(&self, alloc: Global) -> Result<Hash32, NoMemory>
-        ensures { (m : Machine) → KeepsState self.now m → IfOk result (λ root. root ≡ tree_root m.live) }
+        ensures { (k : ℕ × State) → KeepsState self.now k → IfOk result (λ root. root ≡ tree_root k.1) }
     {
         tree_root_of(alloc, &self.sys)
     }
 
-    /// `witness live PATH ..`
+    /// The witness of these paths in the tree of the state.
     pub fn witness(&self, alloc: Global, paths: &[Path]) -> Result<Blob, NoMemory>
         requires { 1 ≤ length paths.now }
-        ensures { (m : Machine) → KeepsState self.now m → IfOk result (λ text. text ≡ witness_text m.live paths.now) }
+        ensures { (k : ℕ × State) → KeepsState self.now k → IfOk result (λ text. text ≡ witness_text k.1 paths.now) }
     {
         witness_of(alloc, &self.sys, paths)
     }

@@ -1,14 +1,16 @@
 //! The manager of the live state, those in memory and the published ones.
 
-ghost use Rattle.std.specs.Prelude.{◌≡◌, ◌↔◌, ◌≤◌, ◌+◌, ◌^◌, ℕ, List, true, false, Some, None, Ok, Err, length, map, IsTrue, IsErrOf, IfOk, OnOk, OnErr};
+ghost use Rattle.std.specs.Prelude.{◌≡◌, ◌↔◌, ◌≤◌, ◌+◌, ◌^◌, ℕ, List, true, false, Some, None, Ok, Err, length, map, is_some, IsTrue, IsSome, IsErrOf, IfOk, IfErr, OnOk};
 ghost use Rattle.std.specs.List.{last_or};
 ghost use Rattle.std.specs.Option.{option_copied};
 ghost use Rattle.store_spec.specs.Image.{Published, StandsFor, Opens};
+ghost use Rattle.disk_model.specs.declared.name.Name.TheVariants as name;
 ghost use Rattle.disk_model.specs.State.{IsImageNow};
 ghost use Rattle.disk_model.specs.View.{EachImage, LeavesOnly};
 ghost use Rattle.height_store.specs.Bad.{IsFirstBadMark, IsFirstBadPage};
 ghost use Rattle.height_store.specs.Errors.{HasCause as StoreCause};
 ghost use Rattle.height_store.specs.Kept.{IsOver, StandsForSome, StandsAsBefore, StandsForEither};
+ghost use Rattle.height_store.specs.Store.{is_named};
 ghost use Rattle.script_text.specs.Commands.{FitsForm};
 ghost use Rattle.machine_spec.specs.Machine.{Machine, start};
 ghost use Rattle.machine_spec.specs.Step.{step};
@@ -39,7 +41,7 @@ pub struct Manager {
     // The states in memory, ascending by height.
     memory: Vec<HeightState>,
     store: HeightStore,
-    closed: bool,
+    stopped: Option<Stop>,
 }
 
 impl Model for Manager {
@@ -47,14 +49,16 @@ impl Model for Manager {
 
     ghost Value = { Held };
 
-    ghost view = { λ m. record { live = m.live; memory = m.memory.items; store = m.store; closed = m.closed } };
+    ghost view = { λ m. record { live = m.live; memory = m.memory.items; store = m.store; stopped = m.stopped } };
 
-    ghost invariant = { λ m. HaveHeights (record { live = m.live; memory = m.memory.items; store = m.store; closed = m.closed }) };
+    ghost invariant = { λ m. HaveHeights (record { live = m.live; memory = m.memory.items; store = m.store; stopped = m.stopped }) };
 }
 
 impl Manager {
     /// Opens the manager of a disk: goes on from the newest published height, or from nothing, with no state in memory. Of the
     /// pages that are read, a cache may hold so many, from 1 to 65,536; so far nothing is cached.
+    ///
+    /// Then every page file is one that a mark names, there is no draft and no stage file, and the marks are as before.
     ///
     /// BadMark and BadPage as the store says: the first mark by height that is none, or else the first page file by number that a
     /// mark names and that is none. Fault where the disk failed, Memory where memory ran out.
@@ -65,11 +69,15 @@ impl Manager {
         ensures images { IsTrue D.tells → EachImage (D.view disk.old).state StandsForSome
             → LeavesOnly (D.view disk.old) (D.view disk.new) (StandsAsBefore (D.view disk.old).state) }
         ensures over { IsTrue D.tells → IfOk result (λ manager. IsOver manager.store (D.view disk.new).state.files) }
-        ensures usable { IfOk result (λ manager. (manager.closed ≡ false) × (manager.store.given ≡ 0)) }
+        ensures usable { IfOk result (λ manager. (manager.stopped ≡ None) × (manager.store.given ≡ 0)) }
         ensures bad_mark { IsTrue D.tells → (height : ℕ) → IsErrOf result (OpenError.BadMark height) → IsFirstBadMark (D.view disk.old).state.files height }
         ensures bad_page { IsTrue D.tells → (number : ℕ) → IsErrOf result (OpenError.BadPage number) → IsFirstBadPage (D.view disk.old).state.files number }
         ensures bad_keeps { IsTrue D.tells → IsBadFile result → LeavesOnly (D.view disk.old) (D.view disk.new) (IsImageNow (D.view disk.old).state) }
         ensures opens { IsTrue D.tells → OnOk result (Opens (D.view disk.old).state.files) }
+        ensures marks { IsTrue D.tells → OnOk result ((n : ℕ) → (D.view disk.new).state.files (name.Mark n) ≡ (D.view disk.old).state.files (name.Mark n)) }
+        ensures pages { IsTrue D.tells → IfOk result (λ manager. (n : ℕ) → is_some ((D.view disk.new).state.files (name.Page n)) ≡ is_named manager.store.heights n) }
+        ensures no_stage { IsTrue D.tells → OnOk result ((n : ℕ) → (D.view disk.new).state.files (name.Stage n) ≡ None) }
+        ensures appended { IsTrue D.tells → OnOk result ((D.view disk.new).appended ≡ (D.view disk.old).appended) }
         ensures cause { OpensByCause (D.faults disk.old) (D.faults disk.new) result }
     {
         let store = HeightStore::open(alloc, disk)?;
@@ -78,7 +86,7 @@ impl Manager {
             live,
             memory: Vec::new(alloc),
             store,
-            closed: false,
+            stopped: None,
         })
     }
 
@@ -106,7 +114,7 @@ impl Manager {
     fn round(&mut self, alloc: Global) -> Result<Reply, NoMemory>
         ensures step { (m : Machine) → KeepsStates self.old m → Performs result self.new m Command.Round }
         ensures store { self.new.store ≡ self.old.store }
-        ensures same { self.new.closed ≡ self.old.closed }
+        ensures same { self.new.stopped ≡ self.old.stopped }
     {
         if self.memory.len() >= MAX_HEIGHTS {
             return Ok(Reply::Refused(Refusal::ManyHeights));
@@ -125,7 +133,7 @@ impl Manager {
     fn forget(&mut self, height: u64) -> Result<Reply, NoMemory>
         ensures step { (m : Machine) → KeepsStates self.old m → Performs result self.new m (Command.Forget height) }
         ensures store { self.new.store ≡ self.old.store }
-        ensures same { self.new.closed ≡ self.old.closed }
+        ensures same { self.new.stopped ≡ self.old.stopped }
     {
         match find_height(&self.memory, height) {
             Some(_) => {
@@ -311,7 +319,7 @@ impl Manager {
         requires apart { needs_disk command.now ≡ false }
         ensures step { (m : Machine) → KeepsStates self.old m → Performs result self.new m command.now }
         ensures store { self.new.store ≡ self.old.store }
-        ensures same { self.new.closed ≡ self.old.closed }
+        ensures same { self.new.stopped ≡ self.old.stopped }
     {
         match command {
             Command::Canister { id } => self.live.create(alloc, id),
@@ -404,8 +412,8 @@ impl Manager {
     /// at most 2^60 numbers to page files.
     ///
     /// A crash at any moment leaves the published heights before the command or those after it; after Ok it leaves those after.
-    /// Disk where the disk failed, Memory where memory ran out; the manager is closed from then on. Closed exactly where an
-    /// earlier call answered one of them; the disk isn't called then.
+    /// Disk where the disk failed, Memory where memory ran out; the manager is closed from then on, and keeps which it was.
+    /// Closed exactly where an earlier call answered one of them; the disk isn't called then.
     pub fn apply<D: Disk>(
         &mut self,
         alloc: Global,
@@ -414,29 +422,37 @@ impl Manager {
     ) -> Result<Reply, Stop>
         requires fits { FitsForm command.now }
         requires numbers { self.old.store.given ≤ 2 ^ 60 }
-        requires over { IsTrue D.tells → self.old.closed ≡ false → IsOver self.old.store (D.view disk.old).state.files }
+        requires over { IsTrue D.tells → self.old.stopped ≡ None → IsOver self.old.store (D.view disk.old).state.files }
 
         ensures step { IsTrue D.tells → (m : Machine) → Keeps self.old (D.view disk.old).state m → Applies result self.new (D.view disk.new).state m command.now }
         ensures images { IsTrue D.tells → (m : Machine) → Keeps self.old (D.view disk.old).state m
             → LeavesOnly (D.view disk.old) (D.view disk.new) (StandsForEither m.published (step m command.now).after.published) }
         ensures over { IsTrue D.tells → OnOk result (IsOver self.new.store (D.view disk.new).state.files) }
         ensures given { (self.old.store.given ≤ self.new.store.given) × (self.new.store.given ≤ self.old.store.given + 2048) }
-        ensures closed { (result ≡ Err Stop.Closed) ↔ (self.old.closed ≡ true) }
+        ensures closed { (result ≡ Err Stop.Closed) ↔ IsSome self.old.stopped }
         ensures silent { result ≡ Err Stop.Closed → (self.new ≡ self.old) × (disk.new ≡ disk.old) }
-        ensures closes { OnErr result (self.new.closed ≡ true) }
-        ensures stays { OnOk result (self.new.closed ≡ self.old.closed) }
+        ensures closes { IfErr result (λ stop. self.old.stopped ≡ None → self.new.stopped ≡ Some stop) }
+        ensures stays { OnOk result (self.new.stopped ≡ self.old.stopped) }
         ensures cause { HasCause (D.faults disk.old) (D.faults disk.new) result }
     {
-        if self.closed {
+        if self.stopped.is_some() {
             return Err(Stop::Closed);
         }
         match self.perform(alloc, command, disk) {
             Ok(reply) => Ok(reply),
             Err(error) => {
-                self.closed = true;
-                Err(Stop::from(error))
+                let stop = Stop::from(error);
+                self.stopped = Some(stop);
+                Err(stop)
             }
         }
+    }
+
+    /// How an earlier call stopped, and None exactly where none did.
+    pub fn stopped(&self) -> Option<Stop>
+        ensures { result ≡ self.now.stopped }
+    {
+        self.stopped
     }
 
     /// The height of the live state.

@@ -4,15 +4,19 @@ ghost use Rattle.std.specs.Prelude.{◌≡◌};
 ghost use Rattle.state_manager.specs.Causes.{open_error, stop_of};
 
 use height_store::StoreError;
+use thiserror::Error;
 
 /// Why a manager answers no reply.
-#[derive(Clone, Copy, Debug, PartialEq, Eq)]
+#[derive(Clone, Copy, Debug, PartialEq, Eq, Error)]
 pub enum Stop {
     /// The disk failed. The manager is closed from then on.
+    #[error("the disk failed")]
     Disk,
     /// Memory ran out. The manager is closed from then on.
+    #[error("memory ran out")]
     Memory,
     /// An earlier call stopped.
+    #[error("an earlier call stopped")]
     Closed,
 }
 
@@ -28,15 +32,19 @@ impl From<StoreError> for Stop {
 }
 
 /// Why a manager does not open.
-#[derive(Clone, Copy, Debug, PartialEq, Eq)]
+#[derive(Clone, Copy, Debug, PartialEq, Eq, Error)]
 pub enum OpenError {
     /// The mark of this height is none, or there are sixteen before it.
+    #[error("the mark of height {0} is bad")]
     BadMark(u64),
     /// The page file of this number, which a mark names, is absent or none, or has more memory pages than the memory.
+    #[error("page file {0} is bad")]
     BadPage(u64),
     /// The disk failed, and has counted that.
+    #[error("the disk failed")]
     Fault,
     /// Memory ran out.
+    #[error("memory ran out")]
     Memory,
 }
 

@@ -1,6 +1,6 @@
 use Rattle.std.proofs.Common.{map, sym, subst, refl, arith}
 use Rattle.std.proofs.lemmas.List.{length-map}
-use Rattle.state_manager.specs.StateKept.{HeldState, KeepsState}
+use Rattle.state_manager.specs.StateKept.{HeldState, KeepsState, live_of}
 use Rattle.state_manager.proofs.Indexed.{pair_for_each}
 use Rattle.state_manager.proofs.Lines.{step_create}
 use Rattle.state_manager.proofs.Sized.{after_create}
@@ -18,4 +18,4 @@ invariant_of-self c = record {
 }
 
 pub returns : goal.returns
-returns c = λ m k. step_create _ _ m (subst (λ (h : HeldState). KeepsState h m) (sym c.self.view_is) k) (record { height = refl }) c.args.id.now c.create_canister.result c.create_canister.ensures
+returns c = λ m k. step_create _ _ m (subst (λ (h : HeldState). KeepsState h (live_of m)) (sym c.self.view_is) k) (record { height = refl }) c.args.id.now c.create_canister.result c.create_canister.ensures

@@ -1,6 +1,6 @@
-use Rattle.std.proofs.Common.{◌≡◌, map, ap, sym, subst, refl}
+use Rattle.std.proofs.Common.{◌≡◌, ℕ, map, ap, sym, subst, refl}
+use Rattle.state_spec.specs.State.{State}
 use Rattle.height_store.specs.Laws.{over_after}
-use Rattle.machine_spec.specs.Machine.{Machine}
 use Rattle.whole_state.specs.Whole.{HasParts}
 use Rattle.state_manager.specs.StateKept.{HeldState, KeepsState, Publishes}
 use Rattle.state_manager.proofs.Hashed.{fit_memories}
@@ -14,13 +14,13 @@ pub returns-clause-publishes : goal.returns-clause-publishes
 returns-clause-publishes g c =
     let held : HeldState = record { system = c.self.inside.sys; memories = map (λ v. v.items) c.self.inside.memories.items; height = c.self.inside.height } in
     let same : map (λ v. v.items) c.self.inside.memories.items ≡ map (λ v. v.items) c.deref.result.now = ap (map (λ v. v.items)) (sym c.deref.ensures.value) in
-    let parts : (m : Machine) → KeepsState held m → HasParts m.live c.self.inside.sys (map (λ v. v.items) c.deref.result.now) = λ m k. has_parts held m k c.self.inside.sys _ refl same in
+    let parts : (k : ℕ × State) → KeepsState held k → HasParts k.1 c.self.inside.sys (map (λ v. v.items) c.deref.result.now) = λ k keeps. has_parts held k keeps c.self.inside.sys _ refl same in
     subst (λ (h : HeldState). Publishes g.D.Disk.tells h c.args.store.now c.checkpoint.new.store (g.D.Disk.view c.args.disk.now) (g.D.Disk.view c.checkpoint.new.disk) c.checkpoint.result) c.self.view_is
     (record {
-      root = λ m k. c.checkpoint.ensures.root m.live (parts m k);
-      stands = λ told ps m k settled heights.
-          on_ok_both _ _ c.checkpoint.result (on_ok_given _ _ c.checkpoint.result (c.checkpoint.ensures.settled told) settled) (c.checkpoint.ensures.stands told ps m.live (parts m k) settled heights);
-      images = λ told ps m k settled heights. c.checkpoint.ensures.images told ps m.live (parts m k) settled heights;
+      root = λ k keeps. c.checkpoint.ensures.root k.1 (parts k keeps);
+      stands = λ told ps k keeps settled heights.
+          on_ok_both _ _ c.checkpoint.result (on_ok_given _ _ c.checkpoint.result (c.checkpoint.ensures.settled told) settled) (c.checkpoint.ensures.stands told ps k.1 (parts k keeps) settled heights);
+      images = λ told ps k keeps settled heights. c.checkpoint.ensures.images told ps k.1 (parts k keeps) settled heights;
       over = λ told. over_after c.checkpoint.result c.args.store.now c.checkpoint.new.store _ _ (c.requires.over told) (c.checkpoint.ensures.readable told) (c.checkpoint.ensures.writable told);
       given_least = c.checkpoint.ensures.given.least;
       given_most = c.checkpoint.ensures.given.most;

@@ -4,4 +4,4 @@ use Rattle.state_manager.proofs.Hashed.{parts_kept}
 use Rattle.state_manager.proofs.height_state.HeightState.witness.Goals as goal
 
 pub returns : goal.returns
-returns c = λ m k. c.witness_of.ensures m.live (parts_kept c.args.self.now c.self.inside.sys m k (ap (λ (h : HeldState). h.system) c.self.view_is))
+returns c = λ k keeps. c.witness_of.ensures k.1 (parts_kept c.args.self.now c.self.inside.sys k keeps (ap (λ (h : HeldState). h.system) c.self.view_is))

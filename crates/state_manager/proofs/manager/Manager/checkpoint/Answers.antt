@@ -50,7 +50,7 @@ returns-in_err-root-clause-line g c =
     let low : option_map_or (nat_le c.in-Some.state.now.height) (last_or None (heights_in c.self.inside.store.heights)) false ≡ false =
     ap (λ (h : ℕ). option_map_or (nat_le h) (last_or None (heights_in c.self.inside.store.heights)) false) (sym c.height-height.ensures) ∙ sym c.if-is_low.ensures.low in
     let few : length c.self.inside.store.heights < MAX_PUBLISHED = omega (arith, c.count.ensures) in
-    let now : Held = record { live = c.self.inside.live; memory = c.self.inside.memory.items; store = c.publish.new.store; closed = c.self.inside.closed } in
+    let now : Held = record { live = c.self.inside.live; memory = c.self.inside.memory.items; store = c.publish.new.store; stopped = c.self.inside.stopped } in
     subst (λ (h : Held). DoesLine g.D.Disk.tells h now (g.D.Disk.view c.args.disk.now) (g.D.Disk.view c.publish.new.disk) c.from_residual.result commands.Checkpoint) c.self.view_is
     (checkpoint_failed g.D.Disk.tells _ now (g.D.Disk.view c.args.disk.now) (g.D.Disk.view c.publish.new.disk) c.in-Some.state.now last low few refl refl refl (λ told. g.met.D.Disk.reads_as_image c.publish.new.disk told) c.publish.result c.publish.ensures.publishes c.from_residual.result c.from_residual.ensures.0)
 
@@ -60,7 +60,7 @@ returns-clause-line g c =
     let low : option_map_or (nat_le c.in-Some.state.now.height) (last_or None (heights_in c.self.inside.store.heights)) false ≡ false =
     ap (λ (h : ℕ). option_map_or (nat_le h) (last_or None (heights_in c.self.inside.store.heights)) false) (sym c.height-height.ensures) ∙ sym c.if-is_low.ensures.low in
     let few : length c.self.inside.store.heights < MAX_PUBLISHED = omega (arith, c.count.ensures) in
-    let now : Held = record { live = c.self.inside.live; memory = c.self.inside.memory.items; store = c.publish.new.store; closed = c.self.inside.closed } in
+    let now : Held = record { live = c.self.inside.live; memory = c.self.inside.memory.items; store = c.publish.new.store; stopped = c.self.inside.stopped } in
     subst (λ (h : Held). DoesLine g.D.Disk.tells h now (g.D.Disk.view c.args.disk.now) (g.D.Disk.view c.publish.new.disk) (Ok (replies.Published c.height-height.result c.in_ok-root.root)) commands.Checkpoint) c.self.view_is
-    (subst (λ (k : ℕ). DoesLine g.D.Disk.tells (record { live = c.self.inside.live; memory = c.self.inside.memory.items; store = c.self.inside.store; closed = c.self.inside.closed }) now (g.D.Disk.view c.args.disk.now) (g.D.Disk.view c.publish.new.disk) (Ok (replies.Published k c.in_ok-root.root)) commands.Checkpoint) (sym c.height-height.ensures)
+    (subst (λ (k : ℕ). DoesLine g.D.Disk.tells (record { live = c.self.inside.live; memory = c.self.inside.memory.items; store = c.self.inside.store; stopped = c.self.inside.stopped }) now (g.D.Disk.view c.args.disk.now) (g.D.Disk.view c.publish.new.disk) (Ok (replies.Published k c.in_ok-root.root)) commands.Checkpoint) (sym c.height-height.ensures)
     (checkpoint_done g.D.Disk.tells _ now (g.D.Disk.view c.args.disk.now) (g.D.Disk.view c.publish.new.disk) c.in-Some.state.now last low few refl refl refl (λ told. g.met.D.Disk.reads_as_image c.publish.new.disk told) c.publish.result c.publish.ensures.publishes c.in_ok-root.root c.in_ok-root.was))

@@ -4,7 +4,7 @@ use Rattle.height_store.specs.Store.{height_at}
 use Rattle.machine_spec.specs.HeightSteps.{counts_of}
 use Rattle.machine_spec.specs.Machine.{answered}
 use Rattle.state_manager.specs.Kept.{Held}
-use Rattle.state_manager.proofs.Standing.{at_some, counts_kept, knows_some, line_none, performs_in_memory, performs_published}
+use Rattle.state_manager.proofs.Standing.{at_some, knows_some, line_none, performs_in_memory, performs_published}
 use Rattle.state_manager.proofs.manager.Manager.count_manifest.Goals as goal
 
 pub returns-in-Some : goal.returns-in-Some
@@ -17,7 +17,7 @@ pub returns-in-Some-state_at : goal.returns-in-Some-state_at
 returns-in-Some-state_at c = λ m k.
     let n = at_some c.args.self.now m k c.args.at c.in-Some-state_at.state.now c.in-Some-state_at.ensures in
     performs_in_memory c.args.self.now m k c.args.at (commands.Manifest c.args.at) counts_of refl c.in_default.ensures c.in-Some-state_at.state.now c.in-Some-state_at.ensures c.count_manifest.result
-    (counts_kept c.in-Some-state_at.state.now n.0 c.count_manifest.result (c.count_manifest.ensures n.0 n.1))
+    (c.count_manifest.ensures n.0 n.1)
 
 pub returns-in-None : goal.returns-in-None
 returns-in-None c = λ m k. line_none c.args.self.now m k c.args.at c.in_default.ensures c.in-None.ensures (λ s. answered (counts_of s) m)

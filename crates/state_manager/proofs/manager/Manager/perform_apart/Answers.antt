@@ -11,6 +11,6 @@ returns-in_ok-copy-in-Put-2-clause-step c = λ m k.
     let kept = subst (λ (h : Held). KeepsStates h m) (sym c.self-in-Put.view_is) k in
     let path = subst (λ p. PerformsState c.put.result c.put.new.self m (commands.Put p c.in_ok-copy-in-Put-2.field-0)) c.in_ok-copy-in-Put.ensures (c.put.ensures m kept.live) in
     let value = subst (λ v. PerformsState c.put.result c.put.new.self m (commands.Put c.in-Put.path v)) c.in_ok-copy-in-Put-2.ensures path in
-    let now : Held = record { live = c.put.new.self; memory = c.self-in-Put.inside.memory.items; store = c.self-in-Put.inside.store; closed = c.self-in-Put.inside.closed } in
+    let now : Held = record { live = c.put.new.self; memory = c.self-in-Put.inside.memory.items; store = c.self-in-Put.inside.store; stopped = c.self-in-Put.inside.stopped } in
     let done = on_live _ now m (commands.Put c.in-Put.path c.in-Put.value) c.put.result kept refl refl refl (leaves_put (λ n. n.memory) m c.in-Put.path c.in-Put.value refl) (leaves_put (λ n. n.published) m c.in-Put.path c.in-Put.value refl) value in
     subst (λ (command : Command). Performs c.put.result now m command) (sym c.in-Put.is) done

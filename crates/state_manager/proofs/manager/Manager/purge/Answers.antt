@@ -11,8 +11,8 @@ use Rattle.state_manager.proofs.manager.Manager.purge.Goals.{in-Ok, in-Err}
 pub returns-clause-line : goal.returns-clause-line
 returns-clause-line g c =
     let over : IsTrue g.D.Disk.tells → IsOver c.self.inside.store (g.D.Disk.view c.args.disk.now).state.files = λ told. subst (λ (h : Held). IsOver h.store (g.D.Disk.view c.args.disk.now).state.files) (sym c.self.view_is) (c.requires.over told) in
-    let old : Held = record { live = c.self.inside.live; memory = c.self.inside.memory.items; store = c.self.inside.store; closed = c.self.inside.closed } in
-    let now : Held = record { live = c.self.inside.live; memory = c.self.inside.memory.items; store = c.purge.new.self; closed = c.self.inside.closed } in
+    let old : Held = record { live = c.self.inside.live; memory = c.self.inside.memory.items; store = c.self.inside.store; stopped = c.self.inside.stopped } in
+    let now : Held = record { live = c.self.inside.live; memory = c.self.inside.memory.items; store = c.purge.new.self; stopped = c.self.inside.stopped } in
     let says : RepliesTo c.purge.result c.match-purge.result = elim c.match-purge.branch [
       | in-Ok w ↦ subst (λ r. RepliesTo r c.match-purge.result) (sym w.in-Ok.is) w.result-is
       | in-Err w ↦ subst (λ r. RepliesTo r c.match-purge.result) (sym w.in-Err.is) (w.result-is ∙ w.refused_purge.ensures)

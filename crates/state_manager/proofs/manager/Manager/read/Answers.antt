@@ -1,12 +1,13 @@
-use Rattle.std.proofs.Common.{◌∙◌, Ok, ap}
+use Rattle.std.proofs.Common.{◌∙◌, Ok, ap, refl}
 use Rattle.std.proofs.lemmas.Result.{IfOk-weaker}
 use Rattle.disk_model.specs.Looking.{looks_none}
 use Rattle.height_store.specs.Store.{height_at}
 use Rattle.script_text.specs.declared.command.Command.TheVariants as commands
-use Rattle.state_manager.specs.Kept.{Held, standing}
+use Rattle.machine_spec.specs.LiveSteps.{read_reply}
+use Rattle.machine_spec.specs.Machine.{answered}
+use Rattle.state_manager.specs.Kept.{Held}
 use Rattle.state_manager.proofs.DiskLines.{failed_line, looks_line, shown_some, still_line}
-use Rattle.state_manager.proofs.ReadHeights.{reads_at}
-use Rattle.state_manager.proofs.Standing.{asks_none, at_none, at_some, published_none}
+use Rattle.state_manager.proofs.Standing.{asks_none, asks_there, at_none, at_some, published_none}
 use Rattle.state_manager.proofs.manager.Manager.read.Goals as goal
 
 pub returns-in-Some-clause-line : goal.returns-in-Some-clause-line
@@ -14,7 +15,7 @@ returns-in-Some-clause-line g c =
     looks_line g.D.Disk.tells c.args.self.now (g.D.Disk.view c.args.disk.now) _ c.read_published.result (commands.Read c.args.at c.args.id.now c.args.mem c.args.offset c.args.len) c.requires.over c.read_published.ensures.looks
     (λ told m k.
     let p = shown_some c.args.self.now _ m (g.met.D.Disk.reads_as_image c.args.disk.now told) k c.args.at c.in-Some.height c.in-Some.ensures in
-    IfOk-weaker c.read_published.result _ _ (λ reply is. reads_at m c.args.at (standing (p.published.height, p.published.state)) p.state c.args.id.now c.args.mem c.args.offset c.args.len reply is)
+    IfOk-weaker c.read_published.result _ _ (λ reply is. asks_there m c.args.at p.published.state p.state (λ s. answered (read_reply s c.args.id.now c.args.mem c.args.offset c.args.len) m) reply is refl)
     (c.read_published.ensures.reply told p.stored p.published (ap (λ (h : Held). height_at h.store.heights c.in-Some.height) c.self.view_is ∙ p.found) p.related))
 
 pub returns-in_err-read-in-Some-state_at-clause-line : goal.returns-in_err-read-in-Some-state_at-clause-line
@@ -26,7 +27,7 @@ returns-in_ok-read-in-Some-state_at-clause-line g c =
     still_line g.D.Disk.tells c.args.self.now (g.D.Disk.view c.args.disk.now) (Ok c.in_ok-read-in-Some-state_at.field-0) (commands.Read c.args.at c.args.id.now c.args.mem c.args.offset c.args.len) c.requires.over
     (λ told m k.
     let n = at_some c.args.self.now m k.states c.args.at c.in-Some-state_at.state.now c.in-Some-state_at.ensures in
-    reads_at m c.args.at n.0 (published_none c.args.self.now m k.states c.args.at c.in_default.ensures ∙ n.2) c.args.id.now c.args.mem c.args.offset c.args.len c.in_ok-read-in-Some-state_at.field-0 (c.in_ok-read-in-Some-state_at.ensures n.0 n.1).0)
+    asks_there m c.args.at n.0.1 (published_none c.args.self.now m k.states c.args.at c.in_default.ensures ∙ n.2) (λ s. answered (read_reply s c.args.id.now c.args.mem c.args.offset c.args.len) m) c.in_ok-read-in-Some-state_at.field-0 (c.in_ok-read-in-Some-state_at.ensures n.0 n.1) refl)
 
 pub returns-in-None-clause-line : goal.returns-in-None-clause-line
 returns-in-None-clause-line g c =

@@ -30,7 +30,7 @@ returns-in_err-self-inside-clause-line g c = failed_line g.D.Disk.tells c.args.s
 pub returns-clause-line : goal.returns-clause-line
 returns-clause-line g c =
     let over : IsTrue g.D.Disk.tells → IsOver c.self.inside.store (g.D.Disk.view c.args.disk.now).state.files = λ told. subst (λ (h : Held). IsOver h.store (g.D.Disk.view c.args.disk.now).state.files) (sym c.self.view_is) (c.requires.over told) in
-    let now : Held = record { live = c.in_ok-self-inside.field-0; memory = c.clear.new.self.items; store = c.self.inside.store; closed = c.self.inside.closed } in
+    let now : Held = record { live = c.in_ok-self-inside.field-0; memory = c.clear.new.self.items; store = c.self.inside.store; stopped = c.self.inside.stopped } in
     subst (λ (h : Held). DoesLine g.D.Disk.tells h now (g.D.Disk.view c.args.disk.now) (g.D.Disk.view c.begin.new.disk) (Ok replies.Fine) (commands.Reset c.args.height)) c.self.view_is
     (reset_done g.D.Disk.tells _ now (g.D.Disk.view c.args.disk.now) (g.D.Disk.view c.begin.new.disk) c.args.height (λ told. g.met.D.Disk.reads_as_image c.begin.new.disk told) over c.begin.ensures.looks (sym c.if-not-is_published.ensures) (sym c.if-not-is_newest.ensures)
     refl refl c.clear.ensures.items (λ told ps each. c.in_ok-self-inside.ensures.state told ps each) (λ told. g.met.D.Disk.reads_as_image c.args.disk.now told))

@@ -1,4 +1,4 @@
-use Rattle.std.proofs.Common.{◌∷◌, ◌∙◌, [], Ok, ap, refl}
+use Rattle.std.proofs.Common.{◌+◌, ◌∙◌, Ok, ap, refl}
 use Rattle.disk_model.specs.Looking.{looks_none}
 use Rattle.format_spec.specs.Bytes.{Bytes}
 use Rattle.state_spec.specs.Root.{root_of}
@@ -6,7 +6,7 @@ use Rattle.height_store.specs.Store.{height_at}
 use Rattle.whole_state.specs.Laws.{shown_known}
 use Rattle.script_text.specs.declared.command.Command.TheVariants as commands
 use Rattle.script_text.specs.declared.reply.Reply.TheVariants as replies
-use Rattle.machine_spec.specs.Machine.{answered, start}
+use Rattle.machine_spec.specs.Machine.{answered, opened}
 use Rattle.state_manager.specs.Kept.{Held}
 use Rattle.state_manager.proofs.DiskLines.{failed_line, looks_line, shown_some, still_line}
 use Rattle.state_manager.proofs.Standing.{asks_none, asks_there, at_none, at_some, published_none}
@@ -24,7 +24,7 @@ returns-in-Some-clause-line g c =
     (λ told m k.
     let p = shown_some c.args.self.now _ m (g.met.D.Disk.reads_as_image c.args.disk.now told) k c.args.at c.in-Some.height c.in-Some.ensures in
     let state = c.in_ok-state.ensures.state told p.stored p.published (ap (λ (h : Held). height_at h.store.heights c.in-Some.height) c.self.view_is ∙ p.found) p.related in
-    let root = c.in_ok-root.ensures (start (p.published ∷ [])) state ∙ (shown_known _ p.stored p.published p.related).same_root in
+    let root = c.in_ok-root.ensures (p.published.height + 1, opened p.published) state ∙ (shown_known _ p.stored p.published p.related).same_root in
     asks_there m c.args.at p.published.state p.state (λ s. answered (replies.Scratch (root_of s)) m) (replies.Scratch c.in_ok-root.field-0) (ap (λ (r : Bytes). replies.Scratch r) root) refl)
 
 pub returns-in_err-root-in-Some-state_at-clause-line : goal.returns-in_err-root-in-Some-state_at-clause-line
@@ -36,7 +36,7 @@ returns-in_ok-root-in-Some-state_at-clause-line g c =
     still_line g.D.Disk.tells c.args.self.now (g.D.Disk.view c.args.disk.now) (Ok (replies.Scratch c.in_ok-root-in-Some-state_at.field-0)) (commands.Scratch c.args.at) c.requires.over
     (λ told m k.
     let n = at_some c.args.self.now m k.states c.args.at c.in-Some-state_at.state.now c.in-Some-state_at.ensures in
-    asks_there m c.args.at n.0.live (published_none c.args.self.now m k.states c.args.at c.in_default.ensures ∙ n.2) (λ s. answered (replies.Scratch (root_of s)) m)
+    asks_there m c.args.at n.0.1 (published_none c.args.self.now m k.states c.args.at c.in_default.ensures ∙ n.2) (λ s. answered (replies.Scratch (root_of s)) m)
     (replies.Scratch c.in_ok-root-in-Some-state_at.field-0) (ap (λ (r : Bytes). replies.Scratch r) (c.in_ok-root-in-Some-state_at.ensures n.0 n.1)) refl)
 
 pub returns-in-None-clause-line : goal.returns-in-None-clause-line

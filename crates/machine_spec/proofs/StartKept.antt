@@ -1,0 +1,60 @@
+-- The machine of a store that opens at published heights is sound, and so is one that begins again at the newest of them.
+use Rattle.std.proofs.Common.{◌≡◌, ℕ, ◌+◌, ◌<◌, List, [], ◌∷◌, Option, Some, None, refl, arith}
+use Rattle.std.specs.List.{AllByRecursion, last_or}
+use Rattle.store_spec.specs.Image.{Published, heights_of}
+use Rattle.machine_spec.specs.Machine.{Machine, anew, newest, resumed, resumed_at}
+use Rattle.machine_spec.specs.Sound.{IsSound, AreHeights, MayBegin, EachLater, StartIsSound}
+use Rattle.machine_spec.proofs.Lists.{last_holds}
+use Rattle.machine_spec.proofs.Opened.{opened_within}
+
+-- the newest is the highest
+up_to_newest : (ps : List Published) (p : Published) → EachLater (λ (a b : ℕ). a < b) (heights_of ps) → last_or None ps ≡ Some p → AllByRecursion (λ q. q.height < p.height + 1) ps
+up_to_newest [] p each e = tt
+up_to_newest (q ∷ []) p each e = let same : q.height ≡ p.height = cc in (omega (arith, same), tt)
+up_to_newest (q ∷ r ∷ ps) p each e =
+    let rest = up_to_newest (r ∷ ps) p each.1 e in
+    (omega (arith, each.0.0, rest.0), rest)
+
+resumed_sound : (m : Machine) (p : Published) → AreHeights m.published → newest m.published ≡ Some p → IsSound (resumed p m)
+resumed_sound m p h e =
+    let may : MayBegin p = last_holds MayBegin None m.published p tt h.each e in
+    record {
+      live = may.whole;
+      memory = tt;
+      within = (opened_within p (p.height + 1) (omega arith), tt);
+      ascends = ((omega arith, tt), (tt, tt));
+      published = h;
+      above = up_to_newest m.published p h.ascend e;
+      few_in_memory = omega arith;
+    }
+
+pub resumed_is_sound : (m : Machine) → IsSound m → IsSound (resumed_at (newest m.published) m)
+resumed_is_sound m s = by (newest m.published) refl
+  where
+    by : (o : Option Published) → newest m.published ≡ o → IsSound (resumed_at o m)
+    by None e = s
+    by (Some p) e = resumed_sound m p s.published e
+
+-- nothing is published where there is no newest height
+none_above : (ps : List Published) → newest ps ≡ None → AllByRecursion (λ p. p.height < 1) ps
+none_above [] e = tt
+none_above (p ∷ ps) e = absurd (never p ps e)
+  where
+    never : (p : Published) (ps : List Published) → last_or (Some p) ps ≡ None → ⊥
+    never p [] e = cc
+    never p (q ∷ ps) e = never q ps e
+
+pub start_is_sound : (ps : List Published) → StartIsSound ps
+start_is_sound ps h = by (newest ps) refl
+  where
+    by : (o : Option Published) → newest ps ≡ o → IsSound (resumed_at o (anew ps))
+    by None e = record {
+      live = record { version = refl; sorted = refl; memories = tt };
+      memory = tt;
+      within = (tt, tt);
+      ascends = ((omega arith, tt), (tt, tt));
+      published = h;
+      above = none_above ps e;
+      few_in_memory = omega arith;
+    }
+    by (Some p) e = resumed_sound (anew ps) p h e

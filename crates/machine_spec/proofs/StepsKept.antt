@@ -1,0 +1,58 @@
+-- Soundness is kept by every step, and so by turns.
+use Rattle.std.proofs.Common.{Bool, true, false, [], ◌∷◌, List, Option, Some, None, if◌then◌else◌}
+use Rattle.state_spec.specs.Root.{root_of}
+use Rattle.script_text.specs.Commands.{command_of}
+use Rattle.script_text.specs.Script.{is_silent}
+use Rattle.script_text.specs.declared.command.Command.{Command}
+use Rattle.script_text.specs.declared.command.Command.TheVariants.{Canister, Remove, Grow, Write, Module, Certify, Time}
+use Rattle.script_text.specs.declared.command.Command.TheVariants.{Put, Del, Read, Heights, Root, Manifest, Round, Forget, Tree, Witness, Check}
+use Rattle.script_text.specs.declared.command.Command.TheVariants.{Checkpoint, Scratch, Purge, Reset}
+use Rattle.script_text.specs.declared.reply.Reply.TheVariants as replies
+use Rattle.machine_spec.specs.Machine.{Machine}
+use Rattle.machine_spec.specs.HeightSteps.{tree_root, counts_of}
+use Rattle.machine_spec.specs.LiveSteps.{read_reply}
+use Rattle.machine_spec.specs.WitnessSteps.{witness_text}
+use Rattle.machine_spec.specs.Answers.{Turn, after_command, after_turn, after_turns}
+use Rattle.machine_spec.specs.Sound.{IsSound, StepKeeps}
+use Rattle.machine_spec.proofs.LiveKept.{canister_kept, drop_kept, grow_kept, write_kept, module_kept, certify_kept, time_kept, put_kept, del_kept}
+use Rattle.machine_spec.proofs.HeightKept.{asked_kept, round_kept, forget_kept, checkpoint_kept, purge_kept, reset_kept}
+
+pub step_keeps : (m : Machine) (command : Command) → StepKeeps m command
+step_keeps m (Canister id) s = canister_kept m id s
+step_keeps m (Remove id) s = drop_kept m id s
+step_keeps m (Grow id mem pages) s = grow_kept m id mem pages s
+step_keeps m (Write id mem offset bytes) s = write_kept m id mem offset bytes s
+step_keeps m (Module id wasm) s = module_kept m id wasm s
+step_keeps m (Certify id bytes) s = certify_kept m id bytes s
+step_keeps m (Time time) s = time_kept m time s
+step_keeps m (Put path value) s = put_kept m path value s
+step_keeps m (Del path) s = del_kept m path s
+step_keeps m (Read at id mem offset len) s = asked_kept m at (λ t. read_reply t id mem offset len) s
+step_keeps m Heights s = s
+step_keeps m (Root at) s = asked_kept m at (λ t. replies.Root (root_of t)) s
+step_keeps m (Manifest at) s = asked_kept m at counts_of s
+step_keeps m Round s = round_kept m s
+step_keeps m (Forget height) s = forget_kept m height s
+step_keeps m Checkpoint s = checkpoint_kept m s
+step_keeps m (Purge height) s = purge_kept m height s
+step_keeps m (Reset height) s = reset_kept m height s
+step_keeps m (Scratch at) s = asked_kept m at (λ t. replies.Scratch (root_of t)) s
+step_keeps m (Tree at) s = asked_kept m at (λ t. replies.Tree (tree_root t)) s
+step_keeps m (Witness at paths) s = asked_kept m at (λ t. replies.Witness (witness_text t paths)) s
+step_keeps m (Check root bytes path) s = s
+
+command_keeps : (m : Machine) (o : Option Command) → IsSound m → IsSound (after_command m o)
+command_keeps m None s = s
+command_keeps m (Some command) s = step_keeps m command s
+
+turn_keeps : (m : Machine) (turn : Turn) → IsSound m → IsSound (after_turn m turn)
+unfolding after_turn
+turn_keeps m turn s = by (is_silent turn.line)
+  where
+    by : (b : Bool) → IsSound (if b then m else after_command m (command_of turn.line))
+    by true = s
+    by false = command_keeps m (command_of turn.line) s
+
+pub turns_keep : (m : Machine) (turns : List Turn) → IsSound m → IsSound (after_turns m turns)
+turns_keep m [] s = s
+turns_keep m (turn ∷ turns) s = turns_keep (after_turn m turn) turns (turn_keeps m turn s)
