@@ -19,9 +19,10 @@ use Rattle.state_spec.proofs.BothWays.{system_found, system_again}
 use Rattle.state_spec.proofs.SystemSizes.{system_size}
 use Rattle.manifest.specs.Fits.{FitSums}
 use Rattle.store_spec.specs.Mark.{Mark, MarkMemory, mark_body, mark_memory_text, hashes_text, FitsMemory, IsMark}
-use Rattle.mark_file.specs.declared.error.Stop.{Stop}
-use Rattle.mark_file.specs.declared.error.Stop.TheVariants as stops
-use Rattle.mark_file.specs.Gives.{Fails}
+use Rattle.byte_codec.specs.declared.error.FieldError.{FieldError}
+use Rattle.byte_codec.specs.declared.error.FieldError.TheVariants as errors
+use Rattle.mark_file.specs.Stops.{stop_of}
+use Rattle.byte_codec.specs.Gives.{Fails}
 use Rattle.mark_file.specs.Reading.{head_fields, memory_after}
 use Rattle.mark_file.specs.Spells.{IsBody, SpellsBody, Reads, root_from}
 use Rattle.mark_file.proofs.MemoryLaws.{memories_law, sums_fit}
@@ -84,9 +85,9 @@ read_memories pages = each (memory_after pages) (length pages) []
 
 -- ---- where reading stopped, though each mark of the height would have been read on
 
-pub refused : {X Y : Type 0} (Q : Y → Type 0) (P : Mark → Type 0) (e : Stop) (r : Result X ℕ) → Fails e r → ((m : Mark) → P m → (x : X) × (r ≡ Ok x)) → Reads Q P (Err e)
-refused Q P stops.Memory r failed must = tt
-refused Q P stops.Broken r failed must = λ m p. let x = must m p in absurd (let none = sym (ap as_option x.1) ∙ failed in cc)
+pub refused : {X Y : Type 0} (Q : Y → Type 0) (P : Mark → Type 0) (e : FieldError) (r : Result X ℕ) → Fails e r → ((m : Mark) → P m → (x : X) × (r ≡ Ok x)) → Reads Q P (Err (stop_of e))
+refused Q P errors.Memory r failed must = tt
+refused Q P (errors.Bad place) r failed must = λ m p. let x = must m p in absurd (let none = sym x.1 ∙ failed in cc)
 
 module _ (height : ℕ) (body : Bytes) (fits : height ≤ MAX_HEIGHT) (start : Cursor) (at_front : start ≡ cursor 0 body) where
   small : height < 2 ^ 64

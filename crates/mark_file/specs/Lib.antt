@@ -1,4 +1,4 @@
 pub mod Fits
-pub mod Gives
+pub mod Stops
 pub mod Reading
 pub mod Spells

@@ -7,11 +7,11 @@ ghost use Rattle.mark_file.specs.Spells.{Spells, SpellsBoth, Decodes, DecodesBot
 
 use crate::ending::{chunk_hashes, ending, root_hash};
 use crate::error::{MarkError, Stop};
-use crate::fields::{VERSION, hashed_body, read_head, read_parts, same};
+use crate::fields::{hashed_body, read_head, read_parts};
 use crate::mark::Mark;
 use crate::memories::{pages_of_memories, read_mems};
-use byte_codec::{Blob, Reader};
-use format_spec::MAX_HEIGHT;
+use byte_codec::{Blob, Reader, is_same};
+use format_spec::{MAX_HEIGHT, VERSION};
 use std::alloc::Global;
 use sys_state::SysState;
 
@@ -72,7 +72,7 @@ fn read_body(alloc: Global, height: u64, body: &[u8]) -> Result<(Mark, SysState)
     let system_sums = chunk_hashes(alloc, system)?;
     let root = root_hash(alloc, system, &sys, &mems)?;
     let end = ending(alloc, &system_sums, &root)?;
-    if !same(reader.rest(), &end) {
+    if !is_same(reader.rest(), &end) {
         return Err(Stop::Broken);
     }
     Ok((

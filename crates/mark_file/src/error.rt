@@ -2,16 +2,19 @@
 
 ghost use Rattle.std.specs.Prelude.{◌≡◌};
 ghost use Rattle.mark_file.specs.declared.error.Stop.TheVariants.{Memory};
+ghost use Rattle.mark_file.specs.Stops.{stop_of};
 
-use byte_codec::NoMemory;
-use std::alloc::{AllocError, AllocFailed};
+use byte_codec::{FieldError, NoMemory};
+use thiserror::Error;
 
 /// Why bytes give no mark.
-#[derive(Clone, Copy, Debug, PartialEq, Eq)]
+#[derive(Clone, Copy, Debug, PartialEq, Eq, Error)]
 pub enum MarkError {
     /// They spell no mark of this height.
+    #[error("the bytes spell no mark of height {0}")]
     BadMark(u64),
     /// Memory ran out.
+    #[error("memory ran out")]
     Memory,
 }
 
@@ -24,26 +27,21 @@ pub(crate) enum Stop {
     Memory,
 }
 
+impl From<FieldError> for Stop {
+    ghost from_gives = { λ error e. e ≡ stop_of error };
+
+    fn from(error: FieldError) -> Stop {
+        match error {
+            FieldError::Bad(_) => Stop::Broken,
+            FieldError::Memory => Stop::Memory,
+        }
+    }
+}
+
 impl From<NoMemory> for Stop {
     ghost from_gives = { λ _ e. e ≡ Memory };
 
     fn from(_error: NoMemory) -> Stop {
-        Stop::Memory
-    }
-}
-
-impl From<AllocError> for Stop {
-    ghost from_gives = { λ _ e. e ≡ Memory };
-
-    fn from(_error: AllocError) -> Stop {
-        Stop::Memory
-    }
-}
-
-impl<T: Drop> From<AllocFailed<T>> for Stop {
-    ghost from_gives = { λ _ e. e ≡ Memory };
-
-    fn from(_error: AllocFailed<T>) -> Stop {
         Stop::Memory
     }
 }

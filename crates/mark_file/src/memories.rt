@@ -5,14 +5,13 @@ ghost use Rattle.format_spec.specs.Fields.{each, field, block, any};
 ghost use Rattle.state_spec.specs.Files.{memories_in};
 ghost use Rattle.sys_state.specs.System.{part_of};
 ghost use Rattle.mark_file.specs.Reading.{layer_after, hash_after, memory_of, memory_after};
-ghost use Rattle.mark_file.specs.Gives.{Gives};
+ghost use Rattle.byte_codec.specs.Gives.{Gives};
 
-use crate::error::Stop;
-use crate::fields::{read_hash, read_layer, read_layer_count};
+use crate::fields::{read_layer, read_layer_count};
 use crate::mark::MarkMem;
-use byte_codec::{NoMemory, Reader};
+use byte_codec::{FieldError, NoMemory, Reader};
 use format_spec::CHUNK_PAGES;
-use hash_domain::Hash32;
+use hash_domain::{Hash32, read_hash};
 use std::alloc::Global;
 use sys_state::SysState;
 
@@ -36,7 +35,7 @@ pub(crate) fn read_mems(
     alloc: Global,
     reader: &mut Reader,
     pages: &[u32],
-) -> Result<Vec<MarkMem>, Stop>
+) -> Result<Vec<MarkMem>, FieldError>
     ensures { Gives (λ mems. (mems.items, reader.new)) result (each (memory_after pages.now) (length pages.now) [] reader.old) }
 {
     let mut mems = Vec::new(alloc);
@@ -48,7 +47,7 @@ pub(crate) fn read_mems(
 
 // What it says of a memory of so many pages.
 #[tactic(auto, unfolding(crate::specs::Reading::memory_of))]
-fn read_mem(alloc: Global, reader: &mut Reader, pages: u32) -> Result<MarkMem, Stop>
+fn read_mem(alloc: Global, reader: &mut Reader, pages: u32) -> Result<MarkMem, FieldError>
     ensures { Gives (λ mem. (mem, reader.new)) result (memory_of pages reader.old) }
 {
     let count = read_layer_count(reader, pages)?;
@@ -57,7 +56,7 @@ fn read_mem(alloc: Global, reader: &mut Reader, pages: u32) -> Result<MarkMem, S
     Ok(MarkMem { layers, sums })
 }
 
-fn read_layers(alloc: Global, reader: &mut Reader, count: u32) -> Result<Vec<u64>, Stop>
+fn read_layers(alloc: Global, reader: &mut Reader, count: u32) -> Result<Vec<u64>, FieldError>
     ensures { Gives (λ layers. (layers.items, reader.new)) result (each layer_after count [] reader.old) }
 {
     let mut layers = Vec::new(alloc);
@@ -67,7 +66,7 @@ fn read_layers(alloc: Global, reader: &mut Reader, count: u32) -> Result<Vec<u64
     Ok(layers)
 }
 
-fn read_hashes(alloc: Global, reader: &mut Reader, count: u32) -> Result<Vec<Hash32>, Stop>
+fn read_hashes(alloc: Global, reader: &mut Reader, count: u32) -> Result<Vec<Hash32>, FieldError>
     ensures { Gives (λ hashes. (hashes.items, reader.new)) result (each hash_after count [] reader.old) }
 {
     let mut hashes = Vec::new(alloc);

@@ -1,7 +1,6 @@
--- The bytes of an ask, written into their places, and a hash read.
+-- The bytes of an ask, written into their places.
 use Rattle.std.proofs.Common.{◌≡◌, ℕ, ◌+◌, ◌≤◌, Bool, true, false, [], ◌∷◌, ◌++◌, length, take, drop, set, Option, Some, None, Ok, refl, sym, ap, ◌∙◌, append_assoc, arith}
 use Rattle.std.specs.Prelude.{nat_lt, option_map, IfSome}
-use Rattle.std.proofs.lemmas.Bool.{ltb-false}
 use Rattle.std.proofs.lemmas.List.{take_at, drop_at, set_at, length-append, length-take, append-nil}
 use borrow.Rule.Slice.PartMut.{put_mid}
 use Rattle.format_spec.specs.Bytes.{Bytes, IsBytes, be64}
@@ -9,8 +8,6 @@ use Rattle.sync_spec.specs.Messages.{Ask, IsAsk, ask_text, item_text, read_ask}
 use Rattle.sync_spec.proofs.Asks.{ask_found}
 use Rattle.sync_plan.specs.declared.ask.Ask as code
 use Rattle.sync_plan.specs.Views.{ask_of}
-use Rattle.format_spec.specs.Fields.{Cursor, field, block, any}
-use Rattle.format_spec.proofs.Readings.{ok_is}
 
 -- bytes of a part between two others
 mid_put : (front old behind new : Bytes) (a k : ℕ) → length front ≡ a → length old ≡ k → put_mid a k (front ++ (old ++ behind)) new ≡ front ++ (new ++ behind)
@@ -44,16 +41,3 @@ pub ask_in : (s : Bytes) → IsBytes s → (o : Option code.Ask) → option_map 
 unfolding read_ask
 ask_in s bytes None e = tt
 ask_in s bytes (Some a) e = ask_found s (ask_of a) bytes (sym e)
-
--- a block that was read has its length
-pub block_length : (n : ℕ) (c : Cursor) (x : Bytes) (d : Cursor) → field (block n) any c ≡ Ok (x, d) → length x ≡ n
-block_length n c x d e = go (nat_lt (length c.rest) n) refl e
-  where
-    go : (b : Bool) → nat_lt (length c.rest) n ≡ b → field (block n) any c ≡ Ok (x, d) → length x ≡ n
-    go true is h = absurd (let other = rw is at h in cc)
-    go false is h =
-        let long : n ≤ length c.rest = ltb-false (length c.rest) n is in
-        let read = rw is at h in
-        let same : take n c.rest ≡ x = ap (λ (p : Bytes × Cursor). p.0) (ok_is (take n c.rest, record { at = c.at + n; rest = drop n c.rest }) (x, d) read) in
-        let front : length (take n c.rest) ≡ n = omega (arith, length-take n c.rest) in
-        sym (ap length same) ∙ front

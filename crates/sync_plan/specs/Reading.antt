@@ -1,8 +1,7 @@
 -- What a call that reads found, against the reading that it stands for.
-use Rattle.std.specs.Prelude.{◌≡◌, ◌==◌, ℕ, nat_lt, nat_le, ◌&&◌, Option, Some, None, Ok}
+use Rattle.std.specs.Prelude.{◌≡◌, nat_le, Option, Some, None, Ok}
 use Rattle.std.specs.Int.{w32}
 use Rattle.format_spec.specs.Fields.{Cursor, Reading, ◌>>=◌, gives, field, byte, number}
-use Rattle.format_spec.specs.declared.limits.TheConstants.{MAX_PIECES}
 use Rattle.state_spec.specs.Root.{as_option}
 use Rattle.sync_spec.specs.Messages.{Item, item_of, fits_kind, Content, content_behind}
 
@@ -21,9 +20,3 @@ item_fields = do
 -- a flag, and the bytes behind it
 unfoldable pub content_fields : Reading Content
 content_fields = field byte (λ f. nat_le f 1) >>= content_behind
-
--- the number of pieces of an encoded meta-manifest, behind its version
-unfoldable pub piece_count : Reading ℕ
-piece_count = do
-  _ ← field (number w32) (λ n. n == 1)
-  field (number w32) (λ n. nat_lt 0 n && nat_le n MAX_PIECES)

@@ -7,9 +7,9 @@ ghost use Rattle.sync_spec.specs.Messages.{IsAnswer, ask_text, answer_text, read
 ghost use Rattle.sync_plan.specs.Views.{ask_of, content_of, answer_of};
 ghost use Rattle.sync_plan.specs.Reading.{content_fields};
 
-use crate::ask::{ASK_SIZE, Ask, read_ask};
+use crate::ask::{Ask, read_ask};
 use byte_codec::{Blob, NoMemory, Reader, Writer};
-use format_spec::MAX_ANSWER;
+use format_spec::{ASK_SIZE, MAX_ANSWER};
 use std::alloc::Global;
 
 /// What is answered for an item.

@@ -2,7 +2,7 @@
 
 ghost use Rattle.std.specs.Prelude.{◌≡◌, ◌&&◌, ℕ, nat_lt, nat_le, option_map, IfSome};
 ghost use Rattle.std.specs.Int.{w64};
-ghost use Rattle.format_spec.specs.Fields.{field, number, block, any};
+ghost use Rattle.format_spec.specs.Fields.{field, number};
 ghost use Rattle.format_spec.specs.declared.limits.TheConstants.{MAX_HEIGHT};
 ghost use Rattle.sync_spec.specs.Messages.{IsAsk, ask_text, ask_fields, read_ask as ask_in};
 ghost use Rattle.sync_plan.specs.Views.{ask_of};
@@ -10,11 +10,8 @@ ghost use Rattle.sync_plan.specs.Reading.{Finds};
 
 use crate::item::{Item, read_item};
 use byte_codec::Reader;
-use format_spec::{HASH_SIZE, MAX_HEIGHT as HIGHEST};
-use hash_domain::Hash32;
-
-/// Bytes in an ask.
-pub const ASK_SIZE: usize = 45;
+use format_spec::{ASK_SIZE, MAX_HEIGHT as HIGHEST};
+use hash_domain::{Hash32, read_hash};
 
 /// A state that was published: its height, and its root hash.
 #[derive(Clone, Copy, Debug, PartialEq, Eq)]
@@ -72,7 +69,7 @@ pub(crate) fn read_ask(reader: &mut Reader) -> Option<Ask>
     ensures { Finds ask_of ask_fields reader.old reader.new result }
 {
     let height = read_height(reader)?;
-    let root = read_root(reader)?;
+    let root = read_hash(reader).ok()?;
     let item = read_item(reader)?;
     Some(Ask {
         target: Target { height, root },
@@ -88,15 +85,4 @@ fn read_height(reader: &mut Reader) -> Option<u64>
         Ok(height) if 0 < height && height <= HIGHEST => Some(height),
         _ => None,
     }
-}
-
-fn read_root(reader: &mut Reader) -> Option<Hash32>
-    ensures { Finds (λ hash. hash) (field (block 32) any) reader.old reader.new result }
-{
-    let Ok(bytes) = reader.bytes(HASH_SIZE) else {
-        return None;
-    };
-    let mut hash = [0; HASH_SIZE];
-    hash.copy_from_slice(bytes);
-    Some(Hash32(hash))
 }

@@ -4,11 +4,13 @@
 mod answer;
 mod ask;
 mod item;
+mod laws;
 mod right;
 #[cfg(test)]
 mod tests;
 
 pub use answer::{Answer, Content};
-pub use ask::{ASK_SIZE, Ask, Target};
+pub use ask::{Ask, Target};
 pub use item::Item;
+pub use laws::views_tell_values_apart;
 pub use right::{Known, is_right};

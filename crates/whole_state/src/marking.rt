@@ -16,16 +16,13 @@ ghost use Rattle.whole_state.specs.Whole.{HasParts};
 ghost use Rattle.whole_state.specs.Written.{IsWholeStack};
 
 use byte_codec::{Blob, NoMemory};
-use format_spec::CHUNK_SIZE;
+use format_spec::{CHUNK_SIZE, VERSION};
 use hash_domain::{Hash32, chunk_hash};
 use layer_stack::Stack;
 use manifest::Manifest;
 use mark_file::{Mark, MarkMem};
 use std::alloc::Global;
 use sys_state::SysState;
-
-/// The version of a mark.
-const VERSION: u32 = 1;
 
 /// The mark of a height, from 1 to 2^62, for a state with this system text whose memories have these bytes and are written
 /// whole to these page files. NoMemory where memory runs out.

@@ -12,4 +12,4 @@ pub returns : goal.returns
 returns c =
     all_canisters c.args.sys.now.canisters _ _ _ _ _ c.in_ok-all.all c.in_ok-under.field-0
     (λ e. c.if-canisters-eq0.false (c.canisters.ensures.count ∙ e)) c.in_ok-push_ids.ensures c.canisters-2.ensures.count c.in_ok-all.ensures.taken
-    (c.in_ok-under.ensures ∙ ap (λ l. labeled l (tree_view c.in_ok-all.all)) c.in_ok-from_slice.ensures) c.in_ok-push.ensures.items
+    (c.in_ok-under.ensures ∙ ap (λ l. labeled l (tree_view c.in_ok-all.all)) c.in_ok-from_slice.ensures.value) c.in_ok-push.ensures.items

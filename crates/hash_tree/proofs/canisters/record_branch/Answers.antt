@@ -14,7 +14,7 @@ returns-in-None c = record_none (part_of_record c.args.record.now) _ c.in-None.i
 
 pub returns-in_ok-leaf_under-in-Some : goal.returns-in_ok-leaf_under-in-Some
 returns-in_ok-leaf_under-in-Some c =
-    let hash = c.in_ok-hash-in-Some.ensures ∙ c.bytes-in-Some.ensures.value ∙ c.plain_hash.ensures ∙ ap sha256 c.bytes.ensures in
+    let hash = c.in_ok-hash-in-Some.ensures.value ∙ c.bytes-in-Some.ensures.value ∙ c.plain_hash.ensures ∙ ap sha256 c.bytes.ensures.value in
     let hashed = c.in_ok-leaf_under-in-Some.ensures ∙ ap (λ b. labeled (codes "module_hash") (leaf b)) hash in
     ok_then c.beside.result _ (λ b. tree_view b ≡ record_tree (part_of_record c.args.record.now)) c.beside.ensures
     (λ b e. record_some (part_of_record c.args.record.now) c.in-Some.module _ _ _ c.in-Some.is

@@ -44,25 +44,25 @@ root_hash-requires-clause-fit c =
     (part_of c.in_ok-sys.sys) c.in_ok-sys.ensures.gives c.deref.result.now (c.deref.ensures.value ∙ c.in_ok-pages.ensures) c.in_ok-mems.mems.items c.read_mems.new.reader c.in_ok-mems.ensures
     (λ i. omega (arith, c.type_inv.body i)))
 
-pub returns-then-not-same : goal.returns-then-not-same
-returns-then-not-same c =
+pub returns-then-not-is_same : goal.returns-then-not-is_same
+returns-then-not-is_same c =
     ends_differ c.args.height c.args.body.now c.requires.at_most c.new-reader.result c.new-reader.ensures c.in_ok-system.system.now c.read_head.new.reader c.in_ok-system.ensures
     (part_of c.in_ok-sys.sys) c.in_ok-sys.ensures.gives c.deref.result.now (c.deref.ensures.value ∙ c.in_ok-pages.ensures) c.in_ok-mems.mems.items c.read_mems.new.reader c.in_ok-mems.ensures
-    c.rest.result.now c.deref-4.result.now c.in_ok-system_sums.system_sums.items c.in_ok-root.root c.rest.ensures
+    c.rest.result.now c.deref-4.result.now c.in_ok-system_sums.system_sums.items c.in_ok-root.root c.rest.ensures.value
     (c.deref-4.ensures.value ∙ c.in_ok-end.ensures ∙ ap (λ (hs : List Bytes). hashes_text hs ++ c.in_ok-root.root) c.deref-3.ensures.value)
     c.in_ok-system_sums.ensures (c.in_ok-root.ensures ∙ ap (root_from (part_of c.in_ok-sys.sys)) c.deref-2.ensures.value)
-    (sym c.same.ensures ∙ c.if-not-same.true)
+    (sym c.is_same.ensures ∙ c.if-not-is_same.true)
 
 pub returns : goal.returns
 returns c =
     let mark = ends_agree c.args.height c.args.body.now c.requires.at_most c.new-reader.result c.new-reader.ensures c.in_ok-system.system.now c.read_head.new.reader c.in_ok-system.ensures
     (part_of c.in_ok-sys.sys) c.in_ok-sys.ensures.gives c.deref.result.now (c.deref.ensures.value ∙ c.in_ok-pages.ensures) c.in_ok-mems.mems.items c.read_mems.new.reader c.in_ok-mems.ensures
-    c.rest.result.now c.deref-4.result.now c.in_ok-system_sums.system_sums.items c.in_ok-root.root c.rest.ensures
+    c.rest.result.now c.deref-4.result.now c.in_ok-system_sums.system_sums.items c.in_ok-root.root c.rest.ensures.value
     (c.deref-4.ensures.value ∙ c.in_ok-end.ensures ∙ ap (λ (hs : List Bytes). hashes_text hs ++ c.in_ok-root.root) c.deref-3.ensures.value)
     c.in_ok-system_sums.ensures (c.in_ok-root.ensures ∙ ap (root_from (part_of c.in_ok-sys.sys)) c.deref-2.ensures.value)
-    (λ i. omega (arith, c.type_inv.body i)) c.requires.from_one (sym c.same.ensures ∙ c.if-not-same.false) in
+    (λ i. omega (arith, c.type_inv.body i)) c.requires.from_one (sym c.is_same.ensures ∙ c.if-not-is_same.false) in
     record {
       mark = subst (λ (s : Bytes). IsBody c.args.height c.args.body.now
-          (record { height = c.args.height; version = 1; system = s; memories = c.in_ok-mems.mems.items; system_sums = c.in_ok-system_sums.system_sums.items; root = c.in_ok-root.root }) (part_of c.in_ok-sys.sys)) (sym c.in_ok-from_slice.ensures) mark;
+          (record { height = c.args.height; version = 1; system = s; memories = c.in_ok-mems.mems.items; system_sums = c.in_ok-system_sums.system_sums.items; root = c.in_ok-root.root }) (part_of c.in_ok-sys.sys)) (sym c.in_ok-from_slice.ensures.value) mark;
       births = c.in_ok-sys.ensures.births;
     }

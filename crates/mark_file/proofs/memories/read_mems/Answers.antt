@@ -1,7 +1,7 @@
 use Rattle.std.proofs.Common.{sym, subst, length, ◌∙◌}
 use Rattle.std.proofs.lemmas.Result.{err_from_is_err_and}
 use Rattle.format_spec.proofs.Each.{each_ends}
-use Rattle.mark_file.specs.Gives.{Fails}
+use Rattle.byte_codec.specs.Gives.{Fails}
 use Rattle.mark_file.specs.Reading.{memory_after}
 use Rattle.mark_file.proofs.Looping.{stops_here, goes_on, memory_next, length_more}
 use Rattle.mark_file.proofs.memories.read_mems.Goals as goal

@@ -21,7 +21,7 @@ from_sums-requires-clause-fit c =
 
 pub last_hashes-requires : goal.last_hashes-requires
 last_hashes-requires c =
-    (system_rows c.in_ok-manifest.manifest (part_of c.args.sys.now) (map hashes c.deref.result.now) (length c.bytes-2.result.now) c.in_ok-manifest.ensures.value (ap length (c.bytes-2.ensures ∙ c.requires.text))).0
+    (system_rows c.in_ok-manifest.manifest (part_of c.args.sys.now) (map hashes c.deref.result.now) (length c.bytes-2.result.now) c.in_ok-manifest.ensures.value (ap length (c.bytes-2.ensures.value ∙ c.requires.text))).0
 
 pub mems_of-requires : goal.mems_of-requires
 mems_of-requires c =
@@ -31,7 +31,7 @@ pub returns-clause-mark : goal.returns-clause-mark
 returns-clause-mark c =
     let s = part_of c.args.sys.now in
     let made = ap (map hashes) c.deref.ensures.value ∙ c.in_ok-sums.ensures in
-    let rows = system_rows c.in_ok-manifest.manifest s (map hashes c.deref.result.now) (length c.bytes-2.result.now) c.in_ok-manifest.ensures.value (ap length (c.bytes-2.ensures ∙ c.requires.text)) in
+    let rows = system_rows c.in_ok-manifest.manifest s (map hashes c.deref.result.now) (length c.bytes-2.result.now) c.in_ok-manifest.ensures.value (ap length (c.bytes-2.ensures.value ∙ c.requires.text)) in
     let root = c.root-root.ensures ∙ ap root_of_meta c.in_ok-meta.ensures.value ∙ ap (λ (m : Manifest). root_of_meta (meta_of m)) c.in_ok-manifest.ensures.value ∙ ap (λ (hs : List (List Bytes)). root_of_meta (meta_of (manifest_from 1 (file_sums s hs)))) made in
     is_mark _ s (map bytes c.args.memories.now) c.args.stacks.now refl c.requires.from_one c.requires.at_most c.requires.good c.requires.text c.in_ok-mems.ensures.layers
     (c.in_ok-mems.ensures.sums ∙ ap (map hashes) c.deref-2.ensures.value ∙ c.in_ok-sums.ensures) c.requires.fit c.requires.stacks (c.in_ok-system_sums.ensures ∙ rows.1) root

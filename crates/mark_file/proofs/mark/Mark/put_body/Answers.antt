@@ -21,8 +21,8 @@ returns c =
     c.in_ok-extend_from_slice.ensures.items
     (c.in_ok-extend_from_slice-2.ensures.items ∙ ap (λ (s : Bytes). a ++ s) (c.to_be_bytes.ensures ∙ ap (λ (x : Mark). be32 x.version) v))
     (c.in_ok-extend_from_slice-3.ensures.items ∙ ap (λ (s : Bytes). b ++ s) (c.to_be_bytes-2.ensures ∙ ap (λ (x : Mark). be64 x.height) v))
-    (c.in_ok-extend_from_slice-4.ensures.items ∙ ap (λ (s : Bytes). d ++ s) (c.to_be_bytes-3.ensures ∙ ap (λ (s : Bytes). be32 (length s)) c.bytes-system.ensures ∙ ap (λ (x : Mark). be32 (length x.system)) v))
-    (c.in_ok-extend_from_slice-5.ensures.items ∙ ap (λ (s : Bytes). e ++ s) (c.bytes-system.ensures ∙ ap (λ (x : Mark). x.system) v))
+    (c.in_ok-extend_from_slice-4.ensures.items ∙ ap (λ (s : Bytes). d ++ s) (c.to_be_bytes-3.ensures ∙ ap (λ (s : Bytes). be32 (length s)) c.bytes-system.ensures.value ∙ ap (λ (x : Mark). be32 (length x.system)) v))
+    (c.in_ok-extend_from_slice-5.ensures.items ∙ ap (λ (s : Bytes). e ++ s) (c.bytes-system.ensures.value ∙ ap (λ (x : Mark). x.system) v))
     (c.in_ok-put_mems.ensures ∙ ap (λ (ms : List MarkMemory). f ++ flat_map mark_memory_text ms) (c.deref.ensures.value ∙ ap (λ (x : Mark). x.memories) v))
     (c.in_ok-put_hashes.ensures ∙ ap (λ (hs : List Bytes). g ++ hashes_text hs) (c.deref-2.ensures.value ∙ ap (λ (x : Mark). x.system_sums) v))
     (c.in_ok-extend_from_slice-6.ensures.items ∙ ap (λ (s : Bytes). h ++ s) (c.bytes.ensures.value ∙ ap (λ (x : Mark). x.root) v))

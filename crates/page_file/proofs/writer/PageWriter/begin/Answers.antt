@@ -28,4 +28,4 @@ returns-clause-settled g c = λ told settled.
     done_settles (append (Page c.args.number) c.bytes.result.now) _ _ (c.in_ok-append.ensures.does told) (done_settles (create (Page c.args.number)) _ _ (c.in_ok-create.ensures.does told) settled)
 
 pub returns-clause-appended : goal.returns-clause-appended
-returns-clause-appended g c = λ told. appended_index _ _ _ c.args.number c.bytes.result.now c.in_ok-text.text c.args.index (c.in_ok-create.ensures.does told) (c.in_ok-append.ensures.does told) c.bytes.ensures c.in_ok-text.ensures.text
+returns-clause-appended g c = λ told. appended_index _ _ _ c.args.number c.bytes.result.now c.in_ok-text.text c.args.index (c.in_ok-create.ensures.does told) (c.in_ok-append.ensures.does told) c.bytes.ensures.value c.in_ok-text.ensures.text

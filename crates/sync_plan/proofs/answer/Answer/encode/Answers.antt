@@ -12,6 +12,6 @@ returns-in-Gone c =
 
 pub returns-in-Here : goal.returns-in-Here
 returns-in-Here c =
-    let bytes : content_of c.args.self.now.content ≡ here c.bytes.result.now = ap content_of c.in-Here.is ∙ ap here (sym c.bytes.ensures) in
+    let bytes : content_of c.args.self.now.content ≡ here c.bytes.result.now = ap content_of c.in-Here.is ∙ ap here (sym c.bytes.ensures.value) in
     let spelled = answer_spelled (answer_of c.args.self.now) (here c.bytes.result.now) bytes in
     IfOk-weaker c.text_of-in-Here.result _ _ (λ text e. e ∙ sym spelled) c.text_of-in-Here.ensures
