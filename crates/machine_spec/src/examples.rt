@@ -5,13 +5,12 @@ ghost use Rattle.std.specs.List.{range_with_len};
 ghost use Rattle.state_spec.specs.Example.{one_byte};
 ghost use Rattle.state_spec.specs.Root.{root_of};
 ghost use Rattle.store_spec.specs.Example.{one_height};
-ghost use Rattle.script_text.specs.declared.command.Command.TheVariants.{Checkpoint, Heights, Scratch};
+ghost use Rattle.script_text.specs.declared.command.Command.TheVariants.{Checkpoint, Heights, Round, Scratch};
 ghost use Rattle.script_text.specs.declared.command.HeightOrLive.TheVariants.{Height};
-ghost use Rattle.script_text.specs.declared.reply.Refusal.TheVariants.{HeightLow, ManyMarks};
+ghost use Rattle.script_text.specs.declared.reply.Refusal.TheVariants.{HeightLimit, HeightLow, ManyMarks};
 ghost use Rattle.script_text.specs.declared.reply.Reply.TheVariants as replies;
-ghost use Rattle.machine_spec.specs.Answers.{answers, after_turns};
 ghost use Rattle.machine_spec.specs.Machine.{start, state_at};
-ghost use Rattle.machine_spec.specs.Script.{turns_of, output_of, machine_after};
+ghost use Rattle.machine_spec.specs.Script.{output_of, output_by, machine_after, after_script};
 ghost use Rattle.machine_spec.specs.States.{empty_state};
 ghost use Rattle.machine_spec.specs.Step.{step};
 
@@ -78,26 +77,35 @@ pub fn checkpoints()
     ensures layers { map (λ p. p.layers) (machine_after (codes "canister 00\ngrow 00 stable 2\nround\ncheckpoint")).published
         ≡ ([] ∷ ((0 ∷ 1 ∷ []) ∷ []) ∷ []) ∷ [] }
     ensures once { (step (machine_after (codes "round\ncheckpoint")) Checkpoint).reply ≡ replies.Refused HeightLow }
-    ensures many { (step (after_turns (start (map (λ h. record one_height { height = h }) (range_with_len 1 16))) (turns_of (codes "round"))) Checkpoint).reply
+    ensures many { (step (after_script (start (map (λ h. record one_height { height = h }) (range_with_len 1 16))) (codes "round")) Checkpoint).reply
         ≡ replies.Refused ManyMarks }
 {}
 
 /// A store that opens at height 1, where the heap of a canister begins with the byte 1.
 #[tactic(auto, unfolding(crate::specs::Computing::scripts_compute))]
 pub fn an_opened_store()
-    ensures heights { answers (start (one_height ∷ [])) (turns_of (codes "heights\ncheckpoint\npurge 1\npurge 2\nreset 2"))
+    ensures heights { output_by (start (one_height ∷ [])) (codes "heights\ncheckpoint\npurge 1\npurge 2\nreset 2")
         ≡ codes "heights live 2 memory - published 1\nrefused NoHeight\nrefused LastHeight\nrefused NoHeight\nrefused NoHeight\n" }
-    ensures reset { answers (start (one_height ∷ [])) (turns_of (codes "write 00 heap 0 02\nread live 00 heap 0 1\nread 1 00 heap 0 1\nreset 1\nread live 00 heap 0 1"))
+    ensures reset { output_by (start (one_height ∷ [])) (codes "write 00 heap 0 02\nread live 00 heap 0 1\nread 1 00 heap 0 1\nreset 1\nread live 00 heap 0 1")
         ≡ codes "ok\ndata 02\ndata 01\nok\ndata 01\n" }
-    ensures dropped { after_turns (start (one_height ∷ [])) (turns_of (codes "round\nreset 1")) ≡ start (one_height ∷ []) }
+    ensures dropped { after_script (start (one_height ∷ [])) (codes "round\nreset 1") ≡ start (one_height ∷ []) }
     ensures born { map (λ c. c.1.birth) (start (record one_height { height = 7 } ∷ [])).live.canisters ≡ 7 ∷ [] }
     ensures scratch { (step (start (one_height ∷ [])) (Scratch (Height 1))).reply ≡ replies.Scratch (root_of one_byte) }
     ensures published_first { state_at (record (start (one_height ∷ [])) { memory = (1, empty_state) ∷ [] }) (Height 1) ≡ Some one_byte }
 {}
 
+/// The last height that is kept is 2^62.
+#[tactic(auto, unfolding(crate::specs::Computing::scripts_compute))]
+pub fn the_last_height()
+    ensures kept { (step (after_script (start (record one_height { height = 4611686018427387903 } ∷ [])) (codes "round")) Heights).reply
+        ≡ replies.Heights 4611686018427387905 (4611686018427387904 ∷ []) (4611686018427387903 ∷ []) }
+    ensures limit { (step (after_script (start (record one_height { height = 4611686018427387903 } ∷ [])) (codes "round")) Round).reply
+        ≡ replies.Refused HeightLimit }
+{}
+
 /// A store of two published heights: the newest one is where it begins again, and the other may go.
 #[tactic(auto, unfolding(crate::specs::Computing::scripts_compute))]
 pub fn an_older_height()
-    ensures { answers (start (one_height ∷ record one_height { height = 2 } ∷ [])) (turns_of (codes "reset 1\npurge 2\npurge 1\nheights\npurge 1\nread 1 00 heap 0 1"))
+    ensures { output_by (start (one_height ∷ record one_height { height = 2 } ∷ [])) (codes "reset 1\npurge 2\npurge 1\nheights\npurge 1\nread 1 00 heap 0 1")
         ≡ codes "refused HeightLow\nrefused LastHeight\nok\nheights live 3 memory - published 2\nrefused NoHeight\nrefused NoHeight\n" }
 {}
