@@ -1,8 +1,9 @@
 -- Soundness is kept by every step, and so by turns.
-use Rattle.std.proofs.Common.{Bool, true, false, [], ◌∷◌, List, Option, Some, None, if◌then◌else◌}
+use Rattle.std.proofs.Common.{[], ◌∷◌, List}
 use Rattle.state_spec.specs.Root.{root_of}
-use Rattle.script_text.specs.Commands.{command_of}
-use Rattle.script_text.specs.Script.{is_silent}
+use Rattle.script_text.specs.Commands.{parsed}
+use Rattle.script_text.specs.declared.parsing.Parsed.{Parsed}
+use Rattle.script_text.specs.declared.parsing.Parsed.TheVariants.{Silent, BadLine, Line}
 use Rattle.script_text.specs.declared.command.Command.{Command}
 use Rattle.script_text.specs.declared.command.Command.TheVariants.{Canister, Remove, Grow, Write, Module, Certify, Time}
 use Rattle.script_text.specs.declared.command.Command.TheVariants.{Put, Del, Read, Heights, Root, Manifest, Round, Forget, Tree, Witness, Check}
@@ -12,7 +13,7 @@ use Rattle.machine_spec.specs.Machine.{Machine}
 use Rattle.machine_spec.specs.HeightSteps.{tree_root, counts_of}
 use Rattle.machine_spec.specs.LiveSteps.{read_reply}
 use Rattle.machine_spec.specs.WitnessSteps.{witness_text}
-use Rattle.machine_spec.specs.Answers.{Turn, after_command, after_turn, after_turns}
+use Rattle.machine_spec.specs.Answers.{Turn, after_by, after_line, after_turn, after_turns}
 use Rattle.machine_spec.specs.Sound.{IsSound, StepKeeps}
 use Rattle.machine_spec.proofs.LiveKept.{canister_kept, drop_kept, grow_kept, write_kept, module_kept, certify_kept, time_kept, put_kept, del_kept}
 use Rattle.machine_spec.proofs.HeightKept.{asked_kept, round_kept, forget_kept, checkpoint_kept, purge_kept, reset_kept}
@@ -41,17 +42,14 @@ step_keeps m (Tree at) s = asked_kept m at (λ t. replies.Tree (tree_root t)) s
 step_keeps m (Witness at paths) s = asked_kept m at (λ t. replies.Witness (witness_text t paths)) s
 step_keeps m (Check root bytes path) s = s
 
-command_keeps : (m : Machine) (o : Option Command) → IsSound m → IsSound (after_command m o)
-command_keeps m None s = s
-command_keeps m (Some command) s = step_keeps m command s
+parsed_keeps : (m : Machine) (p : Parsed) → IsSound m → IsSound (after_by m p)
+parsed_keeps m Silent s = s
+parsed_keeps m BadLine s = s
+parsed_keeps m (Line command) s = step_keeps m command s
 
 turn_keeps : (m : Machine) (turn : Turn) → IsSound m → IsSound (after_turn m turn)
-unfolding after_turn
-turn_keeps m turn s = by (is_silent turn.line)
-  where
-    by : (b : Bool) → IsSound (if b then m else after_command m (command_of turn.line))
-    by true = s
-    by false = command_keeps m (command_of turn.line) s
+unfolding after_line
+turn_keeps m turn s = parsed_keeps m (parsed turn.line) s
 
 pub turns_keep : (m : Machine) (turns : List Turn) → IsSound m → IsSound (after_turns m turns)
 turns_keep m [] s = s

@@ -1,39 +1,78 @@
 -- What a script is answered, turn by turn.
-use Rattle.std.specs.Prelude.{if◌then◌else◌, List, [], ◌∷◌, ◌++◌, Option, Some, None, codes}
+use Rattle.std.specs.Prelude.{◌≡◌, List, [], ◌∷◌, ◌++◌, map, Option, Some, None, codes}
 use Rattle.format_spec.specs.Bytes.{Bytes}
-use Rattle.script_text.specs.declared.command.Command.{Command}
-use Rattle.script_text.specs.Commands.{command_of}
-use Rattle.script_text.specs.Script.{is_silent}
+use Rattle.script_text.specs.declared.parsing.Parsed.{Parsed}
+use Rattle.script_text.specs.declared.parsing.Parsed.TheVariants.{Silent, BadLine, Line}
+use Rattle.script_text.specs.declared.reply.Reply.{Reply}
+use Rattle.script_text.specs.Commands.{parsed}
 use Rattle.script_text.specs.Texts.{reply_text, bad_line_text}
 use Rattle.machine_spec.specs.Machine.{Machine}
 use Rattle.machine_spec.specs.Step.{step}
 
--- one turn of a run: a line that was read
+-- one turn of a run: a line that was read, and the reply to it, none where the line is no command
 pub record Turn : Type 0 where
   pub line : Bytes
+  pub reply : Option Reply
 
--- the bytes written for a command, or for a line that is none: a reply and its line feed
-abbrev pub answer_to : Machine → Option Command → Bytes
-answer_to m None = bad_line_text ++ codes "\n"
-answer_to m (Some command) = reply_text (step m command).reply ++ codes "\n"
+abbrev pub turn_of : Bytes → Option Reply → Turn
+turn_of line reply = record { line = line; reply = reply }
 
--- a line that is no command changes nothing
-abbrev pub after_command : Machine → Option Command → Machine
-after_command m None = m
-after_command m (Some command) = (step m command).after
+abbrev pub lines_of : List Turn → List Bytes
+lines_of turns = map (λ turn. turn.line) turns
 
--- the bytes written for a turn, none for a line that has no reply
-unfoldable pub answer : Machine → Turn → Bytes
-answer m turn = if is_silent turn.line then [] else answer_to m (command_of turn.line)
+-- ---- what is written, whatever a reply says
 
-unfoldable pub after_turn : Machine → Turn → Machine
-after_turn m turn = if is_silent turn.line then m else after_command m (command_of turn.line)
+-- there is a reply exactly where a line is a command
+abbrev pub FitsLine : Parsed → Option Reply → Type 0
+FitsLine (Line command) (Some reply) = Unit {0}
+FitsLine (Line command) None = ⊥
+FitsLine _ (Some reply) = ⊥
+FitsLine _ None = Unit {0}
+
+-- the bytes written for a line: its reply and a line feed, `refused BadLine` where it fits no form, none where it is silent
+abbrev pub text_for : Parsed → Option Reply → Bytes
+text_for (Line command) (Some reply) = reply_text reply ++ codes "\n"
+text_for BadLine reply = bad_line_text ++ codes "\n"
+text_for _ reply = []
+
+unfoldable pub answer : Turn → Bytes
+answer turn = text_for (parsed turn.line) turn.reply
 
 -- the bytes written for turns, in order
-abbrev pub answers : Machine → List Turn → Bytes
-answers m [] = []
-answers m (turn ∷ turns) = answer m turn ++ answers (after_turn m turn) turns
+abbrev pub answers : List Turn → Bytes
+answers [] = []
+answers (turn ∷ turns) = answer turn ++ answers turns
+
+-- ---- what the machine replies
+
+abbrev pub reply_by : Machine → Parsed → Option Reply
+reply_by m (Line command) = Some (step m command).reply
+reply_by m _ = None
+
+-- a line that is no command changes nothing
+abbrev pub after_by : Machine → Parsed → Machine
+after_by m (Line command) = (step m command).after
+after_by m _ = m
+
+unfoldable pub reply_to : Machine → Bytes → Option Reply
+reply_to m line = reply_by m (parsed line)
+
+unfoldable pub after_line : Machine → Bytes → Machine
+after_line m line = after_by m (parsed line)
+
+abbrev pub after_turn : Machine → Turn → Machine
+after_turn m turn = after_line m turn.line
 
 abbrev pub after_turns : Machine → List Turn → Machine
 after_turns m [] = m
 after_turns m (turn ∷ turns) = after_turns (after_turn m turn) turns
+
+-- the replies of these turns are those of the machine, one after another
+abbrev pub Plays : Machine → List Turn → Type 0
+Plays m [] = Unit {0}
+Plays m (turn ∷ turns) = (turn.reply ≡ reply_to m turn.line) × Plays (after_turn m turn) turns
+
+-- the turns of the machine for these lines
+abbrev pub played : Machine → List Bytes → List Turn
+played m [] = []
+played m (line ∷ others) = turn_of line (reply_to m line) ∷ played (after_line m line) others

@@ -2,10 +2,10 @@
 use Rattle.std.specs.Fmt.{digits}
 use Rattle.hex.specs.Hex.{encode_with, decode_pairs}
 use Rattle.state_spec.specs.Computing.{texts_compute}
-use Rattle.machine_spec.specs.Answers.{answer, after_turn}
+use Rattle.machine_spec.specs.Answers.{answer, reply_to, after_line}
 use Rattle.machine_spec.specs.Costs.{whole_bytes}
 use Rattle.machine_spec.specs.Machine.{opened}
 
 unfoldable pub scripts_compute : Unit {0}
-unfolding texts_compute encode_with decode_pairs digits answer after_turn opened whole_bytes
+unfolding texts_compute encode_with decode_pairs digits answer reply_to after_line opened whole_bytes
 scripts_compute = tt

@@ -7,15 +7,14 @@ ghost use Rattle.state_spec.specs.Root.{root_of};
 ghost use Rattle.store_spec.specs.Example.{one_height};
 ghost use Rattle.sys_state.specs.declared.mem.Mem.TheVariants.{Heap};
 ghost use Rattle.script_text.specs.declared.command.Command.TheVariants as commands;
-ghost use Rattle.script_text.specs.declared.command.Command.TheVariants.{Checkpoint, Heights, Scratch};
+ghost use Rattle.script_text.specs.declared.command.Command.TheVariants.{Checkpoint, Heights, Round, Scratch};
 ghost use Rattle.script_text.specs.declared.command.HeightOrLive.TheVariants.{Height, Live};
-ghost use Rattle.script_text.specs.declared.reply.Refusal.TheVariants.{HeightLow, ManyMarks, NoHeight};
+ghost use Rattle.script_text.specs.declared.reply.Refusal.TheVariants.{HeightLimit, HeightLow, ManyMarks, NoHeight};
 ghost use Rattle.script_text.specs.declared.reply.Reply.TheVariants as replies;
-ghost use Rattle.machine_spec.specs.Answers.{answers, after_turns};
 ghost use Rattle.machine_spec.specs.Costs.{appends, reads};
 ghost use Rattle.machine_spec.specs.HeightSteps.{counts_of, tree_root};
 ghost use Rattle.machine_spec.specs.Machine.{opened, start, state_at};
-ghost use Rattle.machine_spec.specs.Script.{turns_of, output_of, machine_after};
+ghost use Rattle.machine_spec.specs.Script.{output_of, output_by, machine_after, after_script};
 ghost use Rattle.machine_spec.specs.States.{empty_state};
 ghost use Rattle.machine_spec.specs.Step.{step};
 ghost use Rattle.machine_spec.specs.WitnessSteps.{witness_text};
@@ -71,10 +70,10 @@ pub fn entries_by_path()
 /// A round keeps the live state at its height, where it stays as it was until it is forgotten.
 #[tactic(auto, unfolding(crate::specs::Computing::scripts_compute))]
 pub fn states_in_memory()
-    ensures round { (step (start []) commands.Round).reply ≡ replies.Round 1 (tree_root empty_state) }
-    ensures stays { answers (machine_after (codes "canister 00\nwrite 00 heap 0 01\nround\nwrite 00 heap 0 02")) (turns_of (codes "read 1 00 heap 0 1\nread live 00 heap 0 1"))
+    ensures round { (step (start []) Round).reply ≡ replies.Round 1 (tree_root empty_state) }
+    ensures stays { output_by (machine_after (codes "canister 00\nwrite 00 heap 0 01\nround\nwrite 00 heap 0 02")) (codes "read 1 00 heap 0 1\nread live 00 heap 0 1")
         ≡ codes "data 01\ndata 02\n" }
-    ensures forgotten { answers (machine_after (codes "round\nround")) (turns_of (codes "forget 1\nheights\nforget 1\nread 1 00 heap 0 0"))
+    ensures forgotten { output_by (machine_after (codes "round\nround")) (codes "forget 1\nheights\nforget 1\nread 1 00 heap 0 0")
         ≡ codes "ok\nheights live 3 memory 2 published -\nrefused NoHeight\nrefused NoHeight\n" }
 {}
 
@@ -113,26 +112,35 @@ pub fn checkpoints()
     ensures layers { map (λ p. p.layers) (machine_after (codes "canister 00\ngrow 00 stable 2\nround\ncheckpoint")).published
         ≡ ([] ∷ ((0 ∷ 1 ∷ []) ∷ []) ∷ []) ∷ [] }
     ensures once { (step (machine_after (codes "round\ncheckpoint")) Checkpoint).reply ≡ replies.Refused HeightLow }
-    ensures many { (step (after_turns (start (map (λ h. record one_height { height = h }) (range_with_len 1 16))) (turns_of (codes "round"))) Checkpoint).reply
+    ensures many { (step (after_script (start (map (λ h. record one_height { height = h }) (range_with_len 1 16))) (codes "round")) Checkpoint).reply
         ≡ replies.Refused ManyMarks }
 {}
 
 /// A store that opens at height 1, where the heap of a canister begins with the byte 1.
 #[tactic(auto, unfolding(crate::specs::Computing::scripts_compute))]
 pub fn an_opened_store()
-    ensures heights { answers (start (one_height ∷ [])) (turns_of (codes "heights\ncheckpoint\npurge 1\npurge 2\nreset 2"))
+    ensures heights { output_by (start (one_height ∷ [])) (codes "heights\ncheckpoint\npurge 1\npurge 2\nreset 2")
         ≡ codes "heights live 2 memory - published 1\nrefused NoHeight\nrefused LastHeight\nrefused NoHeight\nrefused NoHeight\n" }
-    ensures reset { answers (start (one_height ∷ [])) (turns_of (codes "write 00 heap 0 02\nread live 00 heap 0 1\nread 1 00 heap 0 1\nreset 1\nread live 00 heap 0 1"))
+    ensures reset { output_by (start (one_height ∷ [])) (codes "write 00 heap 0 02\nread live 00 heap 0 1\nread 1 00 heap 0 1\nreset 1\nread live 00 heap 0 1")
         ≡ codes "ok\ndata 02\ndata 01\nok\ndata 01\n" }
-    ensures dropped { after_turns (start (one_height ∷ [])) (turns_of (codes "round\nreset 1")) ≡ start (one_height ∷ []) }
+    ensures dropped { after_script (start (one_height ∷ [])) (codes "round\nreset 1") ≡ start (one_height ∷ []) }
     ensures born { map (λ c. c.1.birth) (start (record one_height { height = 7 } ∷ [])).live.canisters ≡ 7 ∷ [] }
     ensures scratch { (step (start (one_height ∷ [])) (Scratch (Height 1))).reply ≡ replies.Scratch (root_of one_byte) }
     ensures published_first { state_at (record (start (one_height ∷ [])) { memory = (1, empty_state) ∷ [] }) (Height 1) ≡ Some one_byte }
 {}
 
+/// The last height that is kept is 2^62.
+#[tactic(auto, unfolding(crate::specs::Computing::scripts_compute))]
+pub fn the_last_height()
+    ensures kept { (step (after_script (start (record one_height { height = 4611686018427387903 } ∷ [])) (codes "round")) Heights).reply
+        ≡ replies.Heights 4611686018427387905 (4611686018427387904 ∷ []) (4611686018427387903 ∷ []) }
+    ensures limit { (step (after_script (start (record one_height { height = 4611686018427387903 } ∷ [])) (codes "round")) Round).reply
+        ≡ replies.Refused HeightLimit }
+{}
+
 /// A store of two published heights: the newest one is where it begins again, and the other may go.
 #[tactic(auto, unfolding(crate::specs::Computing::scripts_compute))]
 pub fn an_older_height()
-    ensures { answers (start (one_height ∷ record one_height { height = 2 } ∷ [])) (turns_of (codes "reset 1\npurge 2\npurge 1\nheights\npurge 1\nread 1 00 heap 0 1"))
+    ensures { output_by (start (one_height ∷ record one_height { height = 2 } ∷ [])) (codes "reset 1\npurge 2\npurge 1\nheights\npurge 1\nread 1 00 heap 0 1")
         ≡ codes "refused HeightLow\nrefused LastHeight\nok\nheights live 3 memory - published 2\nrefused NoHeight\nrefused NoHeight\n" }
 {}

@@ -2,8 +2,10 @@
 #![tactic(auto)]
 
 mod command;
+mod ending;
 mod forms;
 mod numbers;
+mod options;
 mod parsing;
 mod path_list;
 mod paths;
@@ -15,7 +17,9 @@ mod texts;
 mod words;
 
 pub use command::{Command, HeightOrLive};
+pub use ending::{Stop, closing_parts, status_of};
 pub use numbers::Numbers;
+pub use options::{Options, options_of};
 pub use parsing::{Parsed, is_silent, parse, parse_line};
 pub use path_list::Paths;
 pub use reply::{Refusal, Reply};

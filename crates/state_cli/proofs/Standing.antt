@@ -1,5 +1,5 @@
 -- What the images of a disk stand for, before a line and where the disk doesn't open.
-use Rattle.std.proofs.Common.{◌≡◌, ◌≤◌, ℕ, suc, List, [], ◌∷◌, length, Option, Some, None, Err, IsErrOf, refl, ◌∙◌, ap, sym, subst, inl}
+use Rattle.std.proofs.Common.{◌≡◌, ◌≤◌, ℕ, suc, List, [], ◌∷◌, length, Option, Some, None, Result, Ok, Err, Bool, IsTrue, IsErrOf, refl, ◌∙◌, ap, sym, subst, inl, arith}
 use Rattle.std.specs.List.{AllByRecursion, AllZip}
 use Rattle.format_spec.specs.declared.limits.TheConstants.{MAX_PUBLISHED}
 use Rattle.state_spec.specs.State.{SameState, state_from}
@@ -9,8 +9,9 @@ use Rattle.store_spec.proofs.Images.{opens_once, stands_open}
 use Rattle.disk_model.specs.declared.name.Kind.TheVariants as kind
 use Rattle.disk_model.specs.declared.name.Name.TheVariants as name
 use Rattle.disk_model.specs.Files.{Files, IsListing}
-use Rattle.disk_model.specs.State.{DiskState}
-use Rattle.disk_model.specs.View.{EachImage}
+use Rattle.disk_model.specs.State.{DiskState, IsImageNow}
+use Rattle.disk_model.specs.View.{DiskView, EachImage, LeavesOnly}
+use Rattle.disk_model.specs.Moments.{at_start, weaker}
 use Rattle.height_store.specs.Kept.{StandsForSome, StandsAsBefore, StandsForEither}
 use Rattle.height_store.specs.Laws.{kept_stands}
 use Rattle.height_store.specs.Bad.{IsFirstBadMark, IsFirstBadPage}
@@ -19,7 +20,10 @@ use Rattle.machine_spec.specs.Machine.{Machine, anew, newest, resumed_at, start}
 use Rattle.state_manager.specs.Kept.{Held, Keeps}
 use Rattle.state_manager.specs.declared.stop.OpenError.{OpenError}
 use Rattle.state_manager.specs.declared.stop.OpenError.TheVariants as opening
-use Rattle.state_cli.specs.Ends.{IsBadRoot}
+use Rattle.script_text.specs.declared.ending.Stop.{Stop}
+use Rattle.script_text.specs.declared.ending.Stop.TheVariants as stops
+use Rattle.state_cli.proofs.Turns.{part_only}
+use Rattle.state_cli.specs.Ends.{EndsBy, EndsFrom, IsAtStart, IsOpen, PlaysBehind, StandsAs, all_shown}
 use Rattle.state_cli.specs.Stops.{stop_of_opening}
 
 -- ---- equal heights
@@ -66,27 +70,9 @@ module _ (files : Files) where
 
 -- ---- opening
 
--- files that stand for heights open
-pub stands_opens : (files : Files) (ps : List Published) → StandsFor files ps → Opens files
-stands_opens files ps stands = (ps, stands_open files ps stands)
-
-pub stands_for_some : (s : DiskState) (ps : List Published) → EachImage s (λ image. StandsFor image ps) → EachImage s StandsForSome
-stands_for_some s ps each = λ image now. (ps, each image now)
-
 -- Where each image stood for these heights, an image that stands as one of them did stands for them too.
-pub stands_still : (old new : DiskState) (ps : List Published) → EachImage old (λ image. StandsFor image ps) → EachImage new (StandsAsBefore old) → EachImage new (λ image. StandsFor image ps)
-stands_still old new ps each before = λ image now.
-    let b = before image now in
-    stands_same image b.0 ps (opens_once b.2 b.0 ps (stands_open b.2 b.0 b.4) (stands_open b.2 ps (each b.2 b.3))) b.1
-
--- A disk whose files stand for heights has no bad mark and no bad page file.
-pub opens_well : {T : Type 0} (error : OpenError) (files : Files) (ps : List Published) → StandsFor files ps
-    → ((height : ℕ) → IsErrOf {T = T} (Err error) (opening.BadMark height) → IsFirstBadMark files height) → ((number : ℕ) → IsErrOf {T = T} (Err error) (opening.BadPage number) → IsFirstBadPage files number)
-    → IsBadRoot {T = Unit {0}} (Err (stop_of_opening error)) → ⊥
-opens_well (opening.BadMark height) files ps stands marks pages bad = bad_mark_refused files height (marks height refl) (stands_opens files ps stands)
-opens_well (opening.BadPage number) files ps stands marks pages bad = bad_page_refused files number (pages number refl) (stands_opens files ps stands)
-opens_well opening.Fault files ps stands marks pages bad = bad
-opens_well opening.Memory files ps stands marks pages bad = bad
+stands_still : (old : DiskState) (ps : List Published) → EachImage old (λ image. StandsFor image ps) → (image : Files) → StandsAsBefore old image → StandsFor image ps
+stands_still old ps each image b = stands_same image b.0 ps (opens_once b.2 b.0 ps (stands_open b.2 b.0 b.4) (stands_open b.2 ps (each b.2 b.3))) b.1
 
 published_at : (last : Option Published) (ps : List Published) → (resumed_at last (anew ps)).published ≡ ps
 published_at None ps = refl
@@ -95,9 +81,16 @@ published_at (Some p) ps = refl
 pub start_published : (ps : List Published) → (start ps).published ≡ ps
 start_published ps = published_at (newest ps) ps
 
--- the first machine's heights are those
-pub stands_first : (s : DiskState) (ps : List Published) → EachImage s (λ image. StandsFor image ps) → EachImage s (λ image. StandsFor image (start ps).published)
-stands_first s ps each = subst (λ (qs : List Published). EachImage s (λ image. StandsFor image qs)) (sym (start_published ps)) each
+-- each image stands for the heights of the machine that begins
+pub stands_first : (s : DiskState) (first : Machine) → StandsAs s first → EachImage s (λ image. StandsFor image first.published)
+stands_first s first entry image now = subst (StandsFor image) (sym (ap (λ (m : Machine). m.published) entry.first_is ∙ start_published entry.heights)) (entry.each image now)
+
+pub stands_for_some : (s : DiskState) (first : Machine) → StandsAs s first → EachImage s StandsForSome
+stands_for_some s first entry = λ image now. (entry.heights, entry.each image now)
+
+-- so it does at each moment of opening
+pub stands_opening : (old new : DiskView) (first : Machine) → StandsAs old.state first → LeavesOnly old new (StandsAsBefore old.state) → LeavesOnly old new (λ image. StandsFor image first.published)
+stands_opening old new first entry before = weaker old new _ _ (λ image b. subst (StandsFor image) (sym (ap (λ (m : Machine). m.published) entry.first_is ∙ start_published entry.heights)) (stands_still old.state entry.heights entry.each image b)) before
 
 -- ---- lines
 
@@ -105,5 +98,53 @@ stands_first s ps each = subst (λ (qs : List Published). EachImage s (λ image.
 pub keeps_stand : (held : Held) (s : DiskState) (m : Machine) → Keeps held s m → EachImage s (λ image. StandsFor image m.published)
 keeps_stand held s m keeps = kept_stands held.store.heights s m.published keeps.heights
 
-pub keeps_stand_either : (held : Held) (s : DiskState) (m : Machine) (qs : List Published) → Keeps held s m → EachImage s (StandsForEither m.published qs)
-keeps_stand_either held s m qs keeps = λ image now. inl (keeps_stand held s m keeps image now)
+-- as long as the disk isn't called
+pub keeps_images : (held : Held) (v : DiskView) (m : Machine) (qs : List Published) → Keeps held v.state m → LeavesOnly v v (StandsForEither m.published qs)
+keeps_images held v m qs keeps = at_start v _ (λ image now. inl (keeps_stand held v.state m keeps image now))
+
+-- ---- disks that aren't opened
+
+-- it stopped before a byte was taken
+ends_unread : (ending : Result Unit Stop) (tells : Bool) (old new : DiskView) (ended : Type 0) → EndsBy ending tells old.state.files ended all_shown 0 (part_only [])
+    → (IsTrue tells → (first : Machine) → StandsAs old.state first → PlaysBehind ending first [] new.state × LeavesOnly old new (λ image. StandsFor image first.published))
+    → EndsFrom 0 ending tells (StandsAs old.state) all_shown IsOpen ended old new [] []
+ends_unread ending tells old new ended by plays = record {
+  answered = [];
+  behind = part_only [];
+  last = [];
+  script_is = refl;
+  gained_is = refl;
+  turns = tt;
+  few = omega arith;
+  lacks = inl refl;
+  by = by;
+  closed = refl;
+  plays = λ told first entry. let p = plays told first entry in record {
+    replies = tt;
+    behind = p.0;
+    moments = weaker old new _ _ (λ image stands. record { front = []; others = []; turns_are = refl; stands = stands }) p.1;
+  };
+}
+
+at_the_start : IsAtStart 0 (part_only [])
+at_the_start = record { between = record { none_begun = refl; fed = refl; none_cut = refl }; none = refl; nothing = refl }
+
+-- a word is no option
+pub ends_unused : (tells : Bool) (v : DiskView) (ended : Type 0) → EndsFrom 0 (Err stops.Usage) tells (StandsAs v.state) all_shown IsOpen ended v v [] []
+ends_unused tells v ended = ends_unread (Err stops.Usage) tells v v ended at_the_start (λ told first entry. let stands = stands_first v.state first entry in (stands, at_start v _ stands))
+
+-- the disk is not opened
+pub not_opened : {T : Type 0} (error : OpenError) (tells : Bool) (old new : DiskView) (ended : Type 0) → (IsTrue tells → IsImageNow old.state old.state.files)
+    → (IsTrue tells → (height : ℕ) → IsErrOf {T = T} (Err error) (opening.BadMark height) → IsFirstBadMark old.state.files height)
+    → (IsTrue tells → (number : ℕ) → IsErrOf {T = T} (Err error) (opening.BadPage number) → IsFirstBadPage old.state.files number)
+    → (IsTrue tells → EachImage old.state StandsForSome → LeavesOnly old new (StandsAsBefore old.state))
+    → EndsFrom 0 (Err (stop_of_opening error)) tells (StandsAs old.state) all_shown IsOpen ended old new [] []
+not_opened (opening.BadMark height) tells old new ended reads marks pages images = ends_unread (Err (stops.BadMark height)) tells old new ended (at_the_start, λ told. marks told height refl)
+    (λ told first entry. absurd (bad_mark_refused old.state.files height (marks told height refl) (entry.heights, stands_open old.state.files entry.heights (entry.each old.state.files (reads told)))))
+not_opened (opening.BadPage number) tells old new ended reads marks pages images = ends_unread (Err (stops.BadPage number)) tells old new ended (at_the_start, λ told. pages told number refl)
+    (λ told first entry. absurd (bad_page_refused old.state.files number (pages told number refl) (entry.heights, stands_open old.state.files entry.heights (entry.each old.state.files (reads told)))))
+not_opened opening.Fault tells old new ended reads marks pages images = ends_unread (Err stops.DiskFault) tells old new ended (inl at_the_start)
+    (λ told first entry. let stands = stands_opening old new first entry (images told (stands_for_some old.state first entry)) in (λ image now. inl (stands.now image now), stands))
+not_opened opening.Memory tells old new ended reads marks pages images = ends_unread (Err stops.Memory) tells old new ended
+    (inl (record { between = record { none_begun = refl; fed = refl; none_cut = refl }; one = refl; short = omega arith; few = omega arith }))
+    (λ told first entry. let stands = stands_opening old new first entry (images told (stands_for_some old.state first entry)) in (λ image now. inl (stands.now image now), stands))

@@ -1,189 +1,209 @@
 -- How a run ends.
-use Rattle.std.specs.Prelude.{◌≡◌, ◌⊎◌, ℕ, ◌+◌, ◌≤◌, ◌<◌, List, [], ◌∷◌, ◌++◌, length, map, codes, decimal, Result, Ok, Err, OnOk}
+use Rattle.std.specs.Prelude.{◌≡◌, ◌⊎◌, ℕ, ◌+◌, ◌≤◌, ◌<◌, Bool, IsTrue, List, [], ◌∷◌, ◌++◌, length, Result, Ok, Err}
+use Rattle.std.specs.List.{AllByRecursion}
 use Rattle.format_spec.specs.Bytes.{Bytes}
 use Rattle.format_spec.specs.declared.limits.TheConstants.{MAX_LINE, MAX_LINES}
 use Rattle.io_edge.specs.Faults.{IsProperPrefix, Rose}
-use Rattle.store_spec.specs.Image.{StandsFor, Opens}
+use Rattle.store_spec.specs.Image.{Published, StandsFor, Opens}
 use Rattle.disk_model.specs.Files.{Files}
+use Rattle.disk_model.specs.State.{DiskState}
+use Rattle.disk_model.specs.View.{DiskView, EachImage, LeavesOnly}
 use Rattle.height_store.specs.Bad.{IsFirstBadMark, IsFirstBadPage}
 use Rattle.height_store.specs.Kept.{StandsForEither}
-use Rattle.machine_spec.specs.Answers.{Turn, answer, answers, after_turn, after_turns}
-use Rattle.machine_spec.specs.Machine.{Machine}
-use Rattle.script_text.specs.Script.{lines, feeds, joined, AreWithinLimits}
+use Rattle.machine_spec.specs.Answers.{Turn, lines_of, answer, answers, after_turns, FitsLine, Plays}
+use Rattle.machine_spec.specs.Machine.{Machine, start}
+use Rattle.script_text.specs.Commands.{parsed}
+use Rattle.script_text.specs.Endings.{status_of, closing_text}
+use Rattle.script_text.specs.Script.{lines, joined, IsLine, IsShort}
+use Rattle.script_text.specs.declared.ending.Stop.{Stop}
+use Rattle.script_text.specs.declared.ending.Stop.TheVariants as stops
 use Rattle.script_text.specs.declared.status.Status.{Status}
-use Rattle.script_text.specs.declared.status.Status.TheVariants.{Done, Usage, ReadFault, WriteFault, DiskFault, BadRoot, LongLine, ManyLines, Memory}
-use Rattle.state_cli.specs.declared.session.Stop.{Stop}
-use Rattle.state_cli.specs.declared.session.Stop.TheVariants as stops
+use Rattle.script_text.specs.declared.status.Status.TheVariants.{Usage, DiskFault, BadRoot, Memory}
 
--- the lines of turns
-abbrev pub lines_of : List Turn → List Bytes
-lines_of turns = map (λ turn. turn.line) turns
-
--- the last line of a status is written, or a part of it where the sink failed
-abbrev pub Closes : ℕ → ℕ → Bytes → Bytes → Type 0
-Closes faults_before faults_now text written =
-    (written ≡ text) ⊎ (IsProperPrefix written text × Rose faults_before faults_now)
+-- ---- what is written
 
 -- how `closes` relates a last line and what is written of it
 abbrev pub Closing : Type 1
 Closing = Bytes → Bytes → Type 0
 
-abbrev pub usage_text : Bytes
-usage_text = codes "usage: icstate [--cache PAGES] [--peers K] [--generate N] [--seed S]\n"
-
-abbrev pub long_line_text : ℕ → Bytes
-long_line_text number = codes "stopped: long line " ++ decimal number ++ codes "\n"
-
-abbrev pub bad_mark_text : ℕ → Bytes
-bad_mark_text height = codes "stopped: bad mark " ++ decimal height ++ codes "\n"
-
-abbrev pub bad_page_text : ℕ → Bytes
-bad_page_text number = codes "stopped: bad page " ++ decimal number ++ codes "\n"
-
--- how `each` says that every image of the disk has a property now
-abbrev pub Each : Type 1
-Each = (Files → Type 0) → Type 0
-
--- every image stands for the published heights once these turns are answered
-abbrev pub StandsAfter : Machine → Each → List Turn → Type 0
-StandsAfter first each answered = each (λ image. StandsFor image (after_turns first answered).published)
-
--- the line behind those that are answered was taken with its line feed, or to the end of the source
-abbrev pub IsWhole : List Turn → Turn → Bytes → Type 0 → Type 0
-IsWhole answered turn taken ended = (taken ≡ joined (lines_of answered) ++ (turn.line ++ 10 ∷ [])) ⊎ ended
-
--- one more line was taken and done, and its answer is written in part
-pub record CutsAnswer (first : Machine) (each : Each) (ended : Type 0) (answered : List Turn) (rest : List Bytes) (tail taken : Bytes) : Type 0 where
-  pub turn : Turn
-  pub rest_is : rest ≡ turn.line ∷ []
-  pub whole : IsWhole answered turn taken ended
-  pub limits : AreWithinLimits (lines_of answered ++ turn.line ∷ [])
-  pub part : IsProperPrefix tail (answer (after_turns first answered) turn)
-  pub stands : each (λ image. StandsFor image (after_turn (after_turns first answered) turn).published)
-
--- one more line was taken and begun: every image stands for the published heights before it, or for those after it
-pub record StopsInLine (first : Machine) (each : Each) (ended : Type 0) (answered : List Turn) (rest : List Bytes) (taken : Bytes) : Type 0 where
-  pub turn : Turn
-  pub rest_is : rest ≡ turn.line ∷ []
-  pub whole : IsWhole answered turn taken ended
-  pub limits : AreWithinLimits (lines_of answered ++ turn.line ∷ [])
-  pub stands : each (StandsForEither (after_turns first answered).published (after_turn (after_turns first answered) turn).published)
-
--- it stopped as the disk was opened, before a byte was taken, or in the line behind those that are answered
-abbrev pub StopsAt : Machine → Each → Type 0 → List Turn → List Bytes → Bytes → Type 0
-StopsAt first each ended answered rest taken = ((taken ≡ []) × StandsAfter first each answered) ⊎ StopsInLine first each ended answered rest taken
-
--- it stopped where no line was begun, and at most one more was taken, whole or in part, or in the line behind those that are answered
-abbrev pub StopsNear : Machine → Each → Type 0 → List Turn → List Bytes → Bytes → Type 0
-StopsNear first each ended answered rest taken = ((length rest ≤ 1) × StandsAfter first each answered) ⊎ StopsInLine first each ended answered rest taken
-
--- the line behind those that are answered goes past the limit, and no byte behind that was taken
-pub record IsTooLong (answered : List Turn) (rest : List Bytes) : Type 0 where
-  pub line : Bytes
-  pub rest_is : rest ≡ line ∷ []
-  pub long : length line ≡ MAX_LINE + 1
-  pub few : length answered < MAX_LINES
-
--- there are as many lines as may be, and one byte behind them was taken
-pub record AreTooMany (answered : List Turn) (taken : Bytes) : Type 0 where
-  pub byte : ℕ
-  pub all : length answered ≡ MAX_LINES
-  pub taken_is : taken ≡ joined (lines_of answered) ++ byte ∷ []
-
--- What holds at each status of the turns that are answered whole, of the lines beside them among the bytes taken, of
--- what was written behind the answers, of the bytes taken, and of the images of the disk. `closes text tail` says that the
--- tail is the text, and `ended` that the source has nothing left. The first machine is that of the heights that every image
--- stood for before.
-abbrev pub EndsBy : Status → Machine → Closing → Each → Type 0 → List Turn → List Bytes → Bytes → Bytes → Type 0
--- every line is answered
-EndsBy Done first closes each ended answered rest tail taken = (rest ≡ []) × (tail ≡ []) × StandsAfter first each answered
--- nothing was taken
-EndsBy Usage first closes each ended answered rest tail taken = (taken ≡ []) × closes usage_text tail × StandsAfter first each answered
--- the lines that ended with a line feed are answered, and no limit was passed
-EndsBy ReadFault first closes each ended answered rest tail taken =
-    (length answered ≡ feeds taken) × AreWithinLimits (lines taken) × closes (codes "stopped: read fault\n") tail × StandsAfter first each answered
-EndsBy WriteFault first closes each ended answered rest tail taken = CutsAnswer first each ended answered rest tail taken
-EndsBy DiskFault first closes each ended answered rest tail taken =
-    StopsAt first each ended answered rest taken × closes (codes "stopped: disk fault\n") tail
--- a disk whose images stand for heights opens
-EndsBy BadRoot first closes each ended answered rest tail taken = ⊥
-EndsBy LongLine first closes each ended answered rest tail taken =
-    IsTooLong answered rest × closes (long_line_text (length answered + 1)) tail × StandsAfter first each answered
-EndsBy ManyLines first closes each ended answered rest tail taken =
-    AreTooMany answered taken × closes (codes "stopped: many lines\n") tail × StandsAfter first each answered
-EndsBy Memory first closes each ended answered rest tail taken =
-    StopsNear first each ended answered rest taken × closes (codes "stopped: no memory\n") tail
-
--- A run that took and gained these bytes ends by this status. It has answered the lines of what it took, but for a
--- rest. `closes` says what is written of a last line, `each` what every image of the disk has, and `ended` that the source
--- has nothing left.
-pub record Ends (status : Status) (first : Machine) (closes : Closing) (each : Each) (ended : Type 0) (taken gained : Bytes) : Type 0 where
-  pub answered : List Turn
-  pub rest : List Bytes
-  pub tail : Bytes
-  pub taken_is : lines taken ≡ lines_of answered ++ rest
-  pub gained_is : gained ≡ answers first answered ++ tail
-  pub limits : AreWithinLimits (lines_of answered)
-  pub by : EndsBy status first closes each ended answered rest tail taken
-
--- the status of a script that was answered to its end or stopped
-abbrev pub status_of : Result Unit Stop → Status
-status_of (Ok done) = Done
-status_of (Err stops.ReadFault) = ReadFault
-status_of (Err stops.WriteFault) = WriteFault
-status_of (Err stops.DiskFault) = DiskFault
-status_of (Err (stops.BadMark height)) = BadRoot
-status_of (Err (stops.BadPage number)) = BadRoot
-status_of (Err (stops.LongLine number)) = LongLine
-status_of (Err stops.ManyLines) = ManyLines
-status_of (Err stops.Memory) = Memory
-
--- the last line of a stop
-abbrev pub closing_text : Stop → Bytes
-closing_text stops.ReadFault = codes "stopped: read fault\n"
-closing_text stops.WriteFault = []
-closing_text stops.DiskFault = codes "stopped: disk fault\n"
-closing_text (stops.BadMark height) = bad_mark_text height
-closing_text (stops.BadPage number) = bad_page_text number
-closing_text (stops.LongLine number) = long_line_text number
-closing_text stops.ManyLines = codes "stopped: many lines\n"
-closing_text stops.Memory = codes "stopped: no memory\n"
+-- the last line is written, or a part of it where the sink failed
+abbrev pub Closes : ℕ → ℕ → Closing
+Closes faults_before faults_now text written =
+    (written ≡ text) ⊎ (IsProperPrefix written text × Rose faults_before faults_now)
 
 -- no last line is written yet
 abbrev pub IsOpen : Closing
-IsOpen text tail = tail ≡ []
+IsOpen text written = written ≡ []
 
--- the number of a long line is that of the line behind those that are answered
-abbrev pub IsNumbered : Result Unit Stop → ℕ → Type 0
-IsNumbered (Err (stops.LongLine number)) answered = number ≡ answered + 1
-IsNumbered _ answered = Unit {0}
+-- the last line of a run; one that came to the end of its script has none
+abbrev pub last_line : Result Unit Stop → Bytes
+last_line (Ok done) = []
+last_line (Err stop) = closing_text stop
 
--- A script was answered to its end or stopped, and no last line is written yet.
-pub record Serves (result : Result Unit Stop) (first : Machine) (each : Each) (ended : Type 0) (taken gained : Bytes) : Type 0 where
-  pub ends : Ends (status_of result) first IsOpen each ended taken gained
-  pub numbered : IsNumbered result (length ends.answered)
-  pub at_end : OnOk result ended
+-- each reply is shown as it is
+abbrev pub all_shown : Bytes → Bytes
+all_shown text = text
+
+-- ---- what is taken
+
+-- a turn with a line within the limits, and with a reply exactly where that is a command
+pub record IsTurn (turn : Turn) : Type 0 where
+  pub one : IsLine turn.line
+  pub short : IsShort turn.line
+  pub replied : FitsLine (parsed turn.line) turn.reply
+
+-- what is lacking of a script: the line feed of its last line, where the source has ended, or nothing
+abbrev pub IsLacking : Type 0 → Bytes → Bytes → Type 0
+IsLacking ended script lacking = (lacking ≡ []) ⊎ ((lacking ≡ 10 ∷ []) × (lines (script ++ 10 ∷ []) ≡ lines script) × ended)
+
+-- what there is behind the lines that are answered
+pub record Behind : Type 0 where
+  -- the line that was taken whole and begun, if there is one
+  pub begun : List Turn
+  -- the bytes of the script behind the lines answered
+  pub part : Bytes
+  -- the line feed that the end of the script lacks
+  pub lacking : Bytes
+  -- what is written of the answer to the line begun
+  pub cut : Bytes
+
+-- no line is begun, and each that is answered has its line feed
+pub record IsBetween (behind : Behind) : Type 0 where
+  pub none_begun : behind.begun ≡ []
+  pub fed : behind.lacking ≡ []
+  pub none_cut : behind.cut ≡ []
+
+-- nothing is taken
+pub record IsAtStart (count : ℕ) (behind : Behind) : Type 0 where
+  pub between : IsBetween behind
+  pub none : count ≡ 0
+  pub nothing : behind.part ≡ []
+
+-- every line is answered, and the source has ended
+pub record IsThrough (ended : Type 0) (behind : Behind) : Type 0 where
+  pub none_begun : behind.begun ≡ []
+  pub nothing : behind.part ≡ []
+  pub none_cut : behind.cut ≡ []
+  pub at_end : ended
+
+-- a part of one line is taken, of at most so many bytes, or nothing
+pub record IsInLine (most count : ℕ) (behind : Behind) : Type 0 where
+  pub between : IsBetween behind
+  pub one : IsLine behind.part
+  pub short : length behind.part ≤ most
+  pub few : count + length (lines behind.part) ≤ MAX_LINES
+
+-- one line more is taken with its line feed, or to the end of the source, and begun
+pub record IsBegun (count : ℕ) (behind : Behind) (turn : Turn) : Type 0 where
+  pub begun_is : behind.begun ≡ turn ∷ []
+  pub part_is : behind.part ≡ turn.line ++ 10 ∷ []
+  pub one : IsLine turn.line
+  pub short : IsShort turn.line
+  pub few : count < MAX_LINES
+
+-- it stopped in this line, before its answer was written
+pub record IsStopped (count : ℕ) (behind : Behind) : Type 0 where
+  pub turn : Turn
+  pub line : IsBegun count behind turn
+  pub none_cut : behind.cut ≡ []
+
+-- the line is done, and a front of its answer is written
+pub record IsCut (shown : Bytes → Bytes) (count : ℕ) (behind : Behind) : Type 0 where
+  pub turn : Turn
+  pub line : IsBegun count behind turn
+  pub replied : FitsLine (parsed turn.line) turn.reply
+  pub front : IsProperPrefix behind.cut (shown (answer turn))
+
+-- the line behind so many, of this number, goes past its limit, and no byte behind that is taken
+pub record IsTooLong (number count : ℕ) (behind : Behind) : Type 0 where
+  pub between : IsBetween behind
+  pub one : IsLine behind.part
+  pub long : length behind.part ≡ MAX_LINE + 1
+  pub few : count < MAX_LINES
+  pub number_is : number ≡ count + 1
+
+-- there are as many lines as may be, and one byte behind them is taken
+pub record AreTooMany (count : ℕ) (behind : Behind) : Type 0 where
+  pub between : IsBetween behind
+  pub all : count ≡ MAX_LINES
+  pub one : length behind.part ≡ 1
+
+-- Where a run ends that has answered so many lines. `tells` says whether the disk tells its files, which are these on entry;
+-- `ended` says that the source has nothing left; `shown` gives what is shown of an answer.
+abbrev pub EndsBy : Result Unit Stop → Bool → Files → Type 0 → (Bytes → Bytes) → ℕ → Behind → Type 0
+EndsBy (Ok done) tells files ended shown count behind = IsThrough ended behind
+EndsBy (Err stops.Usage) tells files ended shown count behind = IsAtStart count behind
+EndsBy (Err stops.ReadFault) tells files ended shown count behind = IsInLine MAX_LINE count behind
+EndsBy (Err stops.WriteFault) tells files ended shown count behind = IsCut shown count behind
+EndsBy (Err stops.DiskFault) tells files ended shown count behind = IsAtStart count behind ⊎ IsStopped count behind
+EndsBy (Err (stops.BadMark height)) tells files ended shown count behind = IsAtStart count behind × (IsTrue tells → IsFirstBadMark files height)
+EndsBy (Err (stops.BadPage number)) tells files ended shown count behind = IsAtStart count behind × (IsTrue tells → IsFirstBadPage files number)
+EndsBy (Err (stops.LongLine number)) tells files ended shown count behind = IsTooLong number count behind
+EndsBy (Err stops.ManyLines) tells files ended shown count behind = AreTooMany count behind
+EndsBy (Err stops.Memory) tells files ended shown count behind = IsInLine (MAX_LINE + 1) count behind ⊎ IsStopped count behind
+
+-- ---- what the machine has to do with it
+
+-- each image of the disk stands for these heights, from which the machine begins
+pub record StandsAs (s : DiskState) (first : Machine) : Type 0 where
+  pub heights : List Published
+  pub first_is : first ≡ start heights
+  pub each : EachImage s (λ image. StandsFor image heights)
+
+-- the files stand for the heights after some front of these turns
+pub record StandsAfterSome (first : Machine) (turns : List Turn) (image : Files) : Type 0 where
+  pub front : List Turn
+  pub others : List Turn
+  pub turns_are : turns ≡ front ++ others
+  pub stands : StandsFor image (after_turns first front).published
+
+-- What each image stands for now, behind a machine that has answered, by the line begun: where its answer is cut, for the heights
+-- after it, and its reply is the machine's; where it stopped, for those before it or after it. A disk that stands for heights opens.
+abbrev pub PlaysBehind : Result Unit Stop → Machine → List Turn → DiskState → Type 0
+PlaysBehind (Err stops.WriteFault) m begun s = Plays m begun × EachImage s (λ image. StandsFor image (after_turns m begun).published)
+PlaysBehind (Err stops.DiskFault) m begun s = EachImage s (StandsForEither m.published (after_turns m begun).published)
+PlaysBehind (Err stops.Memory) m begun s = EachImage s (StandsForEither m.published (after_turns m begun).published)
+PlaysBehind (Err (stops.BadMark height)) m begun s = ⊥
+PlaysBehind (Err (stops.BadPage number)) m begun s = ⊥
+PlaysBehind ending m begun s = EachImage s (λ image. StandsFor image m.published)
+
+-- The replies are those of a machine that begins with this one. A crash at any moment since the start leaves the heights after
+-- some front of the lines answered or begun.
+pub record PlaysOn (ending : Result Unit Stop) (first : Machine) (old new : DiskView) (answered begun : List Turn) : Type 0 where
+  pub replies : Plays first answered
+  pub behind : PlaysBehind ending (after_turns first answered) begun new.state
+  pub moments : LeavesOnly old new (StandsAfterSome first (answered ++ begun))
+
+-- ---- all of it
+
+-- A run of a script ends, which begins behind so many lines, and gives these bytes. `begins` says with which machines it may begin.
+pub record EndsFrom (before : ℕ) (ending : Result Unit Stop) (tells : Bool) (begins : Machine → Type 0) (shown : Bytes → Bytes) (closes : Closing) (ended : Type 0) (old new : DiskView) (script gained : Bytes) : Type 0 where
+  pub answered : List Turn
+  pub behind : Behind
+  pub last : Bytes
+  pub script_is : script ++ behind.lacking ≡ joined (lines_of answered) ++ behind.part
+  pub gained_is : gained ≡ shown (answers answered) ++ behind.cut ++ last
+  pub turns : AllByRecursion IsTurn answered
+  pub few : before + length answered ≤ MAX_LINES
+  pub lacks : IsLacking ended script behind.lacking
+  pub by : EndsBy ending tells old.state.files ended shown (before + length answered) behind
+  pub closed : closes (last_line ending) last
+  pub plays : IsTrue tells → (first : Machine) → begins first → PlaysOn ending first old new answered behind.begun
+
+-- A run of a script ends by this status.
+pub record Ends (status : Status) (tells : Bool) (begins : Machine → Type 0) (shown : Bytes → Bytes) (closes : Closing) (ended : Type 0) (old new : DiskView) (script gained : Bytes) : Type 0 where
+  pub ending : Result Unit Stop
+  pub status_is : status ≡ status_of ending
+  pub ends : EndsFrom 0 ending tells begins shown closes ended old new script gained
 
 -- ---- disks that don't open
 
--- it stopped since the disk doesn't open
-abbrev pub IsBadRoot : {T : Type 0} → Result T Stop → Type 0
-IsBadRoot (Err (stops.BadMark height)) = Unit {0}
-IsBadRoot (Err (stops.BadPage number)) = Unit {0}
-IsBadRoot result = ⊥
-
--- the last line of a run over files that don't open
-abbrev pub IsBadRootText : Files → Bytes → Type 0
-IsBadRootText files text =
-    ((height : ℕ) × IsFirstBadMark files height × (text ≡ bad_mark_text height))
-    ⊎ ((number : ℕ) × IsFirstBadPage files number × (text ≡ bad_page_text number))
-
--- the run stopped before it read, with the last line of files that don't open
-pub record EndsBadly (files : Files) (closes : Closing) (taken gained : Bytes) : Type 0 where
-  pub text : Bytes
-  pub bad : IsBadRootText files text
-  pub taken_is : taken ≡ []
-  pub closed : closes text gained
+-- it stopped before the first line
+abbrev pub IsUnbegun : {T : Type 0} → Result T Stop → Type 0
+IsUnbegun (Err stops.Usage) = Unit {0}
+IsUnbegun (Err (stops.BadMark height)) = Unit {0}
+IsUnbegun (Err (stops.BadPage number)) = Unit {0}
+IsUnbegun result = ⊥
 
 -- the files open, or the run stopped before it read
 abbrev pub OpensBy : Status → Files → Type 0 → Type 0

@@ -1,5 +1,5 @@
 -- What reading a line takes from the source.
-use Rattle.std.specs.Prelude.{◌≡◌, ◌≢◌, ◌+◌, [], ◌∷◌, ◌++◌, length, Result, Ok, Err}
+use Rattle.std.specs.Prelude.{◌≡◌, ◌≢◌, ◌+◌, ◌≤◌, [], ◌∷◌, ◌++◌, length, Result, Ok, Err}
 use Rattle.format_spec.specs.Bytes.{Bytes}
 use Rattle.format_spec.specs.declared.limits.TheConstants.{MAX_LINE}
 use Rattle.script_text.specs.Script.{IsLine, IsShort}
@@ -15,4 +15,4 @@ TakesLine (Ok Input) line taken ended = (taken ≡ line) × IsLine line × IsSho
 TakesLine (Ok NoLine) line taken ended = (taken ≡ []) × ended
 TakesLine (Ok TooLong) line taken ended = (taken ≡ line) × IsLine line × (length line ≡ MAX_LINE + 1)
 TakesLine (Err Fault) line taken ended = IsLine taken × IsShort taken
-TakesLine (Err Memory) line taken ended = IsLine taken
+TakesLine (Err Memory) line taken ended = IsLine taken × (length taken ≤ MAX_LINE + 1)

@@ -3,12 +3,12 @@ use Rattle.state_manager.specs.declared.stop.OpenError.{OpenError}
 use Rattle.state_manager.specs.declared.stop.OpenError.TheVariants as opening
 use Rattle.state_manager.specs.declared.stop.Stop.{Stop as Halt}
 use Rattle.state_manager.specs.declared.stop.Stop.TheVariants as halts
+use Rattle.script_text.specs.declared.ending.Stop.{Stop}
+use Rattle.script_text.specs.declared.ending.Stop.TheVariants.{ReadFault, WriteFault, DiskFault, BadMark, BadPage, Memory}
 use Rattle.state_cli.specs.declared.reading.ReadError.{ReadError}
 use Rattle.state_cli.specs.declared.reading.ReadError.TheVariants as reading
 use Rattle.state_cli.specs.declared.session.LineError.{LineError}
 use Rattle.state_cli.specs.declared.session.LineError.TheVariants as answering
-use Rattle.state_cli.specs.declared.session.Stop.{Stop}
-use Rattle.state_cli.specs.declared.session.Stop.TheVariants.{ReadFault, WriteFault, DiskFault, BadMark, BadPage, Memory}
 
 abbrev pub stop_of : ReadError → Stop
 stop_of reading.Fault = ReadFault

@@ -1,20 +1,18 @@
 //! A script, answered line by line.
 
-ghost use Rattle.std.specs.Prelude.{◌≡◌, ◌≢◌, ◌≤◌, ◌*◌, ℕ, List, Ok, Err, IsTrue, IsErrOf, OnOk};
+ghost use Rattle.std.specs.Prelude.{◌≡◌, ◌≢◌, ◌≤◌, ◌<◌, ◌*◌, ℕ, List, Ok, Err, IsTrue, OnOk};
 ghost use Rattle.std.specs.Io.KnownBytes.{IsAtEnd, Appends};
 ghost use Rattle.format_spec.specs.declared.limits.TheConstants.{MAX_LINES};
 ghost use Rattle.io_edge.specs.Faults.{IsCounted};
 ghost use Rattle.io_edge.specs.Moves.{Moves};
-ghost use Rattle.store_spec.specs.Image.{Published, StandsFor};
 ghost use Rattle.disk_model.specs.State.{IsImageNow};
-ghost use Rattle.disk_model.specs.View.{EachImage, LeavesOnly};
-ghost use Rattle.height_store.specs.Bad.{IsFirstBadMark, IsFirstBadPage};
-ghost use Rattle.machine_spec.specs.Machine.{Machine, start};
+ghost use Rattle.disk_model.specs.View.{LeavesOnly};
+ghost use Rattle.script_text.specs.Endings.{status_of};
 ghost use Rattle.state_manager.specs.Kept.{Keeps};
-ghost use Rattle.state_cli.specs.Ends.{Serves, OpensBy, IsBadRoot, status_of};
+ghost use Rattle.state_cli.specs.Ends.{EndsFrom, StandsAs, OpensBy, IsUnbegun, IsOpen, all_shown};
 ghost use Rattle.state_cli.specs.Room.{IsUsable, GivesFew};
-ghost use Rattle.state_cli.specs.Turns.{AnswersLine, TakesTurn};
-ghost use Rattle.state_cli.specs.Stops.{stop_of, stop_of_opening, stop_of_line, line_error_of};
+ghost use Rattle.state_cli.specs.Turns.{WritesLine, TakesTurn, KeepsImages};
+ghost use Rattle.state_cli.specs.Stops.{stop_of, stop_of_opening as stop_by_opening, stop_of_line, line_error_of};
 ghost use Rattle.state_cli.specs.declared.reading.ReadError.{ReadError};
 ghost use Rattle.state_cli.specs.declared.session.LineError.TheVariants as lines;
 
@@ -24,27 +22,9 @@ use byte_codec::NoMemory;
 use disk_model::Disk;
 use format_spec::MAX_LINES;
 use io_edge::{Sink, Source, write_all};
+use script_text::{Options, Stop};
 use state_manager::{Manager, OpenError, Stop as Halt};
 use std::alloc::{AllocFailed, Global};
-
-// How many pages a cache may hold, where no word says so.
-const CACHE: u32 = 256;
-
-/// Why a run stops before the end of its script.
-#[derive(Clone, Copy, Debug, PartialEq, Eq)]
-pub enum Stop {
-    ReadFault,
-    WriteFault,
-    DiskFault,
-    /// The mark of this height is none.
-    BadMark(u64),
-    /// The page file of this number is none.
-    BadPage(u64),
-    /// The line of this number, from 1, is too long.
-    LongLine(u32),
-    ManyLines,
-    Memory,
-}
 
 impl From<ReadError> for Stop {
     ghost from_gives = { λ error stop. stop ≡ stop_of error };
@@ -57,16 +37,15 @@ impl From<ReadError> for Stop {
     }
 }
 
-impl From<OpenError> for Stop {
-    ghost from_gives = { λ error stop. stop ≡ stop_of_opening error };
-
-    fn from(error: OpenError) -> Stop {
-        match error {
-            OpenError::BadMark(height) => Stop::BadMark(height),
-            OpenError::BadPage(number) => Stop::BadPage(number),
-            OpenError::Fault => Stop::DiskFault,
-            OpenError::Memory => Stop::Memory,
-        }
+// The stop of a disk that isn't opened.
+fn stop_of_opening(error: OpenError) -> Stop
+    ensures { result ≡ stop_by_opening error }
+{
+    match error {
+        OpenError::BadMark(height) => Stop::BadMark(height),
+        OpenError::BadPage(number) => Stop::BadPage(number),
+        OpenError::Fault => Stop::DiskFault,
+        OpenError::Memory => Stop::Memory,
     }
 }
 
@@ -141,8 +120,9 @@ fn answer_line<K: Sink, D: Disk>(
 ) -> Result<(), LineError>
     requires numbers { session.old.manager.store.given ≤ 2048 * MAX_LINES }
     requires usable { IsUsable D.tells session.old.manager (D.view disk.old) }
-    ensures answers { IsTrue D.tells → (m : Machine) → Keeps session.old.manager (D.view disk.old).state m
-        → (gained : List ℕ) × Appends (K.written sink.old) (K.written sink.new) gained × AnswersLine result m (Keeps session.new.manager (D.view disk.new).state) (EachImage (D.view disk.new).state) (record { line = session.old.line.items }) gained }
+    ensures answers { (gained : List ℕ) × Appends (K.written sink.old) (K.written sink.new) gained
+        × WritesLine result D.tells (Keeps session.old.manager (D.view disk.old).state) (Keeps session.new.manager (D.view disk.new).state) session.old.line.items gained }
+    ensures images { KeepsImages D.tells (Keeps session.old.manager (D.view disk.old).state) (D.view disk.old) (D.view disk.new) session.old.line.items }
     ensures usable { OnOk result (IsUsable D.tells session.new.manager (D.view disk.new)) }
     ensures few { GivesFew session.old.manager session.new.manager }
     ensures write { IsCounted (K.faults sink.old) (K.faults sink.new) (result ≡ Err LineError.WriteFault) }
@@ -161,31 +141,30 @@ fn answer_line<K: Sink, D: Disk>(
     }
 }
 
-// Reads a line and answers it.
+// Reads a line and answers it, behind so many lines.
 fn serve_line<S: Source, K: Sink, D: Disk>(
     alloc: Global,
-    number: u32,
+    before: u32,
     session: &mut Session,
     source: &mut S,
     sink: &mut K,
     disk: &mut D,
 ) -> Result<Continuation, Stop>
+    requires more { before < MAX_LINES }
     requires numbers { session.old.manager.store.given ≤ 2048 * MAX_LINES }
     requires usable { IsUsable D.tells session.old.manager (D.view disk.old) }
-    ensures turn { IsTrue D.tells → (m : Machine) → Keeps session.old.manager (D.view disk.old).state m
-        → Moves (S.left source.old) (S.left source.new) (K.written sink.old) (K.written sink.new) (λ taken gained.
-        TakesTurn result number m (Keeps session.new.manager (D.view disk.new).state) (EachImage (D.view disk.new).state) taken gained (IsAtEnd (S.left source.new))) }
+    ensures turn { Moves (S.left source.old) (S.left source.new) (K.written sink.old) (K.written sink.new)
+        (TakesTurn result before D.tells (Keeps session.old.manager (D.view disk.old).state) (Keeps session.new.manager (D.view disk.new).state) (IsAtEnd (S.left source.new)) (D.view disk.old) (D.view disk.new)) }
     ensures usable { OnOk result (IsUsable D.tells session.new.manager (D.view disk.new)) }
     ensures few { GivesFew session.old.manager session.new.manager }
     ensures read { IsCounted (S.faults source.old) (S.faults source.new) (result ≡ Err Stop.ReadFault) }
     ensures write { IsCounted (K.faults sink.old) (K.faults sink.new) (result ≡ Err Stop.WriteFault) }
     ensures disk { IsCounted (D.faults disk.old) (D.faults disk.new) (result ≡ Err Stop.DiskFault) }
-    ensures at_end { result ≡ Ok Continuation.Finished → IsAtEnd (S.left source.new) }
-    ensures good_root { IsBadRoot result → ⊥ }
+    ensures begun { IsUnbegun result → ⊥ }
 {
     match read_line(source, &mut session.line)? {
         LineEnd::NoLine => Ok(Continuation::Finished),
-        LineEnd::TooLong => Err(Stop::LongLine(number)),
+        LineEnd::TooLong => Err(Stop::LongLine(before + 1)),
         LineEnd::Feed => {
             answer_line(alloc, session, sink, disk)?;
             Ok(Continuation::More)
@@ -207,17 +186,15 @@ fn serve_lines<S: Source, K: Sink, D: Disk>(
 ) -> Result<(), Stop>
     requires numbers { session.old.manager.store.given ≡ 0 }
     requires usable { IsUsable D.tells session.old.manager (D.view disk.old) }
-    ensures session { IsTrue D.tells → (ps : List Published) → Keeps session.old.manager (D.view disk.old).state (start ps)
-        → Moves (S.left source.old) (S.left source.new) (K.written sink.old) (K.written sink.new)
-        (Serves result (start ps) (EachImage (D.view disk.new).state) (IsAtEnd (S.left source.new))) }
+    ensures session { Moves (S.left source.old) (S.left source.new) (K.written sink.old) (K.written sink.new)
+        (EndsFrom 0 result D.tells (Keeps session.old.manager (D.view disk.old).state) all_shown IsOpen (IsAtEnd (S.left source.new)) (D.view disk.old) (D.view disk.new)) }
     ensures read { IsCounted (S.faults source.old) (S.faults source.new) (result ≡ Err Stop.ReadFault) }
     ensures write { IsCounted (K.faults sink.old) (K.faults sink.new) (result ≡ Err Stop.WriteFault) }
     ensures disk { IsCounted (D.faults disk.old) (D.faults disk.new) (result ≡ Err Stop.DiskFault) }
-    ensures at_end { OnOk result (IsAtEnd (S.left source.new)) }
-    ensures good_root { IsBadRoot result → ⊥ }
+    ensures begun { IsUnbegun result → ⊥ }
 {
-    for number in 0..MAX_LINES as u32 {
-        match serve_line(alloc, number + 1, session, source, sink, disk)? {
+    for before in 0..MAX_LINES as u32 {
+        match serve_line(alloc, before, session, source, sink, disk)? {
             Continuation::More => {}
             Continuation::Finished => return Ok(()),
         }
@@ -232,23 +209,24 @@ fn serve_lines<S: Source, K: Sink, D: Disk>(
 /// Opens the disk, and answers a script to its end.
 pub fn serve<S: Source, K: Sink, D: Disk>(
     alloc: Global,
+    options: Options,
     source: &mut S,
     sink: &mut K,
     disk: &mut D,
 ) -> Result<(), Stop>
-    ensures session { IsTrue D.tells → (ps : List Published) → EachImage (D.view disk.old).state (λ image. StandsFor image ps)
-        → Moves (S.left source.old) (S.left source.new) (K.written sink.old) (K.written sink.new)
-        (Serves result (start ps) (EachImage (D.view disk.new).state) (IsAtEnd (S.left source.new))) }
-    ensures at_end { OnOk result (IsAtEnd (S.left source.new)) }
+    ensures session { Moves (S.left source.old) (S.left source.new) (K.written sink.old) (K.written sink.new)
+        (EndsFrom 0 result D.tells (StandsAs (D.view disk.old).state) all_shown IsOpen (IsAtEnd (S.left source.new)) (D.view disk.old) (D.view disk.new)) }
     ensures read { IsCounted (S.faults source.old) (S.faults source.new) (result ≡ Err Stop.ReadFault) }
     ensures write { IsCounted (K.faults sink.old) (K.faults sink.new) (result ≡ Err Stop.WriteFault) }
     ensures disk { IsCounted (D.faults disk.old) (D.faults disk.new) (result ≡ Err Stop.DiskFault) }
-    ensures bad_mark { IsTrue D.tells → (height : ℕ) → IsErrOf result (Stop.BadMark height) → IsFirstBadMark (D.view disk.old).state.files height }
-    ensures bad_page { IsTrue D.tells → (number : ℕ) → IsErrOf result (Stop.BadPage number) → IsFirstBadPage (D.view disk.old).state.files number }
-    ensures bad_root { IsBadRoot result → (source.new ≡ source.old) × (sink.new ≡ sink.old) × (IsTrue D.tells → LeavesOnly (D.view disk.old) (D.view disk.new) (IsImageNow (D.view disk.old).state)) }
+    ensures no_usage { result ≢ Err Stop.Usage }
+    ensures bad_root { IsUnbegun result → (source.new ≡ source.old) × (IsTrue D.tells → LeavesOnly (D.view disk.old) (D.view disk.new) (IsImageNow (D.view disk.old).state)) }
     ensures opens { IsTrue D.tells → OpensBy (status_of result) (D.view disk.old).state.files (source.new ≡ source.old) }
 {
-    let manager = Manager::open(alloc, disk, CACHE)?;
+    let manager = match Manager::open(alloc, disk, options.cache) {
+        Ok(manager) => manager,
+        Err(error) => return Err(stop_of_opening(error)),
+    };
     let mut session = Session {
         manager,
         line: Vec::new(alloc),

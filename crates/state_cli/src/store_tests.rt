@@ -173,6 +173,33 @@ fn heights_are_published_and_opened_again(rt: HostRuntime) -> Result<(), Fail> {
     Ok(())
 }
 
+#[test]
+fn a_store_has_sixteen_heights(rt: HostRuntime) -> Result<(), Fail> {
+    let alloc = rt.alloc();
+    let mut script = String::from_str(alloc, "canister 00\nwrite 00 heap 0 01\n")?;
+    let mut output = String::from_str(alloc, "ok\nok\n")?;
+    let tree = "0aebdd276407013fa06d6733e19aa11eaec20b1cbcb05cfad122249eb915c531";
+    let root = "00d20df6c93dbc5257167f2f6dee380e2b050f12d93f87910c02adf4db8eb778";
+    for height in 1u8..=16 {
+        script.push_str("round\ncheckpoint\n")?;
+        output.push_str(&format!(in alloc; "round {height} tree {tree}\n")?)?;
+        output.push_str(&format!(in alloc; "published {height} root {root}\n")?)?;
+    }
+    script.push_str("checkpoint\nforget 1\nround\ncheckpoint\n")?;
+    output.push_str("refused HeightLow\nok\n")?;
+    output.push_str(&format!(in alloc; "round 17 tree {tree}\nrefused ManyMarks\n")?)?;
+    let mut disk = disk(alloc, &[], None)?;
+    let output = output.as_bytes();
+    check(
+        &rt,
+        alloc,
+        &mut disk,
+        script.as_bytes(),
+        Status::Done,
+        output,
+    )
+}
+
 // A disk with the mark of height 1, which names page file 0, cut by so many bytes; and that page file with this first byte of
 // its page, where there is one.
 fn store_of(alloc: Global, cut: usize, height: u64, byte: Option<u8>) -> Result<MemDisk, Fail> {

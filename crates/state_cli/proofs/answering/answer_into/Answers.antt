@@ -1,51 +1,46 @@
-use Rattle.std.proofs.Common.{◌≡◌, true, false, [], ◌∷◌, ◌++◌, ◌∙◌, None, Some, Option, ap, sym, subst}
-use Rattle.disk_model.specs.View.{EachImage}
-use Rattle.machine_spec.specs.Answers.{Turn}
-use Rattle.script_text.specs.Commands.{command_of}
-use Rattle.script_text.specs.declared.command.Command.{Command}
-use Rattle.script_text.specs.Script.{is_silent}
+use Rattle.std.proofs.Common.{◌≡◌, ◌++◌, ◌∷◌, [], ◌∙◌, ap, sym}
+use Rattle.std.proofs.lemmas.Result.{on_ok_weaker}
+use Rattle.script_text.specs.Commands.{parsed}
 use Rattle.script_text.specs.Texts.{bad_line_text}
+use Rattle.script_text.specs.declared.parsing.Parsed.TheVariants.{BadLine, Line}
 use Rattle.state_manager.specs.Kept.{Keeps}
-use Rattle.std.proofs.lemmas.Result.{err_from_is_err_and}
-use Rattle.state_cli.proofs.Standing.{keeps_stand_either}
-use Rattle.state_cli.proofs.Silence.{silent_answer, silent_after, spoken_answer, spoken_after, spoken_does}
+use Rattle.state_cli.proofs.Replies.{silent, bad, spoken, images_of}
+use Rattle.state_cli.proofs.Standing.{keeps_images}
 use Rattle.state_cli.proofs.answering.answer_into.Goals as goal
 
-pub returns-then-is_silent-clause-answer : goal.returns-then-is_silent-clause-answer
-returns-then-is_silent-clause-answer g c = λ tells m k.
-    let turn : Turn = record { line = c.args.line.now } in
-    let silent : is_silent turn.line ≡ true = sym c.is_silent.ensures ∙ c.if-is_silent.true in
-    (c.clear.ensures.items ∙ sym (silent_answer m turn silent), subst (Keeps c.args.manager.now (g.D.Disk.view c.args.disk.now).state) (sym (silent_after m turn silent)) k)
+pub returns-in-Silent-clause-answer : goal.returns-in-Silent-clause-answer
+returns-in-Silent-clause-answer g c =
+    let line = c.args.line.now in
+    silent g.D.Disk.tells (Keeps c.args.manager.now (g.D.Disk.view c.args.disk.now).state) line c.clear.new.self.items (sym c.in_ok-parse_line.ensures.parsed ∙ c.in-Silent.is) c.clear.ensures.items
 
-pub returns-in-Some-clause-answer : goal.returns-in-Some-clause-answer
-returns-in-Some-clause-answer g c = λ tells m k.
-    let turn : Turn = record { line = c.args.line.now } in
-    let spoken : is_silent turn.line ≡ false = sym c.is_silent.ensures ∙ c.if-is_silent.false in
-    let found : Some c.in-Some.command ≡ command_of turn.line = sym c.in-Some.is ∙ c.in_ok-command.ensures.command in
-    let disk = (g.D.Disk.view c.answer_command.new.disk).state in
-    spoken_does c.answer_command.result m (Keeps c.answer_command.new.manager disk) (EachImage disk) turn (Some c.in-Some.command) c.answer_command.new.out.items spoken found (c.answer_command.ensures.answer tells m k)
+pub returns-in_ok-push-in-BadLine-clause-answer : goal.returns-in_ok-push-in-BadLine-clause-answer
+returns-in_ok-push-in-BadLine-clause-answer g c =
+    let line = c.args.line.now in
+    let text = c.in_ok-push-in-BadLine.ensures.items ∙ ap (λ t. t ++ 10 ∷ []) (c.in_ok-write_bad_line-in-BadLine.ensures ∙ ap (λ t. t ++ bad_line_text) c.clear.ensures.items) in
+    bad g.D.Disk.tells (Keeps c.args.manager.now (g.D.Disk.view c.args.disk.now).state) line _ (sym c.in_ok-parse_line.ensures.parsed ∙ c.in-BadLine.is) text
 
-pub returns-in_ok-push-in-None-clause-answer : goal.returns-in_ok-push-in-None-clause-answer
-returns-in_ok-push-in-None-clause-answer g c = λ tells m k.
-    let turn : Turn = record { line = c.args.line.now } in
-    let spoken : is_silent turn.line ≡ false = sym c.is_silent.ensures ∙ c.if-is_silent.false in
-    let none : Option Command = None in
-    let found : none ≡ command_of turn.line = sym c.in-None.is ∙ c.in_ok-command.ensures.command in (
-      c.in_ok-push-in-None.ensures.items ∙ ap (λ t. t ++ 10 ∷ []) (c.in_ok-write_bad_line-in-None.ensures ∙ ap (λ t. t ++ bad_line_text) c.clear.ensures.items) ∙ sym (spoken_answer m turn none spoken found),
-      subst (Keeps c.args.manager.now (g.D.Disk.view c.args.disk.now).state) (sym (spoken_after m turn none spoken found)) k,
-    )
+pub returns-in-Line-clause-answer : goal.returns-in-Line-clause-answer
+returns-in-Line-clause-answer g c =
+    let line = c.args.line.now in
+    let is : parsed line ≡ Line c.in-Line.command = sym c.in_ok-parse_line.ensures.parsed ∙ c.in-Line.is in
+    on_ok_weaker c.answer_command.result (λ done. spoken g.D.Disk.tells (Keeps c.args.manager.now (g.D.Disk.view c.args.disk.now).state) line (Keeps c.answer_command.new.manager (g.D.Disk.view c.answer_command.new.disk).state) c.in-Line.command c.answer_command.new.out.items is done) c.answer_command.ensures.answer
 
-pub returns-in_err-command-clause-answer : goal.returns-in_err-command-clause-answer
-returns-in_err-command-clause-answer g c = λ tells m k.
-    let stop = err_from_is_err_and c.from_residual.result c.from_residual.ensures.1 in
-    rw stop.1 (keeps_stand_either c.args.manager.now (g.D.Disk.view c.args.disk.now).state m _ k)
+pub returns-in-Line-clause-images : goal.returns-in-Line-clause-images
+returns-in-Line-clause-images g c =
+    let is : parsed c.args.line.now ≡ Line c.in-Line.command = sym c.in_ok-parse_line.ensures.parsed ∙ c.in-Line.is in
+    images_of g.D.Disk.tells (Keeps c.args.manager.now (g.D.Disk.view c.args.disk.now).state) c.args.line.now (g.D.Disk.view c.args.disk.now) (g.D.Disk.view c.answer_command.new.disk) c.in-Line.command is c.answer_command.ensures.images
 
-pub returns-in_err-write_bad_line-in-None-clause-answer : goal.returns-in_err-write_bad_line-in-None-clause-answer
-returns-in_err-write_bad_line-in-None-clause-answer g c = λ tells m k.
-    let stop = err_from_is_err_and c.from_residual-in_err-write_bad_line-in-None.result c.from_residual-in_err-write_bad_line-in-None.ensures.1 in
-    rw stop.1 (keeps_stand_either c.args.manager.now (g.D.Disk.view c.args.disk.now).state m _ k)
+pub returns-in-Silent-clause-images : goal.returns-in-Silent-clause-images
+returns-in-Silent-clause-images g c = λ tells m k. keeps_images c.args.manager.now (g.D.Disk.view c.args.disk.now) m _ k
 
-pub returns-in_err-push-in-None-clause-answer : goal.returns-in_err-push-in-None-clause-answer
-returns-in_err-push-in-None-clause-answer g c = λ tells m k.
-    let stop = err_from_is_err_and c.from_residual-in_err-push-in-None.result c.from_residual-in_err-push-in-None.ensures.1 in
-    rw stop.1 (keeps_stand_either c.args.manager.now (g.D.Disk.view c.args.disk.now).state m _ k)
+pub returns-in_err-parse_line-clause-images : goal.returns-in_err-parse_line-clause-images
+returns-in_err-parse_line-clause-images g c = λ tells m k. keeps_images c.args.manager.now (g.D.Disk.view c.args.disk.now) m _ k
+
+pub returns-in_err-write_bad_line-in-BadLine-clause-images : goal.returns-in_err-write_bad_line-in-BadLine-clause-images
+returns-in_err-write_bad_line-in-BadLine-clause-images g c = λ tells m k. keeps_images c.args.manager.now (g.D.Disk.view c.args.disk.now) m _ k
+
+pub returns-in_err-push-in-BadLine-clause-images : goal.returns-in_err-push-in-BadLine-clause-images
+returns-in_err-push-in-BadLine-clause-images g c = λ tells m k. keeps_images c.args.manager.now (g.D.Disk.view c.args.disk.now) m _ k
+
+pub returns-in_ok-push-in-BadLine-clause-images : goal.returns-in_ok-push-in-BadLine-clause-images
+returns-in_ok-push-in-BadLine-clause-images g c = λ tells m k. keeps_images c.args.manager.now (g.D.Disk.view c.args.disk.now) m _ k
