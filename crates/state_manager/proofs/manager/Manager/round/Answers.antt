@@ -21,5 +21,5 @@ returns-then-height-gt-MAX_HEIGHT-clause-step c =
 pub returns-clause-step : goal.returns-clause-step
 returns-clause-step c = λ m k.
     let kept = subst (λ (h : Held). KeepsStates h m) (sym c.self.view_is) k in
-    rounds _ _ m kept (omega arith) (omega arith) _ _ c.height-height.ensures (c.in_ok-tree.ensures m kept.live) refl refl
+    rounds _ _ m kept (omega arith) (omega arith) _ _ c.height-height.ensures (c.in_ok-tree.ensures (m.height, m.live) kept.live) refl refl
     (c.in_ok-push.ensures.items ∙ ap (λ (a : HeldState). c.self.inside.memory.items ++ a ∷ []) c.in_ok-copy.ensures) c.advance.ensures
