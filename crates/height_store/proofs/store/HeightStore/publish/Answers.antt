@@ -81,9 +81,9 @@ returns-clause-writable g c = λ told n writable.
     let v1 = g.D.Disk.view c.write_mark.new.disk in
     let h = c.in_ok-published.published in
     let written = at_mark (λ n text. HasWritten n text v0 v1) c.mark.inside.height c.bytes.result.now c.args.mark h
-    (ap (λ (m : Mark). m.height) c.mark.view_is) (c.bytes.ensures ∙ c.in_ok-text.ensures) c.in_ok-published.ensures.mark (c.in_ok-write_mark.ensures.written told) in
+    (ap (λ (m : Mark). m.height) c.mark.view_is) (c.bytes.ensures.value ∙ c.in_ok-text.ensures) c.in_ok-published.ensures.mark (c.in_ok-write_mark.ensures.written told) in
     let touches = at_mark (λ n text. TouchesOnly (is_of n) v0 v1) c.mark.inside.height c.bytes.result.now c.args.mark h
-    (ap (λ (m : Mark). m.height) c.mark.view_is) (c.bytes.ensures ∙ c.in_ok-text.ensures) c.in_ok-published.ensures.mark (c.write_mark.ensures.touches told) in
+    (ap (λ (m : Mark). m.height) c.mark.view_is) (c.bytes.ensures.value ∙ c.in_ok-text.ensures) c.in_ok-published.ensures.mark (c.write_mark.ensures.touches told) in
     let pushed = c.in_ok-push.ensures.items ∙ ap (λ (l : List StoredHeight). l ++ h ∷ []) c.reserve.ensures.items in
     subst (λ (store : Store). IsWritable store n v1.state.files) (sym (gained _ c.args.self.now c.push.new.self.items h c.self.view_is pushed))
     (writable_push c.args.self.now v0 v1 h written touches n writable)
