@@ -7,15 +7,14 @@ use Rattle.format_spec.specs.Fields.{Cursor, Reading, and_then, field, byte, any
 use Rattle.format_spec.specs.declared.limits.TheConstants.{HASH_SIZE, MAX_DEPTH}
 use Rattle.tree_spec.specs.Tree.{Tree, empty, fork, labeled, leaf, pruned, flatten, label_of, labels}
 use Rattle.tree_spec.specs.Cbor.{is_array_head, fits_head, tree_of_kind, tree_within, behind_tag, read_tree, last_label, string_form}
-use Rattle.witness.specs.declared.error.WitnessError.{WitnessError}
-use Rattle.witness.specs.declared.error.WitnessError.TheVariants.{BadWitness, WrongRoot, Memory}
-use Rattle.witness.specs.Gives.{Fails}
+use Rattle.byte_codec.specs.declared.error.FieldError.{FieldError}
+use Rattle.byte_codec.specs.declared.error.FieldError.TheVariants.{Bad, Memory}
+use Rattle.byte_codec.specs.Gives.{Fails}
 
 -- what fails first fails at that place
-pub stops : {A B : Type 0} (e : WitnessError) (r : Result (A × Cursor) ℕ) (k : A → Reading B) → Fails e r → Fails e (and_then r k)
+pub stops : {A B : Type 0} (e : FieldError) (r : Result (A × Cursor) ℕ) (k : A → Reading B) → Fails e r → Fails e (and_then r k)
 stops Memory r k h = tt
-stops (BadWitness place) r k h = ap (λ (x : Result (_ × Cursor) ℕ). and_then x k) h
-stops (WrongRoot hash) r k h = absurd h
+stops (Bad place) r k h = ap (λ (x : Result (_ × Cursor) ℕ). and_then x k) h
 
 pub no_room : (room : ℕ) (in_fork : Bool) (last : Option Bytes) (c : Cursor) → room ≡ 0 → tree_within room in_fork last c ≡ Err c.at
 unfolding tree_within
@@ -36,14 +35,14 @@ module _ (room : ℕ) (in_fork : Bool) (last : Option Bytes) (c : Cursor) (some 
   unfolding tree_within
   within_is = ap (λ (n : ℕ). tree_within n in_fork last c) (suc_less room some)
 
-  pub head_stops : (e : WitnessError) → Fails e (field byte is_array_head c) → Fails e (tree_within room in_fork last c)
+  pub head_stops : (e : FieldError) → Fails e (field byte is_array_head c) → Fails e (tree_within room in_fork last c)
   head_stops e h = rw within_is (stops e (field byte is_array_head c) behind_head h)
 
   module _ (head : ℕ) (m : Cursor) (one : field byte is_array_head c ≡ Ok (head, m)) where
     behind_is : tree_within room in_fork last c ≡ behind_head head m
     behind_is = within_is ∙ ap (λ (r : Result (ℕ × Cursor) ℕ). and_then r behind_head) one
 
-    pub kind_stops : (e : WitnessError) → Fails e (field byte (fits_head head in_fork) m) → Fails e (tree_within room in_fork last c)
+    pub kind_stops : (e : FieldError) → Fails e (field byte (fits_head head in_fork) m) → Fails e (tree_within room in_fork last c)
     kind_stops e h = rw behind_is (stops e (field byte (fits_head head in_fork) m) (tree_of_kind deeper last) h)
 
     -- behind the number
@@ -57,7 +56,7 @@ module _ (room : ℕ) (in_fork : Bool) (last : Option Bytes) (c : Cursor) (some 
       pub empty_read : kind ≡ 0 → tree_within room in_fork last c ≡ Ok (empty, d)
       empty_read is = this_kind 0 is
 
-      pub left_stops : kind ≡ 1 → (e : WitnessError) → Fails e (deeper true last d) → Fails e (tree_within room in_fork last c)
+      pub left_stops : kind ≡ 1 → (e : FieldError) → Fails e (deeper true last d) → Fails e (tree_within room in_fork last c)
       left_stops is e h = rw (this_kind 1 is) (stops e (deeper true last d) (λ left x. and_then (deeper true (last_label last left) x) (λ right y. Ok (fork left right, y))) h)
 
       -- both sides of a fork
@@ -68,13 +67,13 @@ module _ (room : ℕ) (in_fork : Bool) (last : Option Bytes) (c : Cursor) (some 
         left_is : tree_within room in_fork last c ≡ with_left left x
         left_is = this_kind 1 is ∙ ap (λ (r : Result (Tree × Cursor) ℕ). and_then r with_left) three
 
-        pub right_stops : (e : WitnessError) → Fails e (deeper true (last_label last left) x) → Fails e (tree_within room in_fork last c)
+        pub right_stops : (e : FieldError) → Fails e (deeper true (last_label last left) x) → Fails e (tree_within room in_fork last c)
         right_stops e h = rw left_is (stops e (deeper true (last_label last left) x) (λ right z. Ok (fork left right, z)) h)
 
         pub fork_read : (right : Tree) (y : Cursor) → deeper true (last_label last left) x ≡ Ok (right, y) → tree_within room in_fork last c ≡ Ok (fork left right, y)
         fork_read right y h = left_is ∙ ap (λ (r : Result (Tree × Cursor) ℕ). and_then r (λ t z. Ok (fork left t, z))) h
 
-      pub label_stops : kind ≡ 2 → (e : WitnessError) → Fails e (field string_form (is_after bytes_cmp last) d) → Fails e (tree_within room in_fork last c)
+      pub label_stops : kind ≡ 2 → (e : FieldError) → Fails e (field string_form (is_after bytes_cmp last) d) → Fails e (tree_within room in_fork last c)
       label_stops is e h = rw (this_kind 2 is) (stops e (field string_form (is_after bytes_cmp last) d) (λ label x. and_then (deeper false None x) (λ below y. Ok (labeled label below, y))) h)
 
       -- what is below a label
@@ -82,13 +81,13 @@ module _ (room : ℕ) (in_fork : Bool) (last : Option Bytes) (c : Cursor) (some 
         label_is : tree_within room in_fork last c ≡ and_then (deeper false None x) (λ below y. Ok (labeled label below, y))
         label_is = this_kind 2 is ∙ ap (λ (r : Result (Bytes × Cursor) ℕ). and_then r (λ l z. and_then (deeper false None z) (λ below y. Ok (labeled l below, y)))) three
 
-        pub below_stops : (e : WitnessError) → Fails e (deeper false None x) → Fails e (tree_within room in_fork last c)
+        pub below_stops : (e : FieldError) → Fails e (deeper false None x) → Fails e (tree_within room in_fork last c)
         below_stops e h = rw label_is (stops e (deeper false None x) (λ below y. Ok (labeled label below, y)) h)
 
         pub labeled_read : (below : Tree) (y : Cursor) → deeper false None x ≡ Ok (below, y) → tree_within room in_fork last c ≡ Ok (labeled label below, y)
         labeled_read below y h = label_is ∙ ap (λ (r : Result (Tree × Cursor) ℕ). and_then r (λ t z. Ok (labeled label t, z))) h
 
-      pub value_stops : kind ≡ 3 → (e : WitnessError) → Fails e (field string_form any d) → Fails e (tree_within room in_fork last c)
+      pub value_stops : kind ≡ 3 → (e : FieldError) → Fails e (field string_form any d) → Fails e (tree_within room in_fork last c)
       value_stops is e h = rw (this_kind 3 is) (stops e (field string_form any d) (λ bytes x. Ok (leaf bytes, x)) h)
 
       pub leaf_read : kind ≡ 3 → (bytes : Bytes) (x : Cursor) → field string_form any d ≡ Ok (bytes, x) → tree_within room in_fork last c ≡ Ok (leaf bytes, x)
@@ -99,7 +98,7 @@ module _ (room : ℕ) (in_fork : Bool) (last : Option Bytes) (c : Cursor) (some 
         hash_is : tree_within room in_fork last c ≡ and_then (field string_form (λ s. length s == HASH_SIZE) d) (λ hash y. Ok (pruned hash, y))
         hash_is = let four : kind ≡ suc (suc (suc (suc (kind - 4)))) = omega arith in kind_is ∙ ap (λ (n : ℕ). tree_of_kind deeper last n d) four
 
-        pub hash_stops : (e : WitnessError) → Fails e (field string_form (λ s. length s == HASH_SIZE) d) → Fails e (tree_within room in_fork last c)
+        pub hash_stops : (e : FieldError) → Fails e (field string_form (λ s. length s == HASH_SIZE) d) → Fails e (tree_within room in_fork last c)
         hash_stops e h = rw hash_is (stops e (field string_form (λ s. length s == HASH_SIZE) d) (λ hash y. Ok (pruned hash, y)) h)
 
         pub pruned_read : (hash : Bytes) (x : Cursor) → field string_form (λ s. length s == HASH_SIZE) d ≡ Ok (hash, x) → tree_within room in_fork last c ≡ Ok (pruned hash, x)

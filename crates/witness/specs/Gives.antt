@@ -2,8 +2,15 @@
 use Rattle.std.specs.Prelude.{◌≡◌, ℕ, None, Result, Ok, Err}
 use Rattle.format_spec.specs.Fields.{Cursor, Form, field, any}
 use Rattle.byte_codec.specs.declared.error.Short.{Short}
+use Rattle.byte_codec.specs.declared.error.FieldError.{FieldError}
+use Rattle.byte_codec.specs.declared.error.FieldError.TheVariants as fields
 use Rattle.witness.specs.declared.error.WitnessError.{WitnessError}
 use Rattle.witness.specs.declared.error.WitnessError.TheVariants.{BadWitness, WrongRoot, Memory}
+
+-- what becomes of an error of a field
+abbrev pub error_of : FieldError → WitnessError
+error_of (fields.Bad place) = BadWitness place
+error_of fields.Memory = Memory
 
 -- memory ran out, or the place is that of the reading
 abbrev pub Fails : {X : Type 0} → WitnessError → Result X ℕ → Type 0

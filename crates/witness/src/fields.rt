@@ -3,35 +3,35 @@
 ghost use Rattle.std.specs.Prelude.{◌≡◌, ◌==◌, ◌<◌, ◌≤◌, length, option_map, MatchResult};
 ghost use Rattle.format_spec.specs.Bytes.{is_after, bytes_cmp};
 ghost use Rattle.format_spec.specs.Fields.{field, byte, any};
-ghost use Rattle.format_spec.specs.declared.limits.TheConstants.{HASH_SIZE};
 ghost use Rattle.tree_spec.specs.Cbor.{is_array_head, fits_head, string_form};
-ghost use Rattle.witness.specs.Gives.{Gives, TakesForm};
+ghost use Rattle.byte_codec.specs.Gives.{Gives};
+ghost use Rattle.witness.specs.Gives.{TakesForm};
 ghost use Rattle.witness.specs.Strings.{length_behind};
 
-use crate::error::WitnessError;
-use byte_codec::{Blob, Reader, Short};
+use byte_codec::{Blob, FieldError, Reader, Short};
+use format_spec::HASH_SIZE;
 use hash_domain::Hash32;
 use std::alloc::Global;
 
 /// The head of an array of 1, 2 or 3.
-pub(crate) fn read_array_head(reader: &mut Reader) -> Result<u8, WitnessError>
+pub(crate) fn read_array_head(reader: &mut Reader) -> Result<u8, FieldError>
     ensures { Gives (λ head. (head, reader.new)) result (field byte is_array_head reader.old) }
 {
     let at = reader.at();
     match reader.u8() {
         Ok(head) if 0x81 <= head && head <= 0x83 => Ok(head),
-        _ => Err(WitnessError::BadWitness(at as u64)),
+        _ => Err(FieldError::Bad(at as u64)),
     }
 }
 
 /// The number that says what kind of tree the array is.
-pub(crate) fn read_kind(reader: &mut Reader, head: u8, in_fork: bool) -> Result<u8, WitnessError>
+pub(crate) fn read_kind(reader: &mut Reader, head: u8, in_fork: bool) -> Result<u8, FieldError>
     ensures { Gives (λ kind. (kind, reader.new)) result (field byte (fits_head head in_fork) reader.old) }
 {
     let at = reader.at();
     match reader.u8() {
         Ok(kind) if is_kind(head, in_fork, kind) => Ok(kind),
-        _ => Err(WitnessError::BadWitness(at as u64)),
+        _ => Err(FieldError::Bad(at as u64)),
     }
 }
 
@@ -50,13 +50,13 @@ fn is_kind(head: u8, in_fork: bool, kind: u8) -> bool
 pub(crate) fn read_label<'a>(
     reader: &mut Reader<'a>,
     last: Option<&[u8]>,
-) -> Result<&'a [u8], WitnessError>
+) -> Result<&'a [u8], FieldError>
     ensures { Gives (λ label. (label.now, reader.new)) result (field string_form (is_after bytes_cmp (option_map (λ s. s.now) last.entry)) reader.old) }
 {
     let at = reader.at();
     match read_string(reader) {
         Ok(label) if is_next(last, label) => Ok(label),
-        _ => Err(WitnessError::BadWitness(at as u64)),
+        _ => Err(FieldError::Bad(at as u64)),
     }
 }
 
@@ -70,28 +70,24 @@ fn is_next(last: Option<&[u8]>, label: &[u8]) -> bool
 }
 
 /// The bytes of a leaf.
-pub(crate) fn read_value(alloc: Global, reader: &mut Reader) -> Result<Blob, WitnessError>
+pub(crate) fn read_value(alloc: Global, reader: &mut Reader) -> Result<Blob, FieldError>
     ensures { Gives (λ bytes. (bytes, reader.new)) result (field string_form any reader.old) }
 {
     let at = reader.at();
     match read_string(reader) {
         Ok(bytes) => Ok(Blob::from_slice(alloc, bytes)?),
-        Err(_) => Err(WitnessError::BadWitness(at as u64)),
+        Err(_) => Err(FieldError::Bad(at as u64)),
     }
 }
 
 /// The hash of a tree that is left out.
-pub(crate) fn read_hash(reader: &mut Reader) -> Result<Hash32, WitnessError>
+pub(crate) fn read_hash(reader: &mut Reader) -> Result<Hash32, FieldError>
     ensures { Gives (λ hash. (hash, reader.new)) result (field string_form (λ s. length s == HASH_SIZE) reader.old) }
 {
     let at = reader.at();
     match read_string(reader) {
-        Ok(bytes) if bytes.len() == 32 => {
-            let mut hash = [0; 32];
-            hash.copy_from_slice(bytes);
-            Ok(Hash32(hash))
-        }
-        _ => Err(WitnessError::BadWitness(at as u64)),
+        Ok(bytes) if bytes.len() == HASH_SIZE => Ok(Hash32::from_slice(bytes)),
+        _ => Err(FieldError::Bad(at as u64)),
     }
 }
 

@@ -1,12 +1,12 @@
 //! A level of a tree: its entries in order, as forks join them.
 
 ghost use Rattle.std.specs.Prelude.{◌≡◌, ◌||◌, map, fold, option_map};
-ghost use Rattle.format_spec.specs.Bytes.{same_bytes};
 ghost use Rattle.tree_spec.specs.Tree.{flatten, label_of};
 ghost use Rattle.tree_spec.specs.Lookup.{below_label, has_gap_at, is_outside, is_one_leaf as is_one_leaf_of};
 ghost use Rattle.hash_tree.specs.View.{tree_view};
 ghost use Rattle.witness.specs.Level.{scan_all, scan_side, contents_of, joined_of};
 
+use byte_codec::is_same;
 use hash_tree::HashTree;
 use std::cmp::Ordering;
 
@@ -29,13 +29,6 @@ pub(crate) fn find<'a>(tree: &'a HashTree, label: &[u8]) -> Option<&'a HashTree>
         }
         _ => None,
     }
-}
-
-/// Whether two labels are equal.
-pub(crate) fn is_same(a: &[u8], b: &[u8]) -> bool
-    ensures { result ≡ same_bytes a.now b.now }
-{
-    a.cmp(&b).is_eq()
 }
 
 /// What the entries so far say of a label: whether it has a gap between two of them, and whether the last one is below

@@ -4,11 +4,12 @@ ghost use Rattle.std.specs.Prelude.{◌≡◌, ◌⊎◌, ◌++◌, Ok, IfOk, op
 ghost use Rattle.format_spec.specs.Fields.{Cursor};
 ghost use Rattle.tree_spec.specs.Cbor.{cbor, tag, read_tree, tree_within, behind_tag, last_label, IsSpellable};
 ghost use Rattle.hash_tree.specs.View.{tree_view};
+ghost use Rattle.byte_codec.specs.Gives as fields;
 ghost use Rattle.witness.specs.Gives.{Gives};
 
 use crate::error::WitnessError;
 use crate::fields::{read_array_head, read_hash, read_kind, read_label, read_value};
-use byte_codec::{Blob, Reader};
+use byte_codec::{Blob, FieldError, Reader};
 use format_spec::MAX_DEPTH;
 use hash_tree::HashTree;
 use std::alloc::Global;
@@ -18,16 +19,24 @@ const TAG: &[u8] = b"\xd9\xd9\xf7";
 
 /// The tree that bytes spell: well-formed, at most 256 deep, with the shortest heads and with the tag in front or
 /// without. BadWitness with the place where they spell none.
-#[tactic(auto, unfolding(tree_spec::specs::Cbor::read_tree))]
 pub fn from_cbor(alloc: Global, bytes: &[u8]) -> Result<HashTree, WitnessError>
     ensures value { Gives tree_view result (read_tree bytes.now) }
+    ensures spelled { IfOk result (λ t. (bytes.now ≡ cbor (tree_view t)) ⊎ (bytes.now ≡ tag ++ cbor (tree_view t))) }
+    ensures good { IfOk result (λ t. IsSpellable (tree_view t)) }
+{
+    Ok(read_whole(alloc, bytes)?)
+}
+
+#[tactic(auto, unfolding(tree_spec::specs::Cbor::read_tree))]
+fn read_whole(alloc: Global, bytes: &[u8]) -> Result<HashTree, FieldError>
+    ensures value { fields.Gives tree_view result (read_tree bytes.now) }
     ensures spelled { IfOk result (λ t. (bytes.now ≡ cbor (tree_view t)) ⊎ (bytes.now ≡ tag ++ cbor (tree_view t))) }
     ensures good { IfOk result (λ t. IsSpellable (tree_view t)) }
 {
     let mut reader = after_tag(bytes);
     let level = read_within(alloc, &mut reader, MAX_DEPTH as u32, false, None)?;
     if reader.left() != 0 {
-        return Err(WitnessError::BadWitness(reader.at() as u64));
+        return Err(FieldError::Bad(reader.at() as u64));
     }
     Ok(level.tree)
 }
@@ -56,12 +65,12 @@ fn read_within<'a>(
     room: u32,
     in_fork: bool,
     last: Option<&'a [u8]>,
-) -> Result<Level<'a>, WitnessError>
-    ensures value { Gives (λ level. (tree_view level.tree, reader.new)) result (tree_within room in_fork (option_map (λ s. s.now) last.entry) reader.old) }
+) -> Result<Level<'a>, FieldError>
+    ensures value { fields.Gives (λ level. (tree_view level.tree, reader.new)) result (tree_within room in_fork (option_map (λ s. s.now) last.entry) reader.old) }
     ensures last { IfOk result (λ level. option_map (λ s. s.now) level.last ≡ last_label (option_map (λ s. s.now) last.entry) (tree_view level.tree)) }
 {
     if room == 0 {
-        return Err(WitnessError::BadWitness(reader.at() as u64));
+        return Err(FieldError::Bad(reader.at() as u64));
     }
     let head = read_array_head(reader)?;
     match read_kind(reader, head, in_fork)? {

@@ -14,9 +14,9 @@ returns-in-None c =
     let t = tree_view c.loop-label.at.now in
     let label = c.bytes.result.now in
     c.missing.ensures
-    ∙ ap (λ (l : Bytes). missing l (flatten t)) (c.bytes-in-None.ensures ∙ sym c.bytes.ensures)
+    ∙ ap (λ (l : Bytes). missing l (flatten t)) (c.bytes-in-None.ensures.value ∙ sym c.bytes.ensures.value)
     ∙ sym (lookup_missing label (drop (i + 1) path) t (sym c.in-None.ensures))
-    ∙ sym (at_label items path i c.label-item.result label t c.labels-label-items.ensures.value (omega (arith, c.loop-label-test.true)) c.label-item.is c.bytes.ensures)
+    ∙ sym (at_label items path i c.label-item.result label t c.labels-label-items.ensures.value (omega (arith, c.loop-label-test.true)) c.label-item.is c.bytes.ensures.value)
     ∙ c.loop-label.invariant
 
 pub loop-label-preserved : goal.loop-label-preserved
@@ -27,7 +27,7 @@ loop-label-preserved c =
     let t = tree_view c.loop-label.at.now in
     let label = c.bytes.result.now in
     sym (lookup_below label (drop (i + 1) path) t (tree_view c.in-Some.below.now) (sym c.in-Some.ensures))
-    ∙ sym (at_label items path i c.label-item.result label t c.labels-label-items.ensures.value (omega (arith, c.loop-label-test.true)) c.label-item.is c.bytes.ensures)
+    ∙ sym (at_label items path i c.label-item.result label t c.labels-label-items.ensures.value (omega (arith, c.loop-label-test.true)) c.label-item.is c.bytes.ensures.value)
     ∙ c.loop-label.invariant
 
 pub returns : goal.returns

@@ -4,7 +4,7 @@ use Rattle.format_spec.specs.Bytes.{Bytes}
 use Rattle.tree_spec.specs.Tree.{Tree, labeled}
 use Rattle.tree_spec.specs.Cbor.{tree_within, last_label}
 use Rattle.hash_tree.specs.View.{tree_view}
-use Rattle.witness.specs.Gives.{Fails}
+use Rattle.byte_codec.specs.Gives.{Fails}
 use Rattle.witness.proofs.Within.{no_room, head_stops, kind_stops, empty_read, left_stops, right_stops, fork_read, label_stops, below_stops, labeled_read, value_stops, leaf_read, hash_stops, pruned_read, last_of_fork}
 use Rattle.witness.proofs.reading.+read_within.Goals as goal
 
@@ -82,7 +82,7 @@ returns-in_ok-tree-in-2-clause-value t c =
     let below = tree_view c.in_ok-below-in-2.below.tree in
     let end = c.read_within-in-2.new.reader in
     labeled_read c.args.room c.args.in_fork (option_map (λ s. s.now) c.args.last) c.args.reader.now c.if-room-eq0.false c.in_ok-head.head c.read_array_head.new.reader c.in_ok-head.ensures c.in_ok-read_kind.field-0 c.read_kind.new.reader c.in_ok-read_kind.ensures c.in-2.is c.in_ok-label-in-2.label.now c.read_label.new.reader c.in_ok-label-in-2.ensures below end c.in_ok-below-in-2.ensures.value
-    ∙ ap (λ (l : Bytes). Ok (labeled l below, end)) (sym c.in_ok-from_slice-in-2.ensures)
+    ∙ ap (λ (l : Bytes). Ok (labeled l below, end)) (sym c.in_ok-from_slice-in-2.ensures.value)
     ∙ ap (λ (x : Tree). Ok (x, end)) (sym c.in_ok-tree-in-2.ensures)
 
 pub returns-in_ok-read_value-in-3-clause-value : goal.returns-in_ok-read_value-in-3-clause-value

@@ -86,7 +86,7 @@ returns-in_ok-copy-in-Some-2 t c =
     let rest = part below (going_on (rests k ps)) in
     let whole : tree_view c.args.tree.now ≡ labeled k below = ap tree_view c.in-Labeled.is in
     let found : Some c.in-Some.bytes.now ≡ reached k below ps =
-    c.in-Some.ensures ∙ ap (λ (l : Bytes). reached l (tree_view c.deref-in-Labeled.result.now) ps) c.bytes.ensures ∙ ap (λ t. reached k (tree_view t) ps) c.deref-in-Labeled.ensures in
+    c.in-Some.ensures ∙ ap (λ (l : Bytes). reached l (tree_view c.deref-in-Labeled.result.now) ps) c.bytes.ensures.value ∙ ap (λ t. reached k (tree_view t) ps) c.deref-in-Labeled.ensures in
     ok_then tree_view _ _ c.labeled.result
     (ap (λ (l : Bytes). labeled l (leaf c.in_ok-copy-in-Some.field-0)) c.in_ok-copy-in-Some-2.ensures
     ∙ ap (λ (b : Bytes). labeled k (leaf b)) c.in_ok-copy-in-Some.ensures
@@ -103,9 +103,9 @@ returns-in_ok-copy-in-None t c =
     let rest = part below (going_on (rests k ps)) in
     let whole : tree_view c.args.tree.now ≡ labeled k below = ap tree_view c.in-Labeled.is in
     let nothing : None ≡ reached k below ps =
-    c.in-None.ensures ∙ ap (λ (l : Bytes). reached l (tree_view c.deref-in-Labeled.result.now) ps) c.bytes.ensures ∙ ap (λ t. reached k (tree_view t) ps) c.deref-in-Labeled.ensures in
+    c.in-None.ensures ∙ ap (λ (l : Bytes). reached l (tree_view c.deref-in-Labeled.result.now) ps) c.bytes.ensures.value ∙ ap (λ t. reached k (tree_view t) ps) c.deref-in-Labeled.ensures in
     let paths : map (λ p. p.now) c.deref-in-None-2.result.now ≡ going_on (rests k ps) =
-    ap (map (λ p. p.now)) c.deref-in-None-2.ensures.value ∙ c.in_ok-deeper-in-None.ensures ∙ ap (λ (l : Bytes). going_on (rests l ps)) c.bytes-in-None.ensures in
+    ap (map (λ p. p.now)) c.deref-in-None-2.ensures.value ∙ c.in_ok-deeper-in-None.ensures ∙ ap (λ (l : Bytes). going_on (rests l ps)) c.bytes-in-None.ensures.value in
     let inner : tree_view c.in_ok-below-in-None.below ≡ rest =
     c.in_ok-below-in-None.ensures ∙ ap (λ t. part (tree_view t) (map (λ p. p.now) c.deref-in-None-2.result.now)) c.deref-in-None.ensures ∙ ap (part below) paths in
     ok_then tree_view _ _ c.labeled-in-None.result

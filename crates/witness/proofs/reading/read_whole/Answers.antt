@@ -2,7 +2,7 @@ use Rattle.std.proofs.Common.{◌∙◌, sym, arith}
 use Rattle.tree_spec.proofs.CborWhole.{tree_found}
 use Rattle.hash_tree.specs.View.{tree_view}
 use Rattle.witness.proofs.Within.{whole_read}
-use Rattle.witness.proofs.reading.from_cbor.Goals as goal
+use Rattle.witness.proofs.reading.read_whole.Goals as goal
 
 pub returns-clause-spelled : goal.returns-clause-spelled
 returns-clause-spelled c =
