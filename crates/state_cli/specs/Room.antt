@@ -1,5 +1,5 @@
 -- What the manager needs from line to line.
-use Rattle.std.specs.Prelude.{◌≡◌, ◌≤◌, ◌+◌, Bool, None, IsTrue}
+use Rattle.std.specs.Prelude.{◌≡◌, Bool, None, IsTrue}
 use Rattle.disk_model.specs.View.{DiskView}
 use Rattle.height_store.specs.Kept.{IsOver}
 use Rattle.state_manager.specs.Kept.{Held}
@@ -8,8 +8,3 @@ use Rattle.state_manager.specs.Kept.{Held}
 pub record IsUsable (tells : Bool) (held : Held) (view : DiskView) : Type 0 where
   pub open_still : held.stopped ≡ None
   pub over : IsTrue tells → IsOver held.store view.state.files
-
--- a line gives at most 2,048 numbers to page files
-pub record GivesFew (old new : Held) : Type 0 where
-  pub least : old.store.given ≤ new.store.given
-  pub most : new.store.given ≤ old.store.given + 2048

@@ -11,7 +11,8 @@ ghost use Rattle.script_text.specs.Texts.{reply_text};
 ghost use Rattle.script_text.specs.declared.reply.Reply.{Reply};
 ghost use Rattle.state_manager.specs.Kept.{Keeps};
 ghost use Rattle.state_cli.specs.Turns.{AnswersLine, KeepsImages};
-ghost use Rattle.state_cli.specs.Room.{IsUsable, GivesFew};
+ghost use Rattle.height_store.specs.Store.{GivesFew};
+ghost use Rattle.state_cli.specs.Room.{IsUsable};
 
 use crate::session::LineError;
 use disk_model::Disk;
@@ -36,7 +37,7 @@ fn answer_command<D: Disk>(
     ensures images { IsTrue D.tells → (m : Machine) → Keeps manager.old (D.view disk.old).state m
         → LeavesOnly (D.view disk.old) (D.view disk.new) (StandsForEither m.published (step m command.now).after.published) }
     ensures usable { OnOk result (IsUsable D.tells manager.new (D.view disk.new)) }
-    ensures few { GivesFew manager.old manager.new }
+    ensures few { GivesFew manager.old.store manager.new.store }
     ensures disk { IsCounted (D.faults disk.old) (D.faults disk.new) (result ≡ Err LineError.DiskFault) }
     ensures no_write { result ≢ Err LineError.WriteFault }
 {
@@ -63,7 +64,7 @@ pub fn answer_into<D: Disk>(
     ensures answer { OnOk result (AnswersLine D.tells (Keeps manager.old (D.view disk.old).state) (Keeps manager.new (D.view disk.new).state) line.now out.new.items) }
     ensures images { KeepsImages D.tells (Keeps manager.old (D.view disk.old).state) (D.view disk.old) (D.view disk.new) line.now }
     ensures usable { OnOk result (IsUsable D.tells manager.new (D.view disk.new)) }
-    ensures few { GivesFew manager.old manager.new }
+    ensures few { GivesFew manager.old.store manager.new.store }
     ensures disk { IsCounted (D.faults disk.old) (D.faults disk.new) (result ≡ Err LineError.DiskFault) }
     ensures no_write { result ≢ Err LineError.WriteFault }
 {

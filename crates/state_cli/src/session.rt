@@ -10,7 +10,9 @@ ghost use Rattle.disk_model.specs.View.{LeavesOnly};
 ghost use Rattle.script_text.specs.Endings.{status_of};
 ghost use Rattle.state_manager.specs.Kept.{Keeps};
 ghost use Rattle.state_cli.specs.Ends.{EndsFrom, StandsAs, OpensBy, IsUnbegun, IsOpen, all_shown};
-ghost use Rattle.state_cli.specs.Room.{IsUsable, GivesFew};
+ghost use Rattle.height_store.specs.declared.limits.TheConstants.{MAX_GIVEN};
+ghost use Rattle.height_store.specs.Store.{GivesFew};
+ghost use Rattle.state_cli.specs.Room.{IsUsable};
 ghost use Rattle.state_cli.specs.Turns.{WritesLine, TakesTurn, KeepsImages};
 ghost use Rattle.state_cli.specs.Stops.{stop_of, stop_of_opening as stop_by_opening, stop_of_line, line_error_of};
 ghost use Rattle.state_cli.specs.declared.reading.ReadError.{ReadError};
@@ -118,13 +120,13 @@ fn answer_line<K: Sink, D: Disk>(
     sink: &mut K,
     disk: &mut D,
 ) -> Result<(), LineError>
-    requires numbers { session.old.manager.store.given ≤ 2048 * MAX_LINES }
+    requires numbers { session.old.manager.store.given ≤ MAX_GIVEN * MAX_LINES }
     requires usable { IsUsable D.tells session.old.manager (D.view disk.old) }
     ensures answers { (gained : List ℕ) × Appends (K.written sink.old) (K.written sink.new) gained
         × WritesLine result D.tells (Keeps session.old.manager (D.view disk.old).state) (Keeps session.new.manager (D.view disk.new).state) session.old.line.items gained }
     ensures images { KeepsImages D.tells (Keeps session.old.manager (D.view disk.old).state) (D.view disk.old) (D.view disk.new) session.old.line.items }
     ensures usable { OnOk result (IsUsable D.tells session.new.manager (D.view disk.new)) }
-    ensures few { GivesFew session.old.manager session.new.manager }
+    ensures few { GivesFew session.old.manager.store session.new.manager.store }
     ensures write { IsCounted (K.faults sink.old) (K.faults sink.new) (result ≡ Err LineError.WriteFault) }
     ensures disk { IsCounted (D.faults disk.old) (D.faults disk.new) (result ≡ Err LineError.DiskFault) }
 {
@@ -151,12 +153,12 @@ fn serve_line<S: Source, K: Sink, D: Disk>(
     disk: &mut D,
 ) -> Result<Continuation, Stop>
     requires more { before < MAX_LINES }
-    requires numbers { session.old.manager.store.given ≤ 2048 * MAX_LINES }
+    requires numbers { session.old.manager.store.given ≤ MAX_GIVEN * MAX_LINES }
     requires usable { IsUsable D.tells session.old.manager (D.view disk.old) }
     ensures turn { Moves (S.left source.old) (S.left source.new) (K.written sink.old) (K.written sink.new)
         (TakesTurn result before D.tells (Keeps session.old.manager (D.view disk.old).state) (Keeps session.new.manager (D.view disk.new).state) (IsAtEnd (S.left source.new)) (D.view disk.old) (D.view disk.new)) }
     ensures usable { OnOk result (IsUsable D.tells session.new.manager (D.view disk.new)) }
-    ensures few { GivesFew session.old.manager session.new.manager }
+    ensures few { GivesFew session.old.manager.store session.new.manager.store }
     ensures read { IsCounted (S.faults source.old) (S.faults source.new) (result ≡ Err Stop.ReadFault) }
     ensures write { IsCounted (K.faults sink.old) (K.faults sink.new) (result ≡ Err Stop.WriteFault) }
     ensures disk { IsCounted (D.faults disk.old) (D.faults disk.new) (result ≡ Err Stop.DiskFault) }

@@ -60,8 +60,7 @@ module _ (tells : Bool) (held : Held) (before after : DiskView) (result : Result
     reply = λ told m k. answers result m (subst (λ (s : DiskState). Keeps held s m) (sym (looks told).1.state) k) (reply told m k);
     images = λ told m k. looks_leave (looks told).0 before after (StandsForEither m.published (step m command).after.published) (looks told).1 (λ image now. inl (kept_stands held.store.heights before.state m.published k.heights image now));
     over = λ told. on_ok_always _ result (subst (λ (s : DiskState). IsOver held.store s.files) (sym (looks told).1.state) (over told));
-    given_least = omega arith;
-    given_most = omega arith;
+    given = record { least = omega arith; most = omega arith };
     same = refl;
   }
     where
@@ -87,8 +86,7 @@ module _ (tells : Bool) (old now : Held) (view : DiskView) (command : Command) (
     reply = λ told m k. answers result m k (performs m k.states);
     images = λ told m k. looks_leave 0 view view (StandsForEither m.published (step m command).after.published) (looks_none 0 view) (λ image now. inl (kept_stands old.store.heights view.state m.published k.heights image now));
     over = λ told. on_ok_always _ result (rw store (over told));
-    given_least = rw store (omega arith);
-    given_most = rw store (omega arith);
+    given = rw store (record { least = omega arith; most = omega arith });
     same = same;
   }
     where
@@ -221,8 +219,7 @@ module _ (tells : Bool) (old now : Held) (before after : DiskView) (a : HeldStat
     reply = λ told m k. none result failed m;
     images = images_of;
     over = λ told. on_failed _ result failed;
-    given_least = publishes.given_least;
-    given_most = publishes.given_most;
+    given = publishes.given;
     same = closed;
   }
     where
@@ -254,8 +251,7 @@ module _ (tells : Bool) (old now : Held) (before after : DiskView) (a : HeldStat
         subst (λ (o : Outcome). (replies.Published a.height hash ≡ o.reply) × Keeps now after.state o.after) (sym does) (cc (kk.2.height, told_root), keeps);
     images = images_of;
     over = λ told. subst (λ (r : Result Bytes StoreError). OnOk r (IsOver now.store after.state.files)) done (publishes.over told);
-    given_least = publishes.given_least;
-    given_most = publishes.given_most;
+    given = publishes.given;
     same = closed;
   }
 
@@ -329,8 +325,7 @@ reset_done tells old now before after height sound over looks there last store c
       subst (λ (o : Outcome). (replies.Fine ≡ o.reply) × Keeps now after.state o.after) (sym (resets m height s.0 s.1 is_last)) (refl, state);
   images = λ told m k. looks_leave (looks told).0 before after (StandsForEither m.published (step m (commands.Reset height)).after.published) (looks told).1 (λ image now. inl (kept_stands old.store.heights before.state m.published k.heights image now));
   over = λ told. let l = (looks told).1 in rw (l.state, store) (over told);
-  given_least = rw store (omega arith);
-  given_most = rw store (omega arith);
+  given = rw store (record { least = omega arith; most = omega arith });
   same = closed;
 }
 

@@ -11,7 +11,7 @@ use Rattle.disk_model.specs.View.{DiskView, LeavesOnly}
 use Rattle.height_store.specs.declared.error.StoreError.{StoreError}
 use Rattle.height_store.specs.declared.error.StoreError.TheVariants as store
 use Rattle.height_store.specs.Kept.{IsOver, KeepsHeights, StandsForEither}
-use Rattle.height_store.specs.Store.{StoredHeight, height_at, is_newest}
+use Rattle.height_store.specs.Store.{StoredHeight, GivesFew, height_at, is_newest}
 use Rattle.whole_state.specs.Laws.{kept_known}
 use Rattle.whole_state.specs.Whole.{KnowsHeight}
 use Rattle.script_text.specs.declared.command.Command.TheVariants as commands
@@ -49,8 +49,7 @@ pub record Purges {T : Type 0} (tells : Bool) (old now : Held) (before after : D
   pub no_height : (r ≡ Err store.NoHeight) ↔ (is_some (height_at old.store.heights height) ≡ false)
   pub last_height : (r ≡ Err store.LastHeight) ↔ IsTrue (is_newest old.store.heights height)
   pub refused : IsErrOf r store.NoHeight ⊎ IsErrOf r store.LastHeight → (now.store ≡ old.store) × (after ≡ before)
-  pub given_least : old.store.given ≤ now.store.given
-  pub given_most : now.store.given ≤ old.store.given + 2048
+  pub given : GivesFew old.store now.store
   pub over : IsTrue tells → OnOk r (IsOver now.store after.state.files)
   pub stands : IsTrue tells → (ps : List Published) → IsSettled before.state → KeepsHeights old.store.heights before.state ps → OnOk r (KeepsHeights now.store.heights after.state (without_published ps height))
   pub images : IsTrue tells → (ps : List Published) → IsSettled before.state → KeepsHeights old.store.heights before.state ps → LeavesOnly before after (StandsForEither ps (without_published ps height))
@@ -117,8 +116,7 @@ module _ {T : Type 0} (tells : Bool) (old now : Held) (before after : DiskView) 
         reply = λ told m k. answers reply refl a b there older told m k;
         images = λ told m k. subst (λ (o : Outcome). LeavesOnly before after (StandsForEither m.published o.after.published)) (sym (does_purge there older m k.states)) (p.images told m.published k.settled k.heights);
         over = λ told. over_after a b _ (p.over told);
-        given_least = p.given_least;
-        given_most = p.given_most;
+        given = p.given;
         same = closed;
       }
     where

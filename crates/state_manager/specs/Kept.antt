@@ -7,7 +7,7 @@ use Rattle.state_spec.specs.State.{State}
 use Rattle.disk_model.specs.State.{DiskState, IsSettled}
 use Rattle.disk_model.specs.View.{DiskView, LeavesOnly}
 use Rattle.height_store.specs.declared.error.StoreError.{StoreError}
-use Rattle.height_store.specs.Store.{Store, height_at}
+use Rattle.height_store.specs.Store.{Store, GivesFew, height_at}
 use Rattle.height_store.specs.Kept.{IsOver, KeepsHeights, StandsForEither}
 use Rattle.whole_state.specs.Whole.{KnowsHeight}
 use Rattle.script_text.specs.declared.command.Command.{Command}
@@ -91,12 +91,11 @@ Applies (Ok reply) now s m command = (reply ≡ (step m command).reply) × Keeps
 Applies (Err stop) now s m command = Unit {0}
 
 -- What a line that may call the disk does, whatever it answers: while it runs every image stands for the published heights
--- before it or for those after the machine's step, and it gives at most 2,048 numbers to page files.
+-- before it or for those after the machine's step, and it gives few numbers to page files.
 pub record DoesLine (tells : Bool) (old new : Held) (before after : DiskView) (result : Result Reply StoreError) (command : Command) : Type 0 where
   pub reply : IsTrue tells → (m : Machine) → Keeps old before.state m → PerformsOn result new after.state m command
   pub images : IsTrue tells → (m : Machine) → Keeps old before.state m
       → LeavesOnly before after (StandsForEither m.published (step m command).after.published)
   pub over : IsTrue tells → OnOk result (IsOver new.store after.state.files)
-  pub given_least : old.store.given ≤ new.store.given
-  pub given_most : new.store.given ≤ old.store.given + 2048
+  pub given : GivesFew old.store new.store
   pub same : new.stopped ≡ old.stopped

@@ -10,7 +10,7 @@ use Rattle.disk_model.specs.State.{IsSettled}
 use Rattle.disk_model.specs.View.{DiskView, LeavesOnly}
 use Rattle.sys_state.specs.System.{System, kept_of}
 use Rattle.height_store.specs.declared.error.StoreError.{StoreError}
-use Rattle.height_store.specs.Store.{Store}
+use Rattle.height_store.specs.Store.{Store, GivesFew}
 use Rattle.height_store.specs.Kept.{IsOver, KeepsHeights, StandsForEither}
 use Rattle.whole_state.specs.Whole.{whole}
 use Rattle.script_text.specs.declared.command.Command.{Command}
@@ -61,5 +61,4 @@ pub record Publishes (tells : Bool) (held : HeldState) (old new : Store) (before
   pub images : IsTrue tells → (ps : List Published) (k : ℕ × State) → KeepsState held k → IsSettled before.state → KeepsHeights old.heights before.state ps
       → LeavesOnly before after (StandsForEither ps (ps ++ whole held.height k.1 ∷ []))
   pub over : IsTrue tells → OnOk result (IsOver new after.state.files)
-  pub given_least : old.given ≤ new.given
-  pub given_most : new.given ≤ old.given + 2048
+  pub given : GivesFew old new

@@ -10,7 +10,7 @@ ghost use Rattle.disk_model.specs.View.{EachImage, LeavesOnly};
 ghost use Rattle.height_store.specs.Bad.{IsFirstBadMark, IsFirstBadPage};
 ghost use Rattle.height_store.specs.Errors.{HasCause as StoreCause};
 ghost use Rattle.height_store.specs.Kept.{IsOver, StandsForSome, StandsAsBefore, StandsForEither};
-ghost use Rattle.height_store.specs.Store.{is_named};
+ghost use Rattle.height_store.specs.Store.{GivesFew, is_named};
 ghost use Rattle.script_text.specs.Commands.{FitsForm};
 ghost use Rattle.machine_spec.specs.Machine.{Machine, start};
 ghost use Rattle.machine_spec.specs.Step.{step};
@@ -428,7 +428,7 @@ impl Manager {
         ensures images { IsTrue D.tells → (m : Machine) → Keeps self.old (D.view disk.old).state m
             → LeavesOnly (D.view disk.old) (D.view disk.new) (StandsForEither m.published (step m command.now).after.published) }
         ensures over { IsTrue D.tells → OnOk result (IsOver self.new.store (D.view disk.new).state.files) }
-        ensures given { (self.old.store.given ≤ self.new.store.given) × (self.new.store.given ≤ self.old.store.given + 2048) }
+        ensures given { GivesFew self.old.store self.new.store }
         ensures closed { (result ≡ Err Stop.Closed) ↔ IsSome self.old.stopped }
         ensures silent { result ≡ Err Stop.Closed → (self.new ≡ self.old) × (disk.new ≡ disk.old) }
         ensures closes { IfErr result (λ stop. self.old.stopped ≡ None → self.new.stopped ≡ Some stop) }

@@ -22,6 +22,5 @@ returns-clause-publishes g c =
           on_ok_both _ _ c.checkpoint.result (on_ok_given _ _ c.checkpoint.result (c.checkpoint.ensures.settled told) settled) (c.checkpoint.ensures.stands told ps k.1 (parts k keeps) settled heights);
       images = λ told ps k keeps settled heights. c.checkpoint.ensures.images told ps k.1 (parts k keeps) settled heights;
       over = λ told. over_after c.checkpoint.result c.args.store.now c.checkpoint.new.store _ _ (c.requires.over told) (c.checkpoint.ensures.readable told) (c.checkpoint.ensures.writable told);
-      given_least = c.checkpoint.ensures.given.least;
-      given_most = c.checkpoint.ensures.given.most;
+      given = c.checkpoint.ensures.given;
     })
