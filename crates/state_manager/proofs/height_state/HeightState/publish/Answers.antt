@@ -10,6 +10,9 @@ use Rattle.state_manager.proofs.height_state.HeightState.publish.Goals as goal
 pub checkpoint-requires-clause-fit : goal.checkpoint-requires-clause-fit
 checkpoint-requires-clause-fit g c = rw c.deref.ensures.value (fit_memories c.self.inside.sys (map (λ v. v.items) c.self.inside.memories.items) c.self.invariant.sizes)
 
+pub checkpoint-requires-clause-writable : goal.checkpoint-requires-clause-writable
+checkpoint-requires-clause-writable g c = λ told. (c.requires.over told).writable c.self.inside.height
+
 pub returns-clause-publishes : goal.returns-clause-publishes
 returns-clause-publishes g c =
     let held : HeldState = record { system = c.self.inside.sys; memories = map (λ v. v.items) c.self.inside.memories.items; height = c.self.inside.height } in
