@@ -25,9 +25,6 @@ pub one_byte : (b : ℕ) (s : Bytes) → b < 256 → IsBytes s → IsBytes (b �
 one_byte b s lt h zero = lt
 one_byte b s lt h (suc i) = h i
 
-pub behind_byte : (b : ℕ) (s : Bytes) → IsBytes (b ∷ s) → IsBytes s
-behind_byte b s h i = h (suc i)
-
 pub join_bytes : (xs ys : Bytes) → IsBytes xs → IsBytes ys → IsBytes (xs ++ ys)
 join_bytes [] ys p q = q
 join_bytes (x ∷ xs) ys p q = one_byte x (xs ++ ys) (p 0) (join_bytes xs ys (λ i. p (suc i)) q)
@@ -87,14 +84,8 @@ pub high_bytes : (k n : ℕ) → IsBytes (bytes_high_first k n)
 high_bytes zero n = by_test [] refl
 high_bytes (suc k) n = one_byte (byte_at k n) (bytes_high_first k n) (byte_fits k n) (high_bytes k n)
 
-pub be16_bytes : (n : ℕ) → IsBytes (be16 n)
-be16_bytes n = high_bytes 2 n
-
 pub be32_bytes : (n : ℕ) → IsBytes (be32 n)
 be32_bytes n = high_bytes 4 n
-
-pub be64_bytes : (n : ℕ) → IsBytes (be64 n)
-be64_bytes n = high_bytes 8 n
 
 digest_is : (h : List ℕ) (n : ℕ) → IsBytes (digest_bytes h n)
 unfolding digest_bytes

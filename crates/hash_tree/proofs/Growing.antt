@@ -68,9 +68,6 @@ pub record Walked (d from at to : ℕ) (es : Entries) (old new : List HashTree) 
   pub is_level : IsLevel (level d at to es)
   pub pushed : Pushed old new (child_trees (entry_children (level d from to es))) (child_trees (entry_children (level d at to es)))
 
-pub walked_none : (d from to : ℕ) (es : Entries) (old : List HashTree) → from ≤ to → IsLevel (level d from to es) → Walked d from from to es old old
-walked_none d from to es old le h = record { bound = le; is_level = h; pushed = record { added = []; new_is = sym (append-nil old); views = refl } }
-
 label_parts : (d at end to : ℕ) (es : Entries) → EndsLabel d at end to es → IsLevel (level d at to es) → IsLevel (level d at end es) × IsLevel (level d end to es)
 label_parts d at end to es e h = parts_are_levels (level d at end es) (level d end to es) (subst IsLevel (level_parts d at end to es (omega (arith, e.some)) e.within) h)
 
@@ -86,10 +83,6 @@ walked_more d from at end to es old new next b w e tree is = record {
       (subst (Pushed old new (child_trees (entry_children (level d from to es)))) (label_split d at end to es e ∙ ap (λ (ts : List Tree). ts ++ child_trees (entry_children (level d end to es))) tree) w.pushed)
       is refl;
 }
-
-pub walked_all : (d from at to : ℕ) (es : Entries) (old new : List HashTree) → Walked d from at to es old new → to ≤ at → Pushes old new (child_trees (entry_children (level d from to es)))
-walked_all d from at to es old new w le =
-    pushed_all old new _ (subst (Pushed old new (child_trees (entry_children (level d from to es)))) (ap (λ (xs : Entries). child_trees (entry_children xs)) (level_none d at to es le)) w.pushed)
 
 -- ---- the entries of one label
 

@@ -297,16 +297,6 @@ parted from i es l m le lt h below other gt =
           (above_from l m (behind 0 b.entry) (level 0 (i + 1) (length es) es) b.first (total.antisymm l m ∙ ap ordering_reverse gt) rest.1);
     }
 
-pub parted_at_end : (from i : ℕ) (es : Entries) (l : Bytes) → from ≤ i → i ≤ length es → length es ≤ i → AllByRecursion (IsBelow l) (level 0 from i es) → Parts l from (length es) es
-parted_at_end from i es l le most least below =
-    let e : i ≡ length es = omega arith in
-    record {
-      later = omega arith;
-      within = omega arith;
-      below = subst (λ (k : ℕ). AllByRecursion (IsBelow l) (level 0 from k es)) e below;
-      above = subst (AllByRecursion (IsAbove l)) (sym (level_none 0 (length es) (length es) es (omega arith))) tt;
-    }
-
 pub more_below : (from i : ℕ) (es : Entries) (l m : Bytes) → from ≤ i → AllByRecursion (Misses l) es → AllByRecursion (IsBelow l) (level 0 from i es) → label_in 0 i es ≡ Some m
     → (bytes_cmp m l ≡ Greater → ⊥) → AllByRecursion (IsBelow l) (level 0 from (i + 1) es)
 more_below from i es l m le free below other not_above =

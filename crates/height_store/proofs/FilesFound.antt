@@ -11,7 +11,7 @@ use Rattle.std.proofs.lemmas.List.Elements.{All-from_recursion, recursion_from_A
 use Rattle.std.proofs.lemmas.List.Kept.{AllPairs-from_increasing}
 use Rattle.std.proofs.lemmas.List.Folds.{list_any-append, list_any_at}
 use Rattle.std.proofs.lemmas.List.Sorted.{searched}
-use Rattle.store_spec.specs.PageFile.{PageIndex}
+use Rattle.page_spec.specs.PageFile.{PageIndex}
 use Rattle.disk_model.specs.Files.{Files}
 use Rattle.page_file.specs.declared.error.PageError.{PageError}
 use Rattle.page_file.specs.declared.error.PageError.TheVariants as errors

@@ -148,6 +148,3 @@ module _ (count pairs : ℕ) (files : List FileRow) (last : Option Bytes) (total
       let len = read.length_is in
       sym read.so_far ∙ each_more (file_after 1 count) count (2 * pairs) files now system end (omega arith) (system_next (Ok (system, end)) e)
       ∙ each_ends (file_after 1 count) count (2 * pairs + 1) (files ++ system ∷ []) end (omega arith)
-
-  pub count_read : (system : FileRow) → length (files ++ system ∷ []) ≡ count
-  count_read system = let len = read.length_is in omega (arith, length-append files (system ∷ []))

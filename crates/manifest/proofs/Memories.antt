@@ -49,9 +49,6 @@ pub record Half (m : Manifest) (cs : List (Bytes × CanisterRecord)) (ls : List 
   pub whole : done ++ memory_sums (named (drop i cs)) (drop (2 * i) ls) ≡ memory_sums (named cs) ls
   pub fit : lengths (drop (2 * i) ls) ≡ counts (named (drop i cs))
 
-pub half_none : (m : Manifest) (cs : List (Bytes × CanisterRecord)) (ls : List (List Bytes)) → m ≡ manifest_from 1 [] → lengths ls ≡ counts (named cs) → Half m cs ls 0
-half_none m cs ls is fit = record { done = []; m_is = is; count = refl; whole = refl; fit = fit }
-
 pub drop_get : {X : Type 0} (xs : List X) (i : ℕ) (x : X) → slice_get xs i ≡ Some x → drop i xs ≡ x ∷ drop (i + 1) xs
 drop_get {X = X} xs i x e = drop_more xs i x (slice_get_within xs i x e) ∙ ap (λ (y : X). y ∷ drop (i + 1) xs) (get_or_from_slice_get xs i x x e)
 
@@ -115,12 +112,6 @@ module _ (m : Manifest) (cs : List (Bytes × CanisterRecord)) (ls : List (List B
             ∙ half.whole;
         fit = two.behind;
       }
-
--- all canisters
-pub half_all : (m : Manifest) (cs : List (Bytes × CanisterRecord)) (ls : List (List Bytes)) (i : ℕ) → Half m cs ls i → length cs ≤ i → m ≡ manifest_from 1 (memory_sums (named cs) ls)
-half_all m cs ls i half le =
-    let none = drop_all i cs le in
-    half.m_is ∙ ap (manifest_from 1) (sym (append-nil half.done) ∙ ap (λ (x : List (Bytes × CanisterRecord)). half.done ++ memory_sums (named x) (drop (2 * i) ls)) (sym none) ∙ half.whole)
 
 pub half_files : (m : Manifest) (cs : List (Bytes × CanisterRecord)) (ls : List (List Bytes)) (i : ℕ) → Half m cs ls i → length m.files ≡ 2 * i
 unfolding manifest_from

@@ -4,7 +4,7 @@ ghost use Rattle.std.specs.Prelude.{◌≡◌, ◌≤◌, ◌<◌, ◌==◌, ◌
 ghost use Rattle.std.specs.List.{last_or, AllByRecursion, AllZip};
 ghost use Rattle.std.specs.Option.{option_map_or};
 ghost use Rattle.state_spec.specs.Root.{root_of};
-ghost use Rattle.store_spec.specs.Image.{Published};
+ghost use Rattle.store_spec.specs.Image.{Published, opened};
 ghost use Rattle.disk_model.specs.Looking.{OnlyLooks};
 ghost use Rattle.height_store.specs.Errors.{HasCause as StoreCause, NoBadFile};
 ghost use Rattle.height_store.specs.Kept.{IsReadable, ShowsHeight};
@@ -12,7 +12,7 @@ ghost use Rattle.height_store.specs.Store.{StoredHeight, height_at, heights_in};
 ghost use Rattle.whole_state.specs.Whole.{KnowsHeight};
 ghost use Rattle.machine_spec.specs.HeightSteps.{counts_of, tree_root};
 ghost use Rattle.machine_spec.specs.LiveSteps.{read_reply};
-ghost use Rattle.machine_spec.specs.Machine.{opened, start};
+ghost use Rattle.machine_spec.specs.Machine.{start};
 ghost use Rattle.machine_spec.specs.WitnessSteps.{witness_text};
 ghost use Rattle.state_manager.specs.StateKept.{KeepsState, live_of};
 

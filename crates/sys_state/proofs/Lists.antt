@@ -13,9 +13,3 @@ module _ {X : Type 0} (P : X → Type 0) where
   all_parts (x ∷ xs) ys p = let q = all_parts xs ys p.1 in ((p.0, q.0), q.1)
 
   -- a loop's step
-  pub all_more : (xs : List X) (i : ℕ) (d : X) → i < length xs → AllByRecursion P (take i xs) → P (get_or xs i d) → AllByRecursion P (take (i + 1) xs)
-  all_more xs i d lt so_far here = subst (AllByRecursion P) (sym (take_more xs i d lt)) (all_join (take i xs) (get_or xs i d ∷ []) so_far (here, tt))
-
-pub all_mapped : {X Y : Type 0} (f : X → Y) (P : Y → Type 0) (Q : X → Type 0) → ((x : X) → Q x → P (f x)) → (xs : List X) → AllByRecursion Q xs → AllByRecursion P (map f xs)
-all_mapped f P Q h [] q = tt
-all_mapped f P Q h (x ∷ xs) q = (h x q.0, all_mapped f P Q h xs q.1)

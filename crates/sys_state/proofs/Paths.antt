@@ -23,9 +23,6 @@ use Rattle.sys_state.proofs.Places.{greater_from_less, above_from_sorted}
 pub prefix_by_cmp : (p q : List Bytes) → is_prefix p q ≡ is_eq (path_cmp p (take (length p) q))
 prefix_by_cmp p q = lists_ties bytes_cmp (λ x y. refl) p (take (length p) q)
 
-pub longer_is_no_prefix : (p q : List Bytes) → length q < length p → is_prefix p q ≡ false
-longer_is_no_prefix p q lt = unequal same_bytes p (take (length p) q) (λ e. omega (arith, e, length-take (length p) q))
-
 -- ---- between a path and its extensions there are only extensions
 
 tied : (o : Ordering) → is_eq o ≡ true → o ≡ Equal

@@ -46,10 +46,6 @@ module _ {K X : Type 0} (R : K → K → Ordering) (o : IsTotalOrder R) where
       let p = and_parts (is_lt (R key e.0)) (below_all R key es) h in
       (less_is (R key e.0) p.0, above_from_sorted key es p.1)
 
-  pub sorted_from_above : (key : K) (es : List (K × X)) → Above key es → below_all R key es ≡ true
-  sorted_from_above key [] h = refl
-  sorted_from_above key (e ∷ es) h = and_from (is_lt (R key e.0)) (below_all R key es) (ap is_lt h.0) (sorted_from_above key es h.1)
-
   -- an entry among those in order parts them
   pub parted : (before : List (K × X)) (e : K × X) (after : List (K × X)) → is_sorted R (before ++ e ∷ after) ≡ true → Below e.0 before × Above e.0 after
   parted [] e after h = (tt, above_from_sorted e.0 after (and_parts (below_all R e.0 after) (is_sorted R after) h).0)

@@ -16,7 +16,8 @@ use Rattle.sys_state.specs.System.{System, part_of}
 use Rattle.manifest.specs.Fits.{FitSums}
 use Rattle.mark_file.proofs.MemoryLaws.{sums_fit}
 use Rattle.store_spec.specs.Mark.{Mark}
-use Rattle.store_spec.specs.Image.{Published, Layer, memory_from}
+use Rattle.store_spec.specs.Image.{Published}
+use Rattle.page_spec.specs.Layers.{Layer, memory_from}
 use Rattle.disk_model.specs.Files.{Files}
 use Rattle.page_file.specs.Files.{NumberedFile}
 use Rattle.layer_stack.specs.Stacks.{AreLayers}

@@ -8,7 +8,7 @@ use Rattle.format_spec.specs.Bytes.{Bytes}
 use Rattle.format_spec.specs.declared.limits.TheConstants.{PAGE_SIZE}
 use Rattle.state_spec.specs.Files.{memories_in}
 use Rattle.sys_state.specs.System.{part_of}
-use Rattle.store_spec.specs.Image.{Layer, page_from, memory_from}
+use Rattle.page_spec.specs.Layers.{Layer, page_from, memory_from}
 use Rattle.height_store.specs.Store.{StoredHeight, height_at}
 use Rattle.whole_state.specs.Memories.{IsWhole, layers_page_long}
 

@@ -11,9 +11,8 @@ use Rattle.state_spec.specs.Root.{root_of, root_of_meta, meta_of}
 use Rattle.sys_state.specs.System.{part_of, kept_of}
 use Rattle.manifest.specs.Fits.{FitMemories}
 use Rattle.manifest.proofs.States.{of_state}
-use Rattle.store_spec.specs.Image.{Published, HasTrueSums, memories_from}
+use Rattle.store_spec.specs.Image.{Published, HasTrueSums, memories_from, opened}
 use Rattle.store_spec.specs.Mark.{MarkMemory}
-use Rattle.machine_spec.specs.Machine.{opened}
 use Rattle.disk_model.specs.Files.{Files}
 use Rattle.disk_model.specs.State.{DiskState}
 use Rattle.disk_model.specs.Laws.{IsSound}

@@ -5,11 +5,10 @@ use Rattle.std.proofs.Common.{sym, ◌∙◌, ap, subst, arith, drop}
 use Rattle.std.proofs.lemmas.List.{length-take, length-drop, length-append, length-replicate, reverse-append}
 use Rattle.std.proofs.lemmas.List.FromFn.{length-range_with_len}
 use Rattle.std.proofs.lemmas.List.Quantifiers.{position-Some}
-use Rattle.format_spec.specs.Bytes.{Bytes}
+use Rattle.format_spec.specs.Bytes.{Bytes, page_at}
 use Rattle.format_spec.specs.declared.limits.TheConstants.{PAGE_SIZE}
-use Rattle.state_spec.specs.Memory.{page_at}
-use Rattle.store_spec.specs.Image.{Layer, page_from, memory_from}
-use Rattle.store_spec.specs.PageFile.{PageIndex}
+use Rattle.page_spec.specs.Layers.{Layer, page_from, memory_from}
+use Rattle.page_spec.specs.PageFile.{PageIndex}
 use Rattle.disk_model.specs.Files.{Files}
 use Rattle.page_file.specs.Files.{NumberedFile}
 use Rattle.layer_stack.specs.Stacks.{AreLayers}

@@ -2,7 +2,7 @@ use Rattle.std.proofs.Common.{◌≡◌, ◌≤◌, ◌*◌, ◌-◌, ℕ, List,
 use Rattle.format_spec.specs.Bytes.{Bytes}
 use Rattle.format_spec.specs.declared.limits.TheConstants.{PAGE_SIZE}
 use Rattle.state_spec.specs.Files.{memories_in}
-use Rattle.store_spec.specs.Image.{Layer, memory_from}
+use Rattle.page_spec.specs.Layers.{Layer, memory_from}
 use Rattle.sys_state.specs.System.{part_of}
 use Rattle.disk_model.specs.Looking.{OnlyLooks}
 use Rattle.page_file.specs.Files.{NumberedFile}

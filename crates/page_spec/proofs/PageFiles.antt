@@ -6,7 +6,7 @@ use Rattle.std.specs.Ordering.{nat_cmp}
 use Rattle.std.proofs.lemmas.Bool.{and_parts}
 use Rattle.format_spec.specs.Bytes.{Bytes, be32, be64, ascending}
 use Rattle.format_spec.proofs.Cuts.{cons_same, cut_front, be32_same}
-use Rattle.store_spec.specs.PageFile.{PageIndex, IsIndex, before_runs, runs_of, ranges_text, kind_of, index_length, file_length, index_text, IsPageFile}
+use Rattle.page_spec.specs.PageFile.{PageIndex, IsIndex, before_runs, runs_of, ranges_text, kind_of, index_length, file_length, index_text, IsPageFile}
 
 -- ---- runs
 

@@ -1,5 +1,5 @@
-use Rattle.store_spec.proofs.PageFiles.{page_file_once, by_index}
-use Rattle.store_spec.proofs.laws.page_files_one_way.Goals as goal
+use Rattle.page_spec.proofs.PageFiles.{page_file_once, by_index}
+use Rattle.page_spec.proofs.laws.page_files_one_way.Goals as goal
 
 pub returns-clause-once : goal.returns-clause-once
 returns-clause-once c = λ text i j a b p q. page_file_once text i j a b p q
