@@ -6,12 +6,14 @@ ghost use Rattle.std.specs.Option.{option_copied};
 ghost use Rattle.store_spec.specs.Image.{Published, StandsFor, Opens};
 ghost use Rattle.disk_model.specs.declared.name.Name.TheVariants as name;
 ghost use Rattle.disk_model.specs.State.{IsImageNow};
+ghost use Rattle.disk_model.specs.Spending.{Spends};
 ghost use Rattle.disk_model.specs.View.{EachImage, LeavesOnly};
 ghost use Rattle.height_store.specs.Bad.{IsFirstBadMark, IsFirstBadPage};
 ghost use Rattle.height_store.specs.Errors.{HasCause as StoreCause};
 ghost use Rattle.height_store.specs.Kept.{IsOver, StandsForSome, StandsAsBefore, StandsForEither};
 ghost use Rattle.height_store.specs.Store.{GivesFew, is_named};
 ghost use Rattle.script_text.specs.Commands.{FitsForm};
+ghost use Rattle.machine_spec.specs.Costs.{appends, reads};
 ghost use Rattle.machine_spec.specs.Machine.{Machine, start};
 ghost use Rattle.machine_spec.specs.Step.{step};
 ghost use Rattle.state_manager.specs.Causes.{HasCause, OpensByCause, IsBadFile, purge_reply};
@@ -414,6 +416,8 @@ impl Manager {
     /// A crash at any moment leaves the published heights before the command or those after it; after Ok it leaves those after.
     /// Disk where the disk failed, Memory where memory ran out; the manager is closed from then on, and keeps which it was.
     /// Closed exactly where an earlier call answered one of them; the disk isn't called then.
+    ///
+    /// After Ok just the bytes were appended that the machine says of the command, and no more were read.
     pub fn apply<D: Disk>(
         &mut self,
         alloc: Global,
@@ -428,6 +432,8 @@ impl Manager {
         ensures images { IsTrue D.tells → (m : Machine) → Keeps self.old (D.view disk.old).state m
             → LeavesOnly (D.view disk.old) (D.view disk.new) (StandsForEither m.published (step m command.now).after.published) }
         ensures over { IsTrue D.tells → OnOk result (IsOver self.new.store (D.view disk.new).state.files) }
+        ensures spends { IsTrue D.tells → (m : Machine) → Keeps self.old (D.view disk.old).state m
+            → OnOk result (Spends (appends m command.now) (reads m command.now) (D.view disk.old) (D.view disk.new)) }
         ensures given { GivesFew self.old.store self.new.store }
         ensures closed { (result ≡ Err Stop.Closed) ↔ IsSome self.old.stopped }
         ensures silent { result ≡ Err Stop.Closed → (self.new ≡ self.old) × (disk.new ≡ disk.old) }

@@ -9,28 +9,28 @@ use Rattle.state_manager.proofs.DiskLines.{looks_behind, opens_keeping}
 use Rattle.state_manager.proofs.manager.Manager.open.Goals as goal
 
 pub returns-in_err-live-clause-images : goal.returns-in_err-live-clause-images
-returns-in_err-live-clause-images g c = λ told each. let looks = c.begin.ensures.looks told in looks_behind looks.0 _ _ _ _ (c.open.ensures.images told each) looks.1
+returns-in_err-live-clause-images g c = λ told each. looks_behind _ _ _ _ _ (c.open.ensures.images told each) (c.begin.ensures.looks told)
 
 pub returns-clause-images : goal.returns-clause-images
-returns-clause-images g c = λ told each. let looks = c.begin.ensures.looks told in looks_behind looks.0 _ _ _ _ (c.open.ensures.images told each) looks.1
+returns-clause-images g c = λ told each. looks_behind _ _ _ _ _ (c.open.ensures.images told each) (c.begin.ensures.looks told)
 
 pub returns-clause-usable : goal.returns-clause-usable
 returns-clause-usable g c = (refl, c.in_ok-store.ensures.next.0)
 
 pub returns-clause-kept : goal.returns-clause-kept
 returns-clause-kept g c = λ told ps each stands.
-    let looks = (c.begin.ensures.looks told).1 in
+    let looks = c.begin.ensures.looks told in
     opens_keeping _ (g.D.Disk.view c.open.new.disk).state _ ps looks.state (g.met.D.Disk.reads_as_image c.begin.new.disk told) refl c.new.ensures.items (c.in_ok-store.ensures.over told) (c.in_ok-store.ensures.settled told) (c.in_ok-store.ensures.stands told ps each stands)
     (g.met.D.Disk.reads_as_image c.open.new.disk told) (λ shown. c.in_ok-live.ensures.state told ps shown) (standing_heights (g.D.Disk.view c.args.disk.now).state.files ps stands)
 
 pub returns-clause-marks : goal.returns-clause-marks
-returns-clause-marks g c = λ told n. ap (λ (s : DiskState). s.files (name.Mark n)) (c.begin.ensures.looks told).1.state ∙ c.in_ok-store.ensures.marks told n
+returns-clause-marks g c = λ told n. ap (λ (s : DiskState). s.files (name.Mark n)) (c.begin.ensures.looks told).state ∙ c.in_ok-store.ensures.marks told n
 
 pub returns-clause-pages : goal.returns-clause-pages
-returns-clause-pages g c = λ told n. ap (λ (s : DiskState). is_some (s.files (name.Page n))) (c.begin.ensures.looks told).1.state ∙ c.in_ok-store.ensures.pages told n
+returns-clause-pages g c = λ told n. ap (λ (s : DiskState). is_some (s.files (name.Page n))) (c.begin.ensures.looks told).state ∙ c.in_ok-store.ensures.pages told n
 
 pub returns-clause-no_stage : goal.returns-clause-no_stage
-returns-clause-no_stage g c = λ told n. ap (λ (s : DiskState). s.files (name.Stage n)) (c.begin.ensures.looks told).1.state ∙ c.in_ok-store.ensures.no_stage told n
+returns-clause-no_stage g c = λ told n. ap (λ (s : DiskState). s.files (name.Stage n)) (c.begin.ensures.looks told).state ∙ c.in_ok-store.ensures.no_stage told n
 
 pub returns-clause-appended : goal.returns-clause-appended
-returns-clause-appended g c = λ told. (c.begin.ensures.looks told).1.appended ∙ c.in_ok-store.ensures.appended told
+returns-clause-appended g c = λ told. (c.begin.ensures.looks told).appended ∙ c.in_ok-store.ensures.appended told
