@@ -1,5 +1,5 @@
 -- What lines append and read.
-use Rattle.std.proofs.Common.{◌≡◌, ◌==◌, ◌*◌, ℕ, true, false, List, length, Option, Some, None, Result, Ok, Err, ◌∙◌, ap, sym, subst, arith}
+use Rattle.std.proofs.Common.{◌≡◌, ◌==◌, ◌≤◌, ◌+◌, ◌*◌, ℕ, true, false, List, length, Option, Some, None, Result, Ok, Err, ◌∙◌, ap, sym, subst, arith}
 use Rattle.std.proofs.lemmas.Bool.{false≢true}
 use Rattle.std.proofs.lemmas.List.Sums.{sum-map}
 use Rattle.std.proofs.lemmas.Map.Views.{exact_unsigned_eq}
@@ -11,11 +11,13 @@ use Rattle.format_spec.specs.declared.limits.TheConstants.{PAGE_SIZE}
 use Rattle.state_spec.specs.Files.{memories_in}
 use Rattle.state_spec.specs.State.{State, memory_bytes}
 use Rattle.sys_state.specs.System.{part_of}
+use Rattle.disk_model.specs.Files.{Files}
 use Rattle.disk_model.specs.Looking.{OnlyLooks}
 use Rattle.disk_model.specs.Spending.{Spends, spends_looks, spends_more, spends_none}
 use Rattle.disk_model.specs.View.{DiskView}
 use Rattle.height_store.specs.declared.error.StoreError.{StoreError}
-use Rattle.height_store.specs.Store.{StoredHeight, heights_in}
+use Rattle.height_store.specs.Opened.{ReadsAtMost}
+use Rattle.height_store.specs.Store.{Store, StoredHeight, heights_in}
 use Rattle.whole_state.specs.Whole.{bytes_at}
 use Rattle.script_text.specs.declared.command.Command.{Command}
 use Rattle.script_text.specs.declared.command.Command.TheVariants as commands
@@ -56,6 +58,10 @@ newest_there hs height last = by (last_or None (heights_in hs)) last
     by : (o : Option ℕ) → option_map_or (λ newest. newest == height) o false ≡ true → option_map_or (bytes_at hs) o 0 ≡ bytes_at hs height
     by None e = absurd (false≢true e)
     by (Some n) e = ap (bytes_at hs) (exact_unsigned_eq n height e)
+
+-- opening reads those of the newest height behind what the store reads
+pub reads_more : (files : Files) (store : Store) (before mid now more : ℕ) → ReadsAtMost files store before mid → now ≤ mid + more → ReadsAtMost files store (before + more) now
+reads_more files store before mid now more reads last = record { pages = reads.pages; once = reads.once; kept = reads.kept; most = omega (arith, reads.most, last) }
 
 -- ---- lines that read
 
