@@ -18,7 +18,7 @@ use Rattle.disk_model.specs.View.{DiskView}
 use Rattle.height_store.specs.declared.error.StoreError.{StoreError}
 use Rattle.height_store.specs.Opened.{ReadsAtMost}
 use Rattle.height_store.specs.Store.{Store, StoredHeight, heights_in}
-use Rattle.whole_state.specs.Whole.{bytes_at}
+use Rattle.height_store.specs.Known.{bytes_at}
 use Rattle.script_text.specs.declared.command.Command.{Command}
 use Rattle.script_text.specs.declared.command.Command.TheVariants as commands
 use Rattle.script_text.specs.declared.command.HeightOrLive.{HeightOrLive}

@@ -2,7 +2,7 @@ use Rattle.std.proofs.Common.{ℕ, Option, subst}
 use Rattle.std.proofs.lemmas.Result.{IfOk-weaker}
 use Rattle.std.specs.Option.{option_map_or}
 use Rattle.disk_model.specs.Looking.{OnlyLooks, looks_none}
-use Rattle.whole_state.specs.Whole.{bytes_at}
+use Rattle.height_store.specs.Known.{bytes_at}
 use Rattle.height_store.specs.Kept.{ShowsHeight}
 use Rattle.state_manager.proofs.AtHeights.{begun, begun_empty, last_there, newest_found, newest_none}
 use Rattle.state_manager.proofs.stored.begin.Goals as goal
