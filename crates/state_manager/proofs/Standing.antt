@@ -17,7 +17,6 @@ use Rattle.script_text.specs.declared.reply.Reply.{Reply}
 use Rattle.script_text.specs.declared.reply.Reply.TheVariants as replies
 use Rattle.script_text.specs.declared.reply.Refusal.TheVariants.{NoHeight}
 use Rattle.machine_spec.specs.Costs.{on_disk}
-use Rattle.machine_spec.specs.HeightSteps.{counts_of}
 use Rattle.machine_spec.specs.Machine.{Machine, Outcome, answered, unless_none, on_state, state_at, kept_at, published_at, without_height}
 use Rattle.store_spec.specs.Image.{Published}
 use Rattle.disk_model.specs.Files.{Files}

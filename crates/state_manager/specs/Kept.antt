@@ -1,5 +1,5 @@
 -- What a manager holds, and which plain machines it and its disk keep.
-use Rattle.std.specs.Prelude.{◌≡◌, ◌==◌, ◌≤◌, ◌+◌, ℕ, IsTrue, OnOk, Bool, true, false, if◌then◌else◌, List, [], ◌∷◌, find, Option, Some, None, is_some, Result, Ok, Err, ⊤}
+use Rattle.std.specs.Prelude.{◌≡◌, ◌==◌, ◌≤◌, ℕ, IsTrue, OnOk, Bool, true, false, if◌then◌else◌, List, [], ◌∷◌, find, Option, Some, None, is_some, Result, Ok, Err, ⊤}
 use Rattle.std.specs.List.{AllByRecursion, AllZip, last_or}
 use Rattle.std.specs.Option.{option_map_or}
 use Rattle.format_spec.specs.declared.limits.TheConstants.{MAX_HEIGHT}
