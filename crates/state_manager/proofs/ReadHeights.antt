@@ -19,7 +19,7 @@ use Rattle.sys_state.specs.declared.mem.Mem.{Mem}
 use Rattle.sys_state.specs.declared.mem.Mem.TheVariants.{Heap, Stable}
 use Rattle.sys_state.specs.declared.record.CanisterRecord.{CanisterRecord}
 use Rattle.height_store.specs.Store.{StoredHeight}
-use Rattle.whole_state.specs.Whole.{KnowsHeight, IsMemoryAt}
+use Rattle.height_store.specs.Known.{KnowsHeight, IsMemoryAt}
 use Rattle.script_text.specs.declared.reply.Reply.{Reply}
 use Rattle.script_text.specs.declared.reply.Reply.TheVariants as replies
 use Rattle.script_text.specs.declared.reply.Refusal.TheVariants.{NoCanister, PastEnd}

@@ -1,5 +1,5 @@
 use Rattle.mark_file.proofs.Counting.{pages_more}
-use Rattle.whole_state.proofs.reading.pages_of_memories.Goals as goal
+use Rattle.height_store.proofs.reading.pages_of_memories.Goals as goal
 
 pub loop-i-preserved : goal.loop-i-preserved
 loop-i-preserved c =

@@ -1,8 +1,8 @@
 use Rattle.std.proofs.Common.{◌+◌, is_some, ◌∙◌, ap, sym, take, drop}
 use Rattle.format_spec.specs.Bytes.{Bytes}
 use Rattle.height_store.specs.Store.{height_at}
-use Rattle.whole_state.proofs.Places.{range_fits, memory_shown, mapped_some, copied_some}
-use Rattle.whole_state.proofs.reading.read_bytes.Goals as goal
+use Rattle.height_store.proofs.Places.{range_fits, memory_shown, mapped_some, copied_some}
+use Rattle.height_store.proofs.reading.read_bytes.Goals as goal
 
 pub read_range-requires-clause-at_most : goal.read_range-requires-clause-at_most
 read_range-requires-clause-at_most g c =

@@ -23,8 +23,8 @@ use Rattle.page_file.specs.Files.{NumberedFile}
 use Rattle.layer_stack.specs.Stacks.{AreLayers}
 use Rattle.height_store.specs.Store.{StoredHeight, IsHeight, FitsPages}
 use Rattle.height_store.specs.Kept.{ShowsHeight}
-use Rattle.whole_state.specs.Laws.{bytes_made}
-use Rattle.whole_state.specs.Memories.{memory_long, layers_whole}
+use Rattle.height_store.specs.KnownLaws.{bytes_made}
+use Rattle.height_store.specs.Memories.{memory_long, layers_whole}
 
 -- ---- page files, layers and bytes of one memory
 

@@ -8,8 +8,8 @@ use Rattle.disk_model.specs.Looking.{OnlyLooks}
 use Rattle.page_file.specs.Files.{NumberedFile}
 use Rattle.layer_stack.specs.Stacks.{AreLayers}
 use Rattle.height_store.specs.Store.{StoredHeight, height_at}
-use Rattle.whole_state.proofs.Ranges.{before}
-use Rattle.whole_state.proofs.reading.read_range.Given as goal
+use Rattle.height_store.proofs.Ranges.{before}
+use Rattle.height_store.proofs.reading.read_range.Given as goal
 
 abbrev pub invariant-loop-page : goal.invariant-loop-page
 invariant-loop-page g l = record {

@@ -8,9 +8,9 @@ use Rattle.disk_model.specs.State.{DiskState}
 use Rattle.disk_model.specs.Looking.{looks_then}
 use Rattle.layer_stack.specs.Stacks.{AreLayers}
 use Rattle.height_store.specs.Store.{height_at}
-use Rattle.whole_state.proofs.Spent.{reads_next, reads_within}
-use Rattle.whole_state.proofs.Places.{counts, few_counts, count_fits, found_is, read_more, size_here, sizes_all, as_many, own_place, own_bytes}
-use Rattle.whole_state.proofs.reading.read_memories.Goals as goal
+use Rattle.height_store.proofs.BytesRead.{reads_next, reads_within}
+use Rattle.height_store.proofs.Places.{counts, few_counts, count_fits, found_is, read_more, size_here, sizes_all, as_many, own_place, own_bytes}
+use Rattle.height_store.proofs.reading.read_memories.Goals as goal
 
 pub overflow_cast-file : goal.overflow_cast-file
 overflow_cast-file g c =

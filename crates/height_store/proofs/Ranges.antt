@@ -10,7 +10,7 @@ use Rattle.state_spec.specs.Files.{memories_in}
 use Rattle.sys_state.specs.System.{part_of}
 use Rattle.page_spec.specs.Layers.{Layer, page_from, memory_from}
 use Rattle.height_store.specs.Store.{StoredHeight, height_at}
-use Rattle.whole_state.specs.Memories.{IsWhole, layers_page_long}
+use Rattle.height_store.specs.Memories.{IsWhole, layers_page_long}
 
 -- ---- a page of a memory
 

@@ -1,10 +1,10 @@
 use Rattle.std.proofs.Common.{◌∙◌, refl, subst, ℕ}
 use Rattle.disk_model.specs.Looking.{OnlyLooks}
-use Rattle.whole_state.proofs.Spent.{all_held}
+use Rattle.height_store.proofs.BytesRead.{all_held}
 use Rattle.std.proofs.lemmas.Result.{IfOk-weaker}
 use Rattle.height_store.specs.Store.{height_at}
-use Rattle.whole_state.proofs.Places.{there_is, whole_memory}
-use Rattle.whole_state.proofs.reading.read_memory.Goals as goal
+use Rattle.height_store.proofs.Places.{there_is, whole_memory}
+use Rattle.height_store.proofs.reading.read_memory.Goals as goal
 
 pub returns-clause-bytes : goal.returns-clause-bytes
 returns-clause-bytes g c = λ told h stack layers at has are.

@@ -5,7 +5,7 @@ use Rattle.height_store.specs.Kept.{ShowsHeight}
 use Rattle.height_store.specs.Store.{StoredHeight, height_at}
 use Rattle.store_spec.specs.Image.{Published}
 use Rattle.state_spec.specs.State.{memory_bytes}
-use Rattle.whole_state.proofs.reading.read_memories.Given as goal
+use Rattle.height_store.proofs.reading.read_memories.Given as goal
 
 abbrev pub invariant-loop-file : goal.invariant-loop-file
 invariant-loop-file g l = record {

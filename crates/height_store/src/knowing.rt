@@ -5,11 +5,11 @@ ghost use Rattle.state_spec.specs.Manifest.{manifest_of};
 ghost use Rattle.store_spec.specs.Image.{Published};
 ghost use Rattle.manifest.specs.Fits.{FitsText};
 ghost use Rattle.height_store.specs.Store.{StoredHeight, height_at};
-ghost use Rattle.whole_state.specs.Whole.{KnowsHeight};
+ghost use Rattle.height_store.specs.Known.{KnowsHeight};
 
+use crate::store::HeightStore;
 use byte_codec::NoMemory;
 use hash_domain::Hash32;
-use height_store::HeightStore;
 use manifest::Manifest;
 use mark_file::MarkMem;
 use std::alloc::Global;

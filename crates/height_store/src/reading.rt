@@ -14,12 +14,13 @@ ghost use Rattle.layer_stack.specs.Stacks.{AreLayers};
 ghost use Rattle.height_store.specs.Errors.{HasCause, NoBadFile};
 ghost use Rattle.height_store.specs.Kept.{IsReadable, ShowsHeight};
 ghost use Rattle.height_store.specs.Store.{StoredHeight, height_at};
-ghost use Rattle.whole_state.specs.Whole.{IsMemoryAt, AreTheirPages, bytes_at, pages_holding};
+ghost use Rattle.height_store.specs.Known.{IsMemoryAt, AreTheirPages, bytes_at, pages_holding};
 
+use crate::error::StoreError;
+use crate::store::HeightStore;
 use byte_codec::{Blob, NoMemory};
 use disk_model::Disk;
 use format_spec::PAGE_SIZE;
-use height_store::{HeightStore, StoreError};
 use std::alloc::Global;
 use sys_state::SysState;
 

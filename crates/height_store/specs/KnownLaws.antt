@@ -18,9 +18,9 @@ use Rattle.disk_model.specs.State.{DiskState}
 use Rattle.disk_model.specs.Laws.{IsSound}
 use Rattle.height_store.specs.Store.{StoredHeight}
 use Rattle.height_store.specs.Kept.{ShowsHeight, KeepsHeights}
-use Rattle.whole_state.specs.Memories.{memories_long}
-use Rattle.whole_state.specs.States.{same_version, same_parts, same_bytes, made_parts, made_bytes, made_version, made_kept}
-use Rattle.whole_state.specs.Whole.{KnowsHeight}
+use Rattle.height_store.specs.Memories.{memories_long}
+use Rattle.height_store.specs.States.{same_version, same_parts, same_bytes, made_parts, made_bytes, made_version, made_kept}
+use Rattle.height_store.specs.Known.{KnowsHeight}
 
 -- true sums are the hashes of the chunks
 sums_are : (ms : List MarkMemory) (memories : List Bytes) → AllZip HasTrueSums ms memories → map (λ m. m.sums) ms ≡ map chunk_hashes memories

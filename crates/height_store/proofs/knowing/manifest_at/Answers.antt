@@ -4,9 +4,9 @@ use Rattle.state_spec.specs.Manifest.{manifest_from, file_sums}
 use Rattle.sys_state.specs.System.{System, part_of}
 use Rattle.store_spec.specs.Mark.{Mark, MarkMemory}
 use Rattle.height_store.specs.Store.{height_at}
-use Rattle.whole_state.specs.Laws.{known_manifest}
-use Rattle.whole_state.proofs.Places.{found_is, sums_fit_found}
-use Rattle.whole_state.proofs.knowing.manifest_at.Goals as goal
+use Rattle.height_store.specs.KnownLaws.{known_manifest}
+use Rattle.height_store.proofs.Places.{found_is, sums_fit_found}
+use Rattle.height_store.proofs.knowing.manifest_at.Goals as goal
 
 abbrev items : List (Vec Bytes Global) → List (List Bytes)
 items lists = map (λ list. list.items) lists
