@@ -1,6 +1,7 @@
 pub mod AtHeights
 pub mod Checked
 pub mod DiskLines
+pub mod Grown
 pub mod Hashed
 pub mod Indexed
 pub mod Keeping

@@ -9,7 +9,6 @@ use Rattle.std.specs.Result.{IfOk}
 use Rattle.byte_codec.specs.declared.error.NoMemory.{NoMemory}
 use Rattle.state_spec.specs.State.{State}
 use Rattle.script_text.specs.declared.command.Command.{Command}
-use Rattle.script_text.specs.declared.command.Command.TheVariants as commands
 use Rattle.machine_spec.specs.Step.{step}
 use Rattle.script_text.specs.declared.command.HeightOrLive.{HeightOrLive}
 use Rattle.script_text.specs.declared.command.HeightOrLive.TheVariants.{Live, Height}
@@ -218,6 +217,14 @@ line_some held m k at none a e act reply after is =
 pub line_none : (held : Held) (m : Machine) → KeepsStates held m → (at : HeightOrLive) → None ≡ published_height held at → None ≡ held_at held at → (act : State → Outcome)
     → (replies.Refused NoHeight ≡ (on_state m at act).reply) × KeepsStates held (on_state m at act).after × ((on_state m at act).after.published ≡ m.published)
 line_none held m k at none e act = unchanged held m k (replies.Refused NoHeight) (on_state m at act) (asks_none m at (published_none held m k at none ∙ at_none held m k at e) act)
+
+-- a manager that keeps a tree is the same to its lines
+pub record WithTree (held : Held) (m : Machine) (at : HeightOrLive) : Type 0 where
+  pub keeps : KeepsStates held m
+  pub none : None ≡ published_height held at
+
+pub with_tree : (old new : Held) (m : Machine) (at : HeightOrLive) → new ≡ old → KeepsStates old m → None ≡ published_height old at → WithTree new m at
+with_tree old new m at same k none = subst (λ (h : Held). WithTree h m at) (sym same) (record { keeps = k; none = none })
 
 -- a line that answers something of a state
 module _ (held : Held) (m : Machine) (k : KeepsStates held m) (at : HeightOrLive) (command : Command) (tell : State → Reply) (same : step m command ≡ on_state m at (λ s. answered (tell s) m)) where

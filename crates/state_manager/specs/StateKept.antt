@@ -1,5 +1,5 @@
 -- What is held of a state at its height, and which plain machines it keeps.
-use Rattle.std.specs.Prelude.{◌≡◌, ◌≤◌, ◌+◌, ℕ, Bool, true, List, [], ◌∷◌, ◌++◌, Result, Ok, Err, IsTrue, IfOk, OnOk}
+use Rattle.std.specs.Prelude.{◌≡◌, ◌≤◌, ℕ, Bool, true, List, [], ◌∷◌, ◌++◌, Option, Result, Ok, Err, IsTrue, IfSome, IfOk, OnOk}
 use Rattle.std.specs.FinMap.{is_sorted}
 use Rattle.byte_codec.specs.declared.error.NoMemory.{NoMemory}
 use Rattle.format_spec.specs.Bytes.{Bytes, bytes_cmp}
@@ -9,7 +9,10 @@ use Rattle.store_spec.specs.Image.{Published}
 use Rattle.disk_model.specs.State.{IsSettled}
 use Rattle.disk_model.specs.Spending.{Spends}
 use Rattle.disk_model.specs.View.{DiskView, LeavesOnly}
-use Rattle.sys_state.specs.System.{System, kept_of}
+use Rattle.tree_spec.specs.Labelled.{state_tree}
+use Rattle.sys_state.specs.System.{System, kept_of, part_of}
+use Rattle.hash_tree.specs.declared.tree.HashTree.{HashTree}
+use Rattle.hash_tree.specs.View.{tree_view}
 use Rattle.height_store.specs.declared.error.StoreError.{StoreError}
 use Rattle.height_store.specs.Store.{Store, GivesFew}
 use Rattle.height_store.specs.Kept.{IsOver, KeepsHeights, StandsForEither}
@@ -27,10 +30,11 @@ pub record HeldState : Type 0 where
   pub memories : List Bytes
   pub height : ℕ
 
--- Each memory has as many bytes as its pages have, and heights begin at 1.
-pub record IsHeldState (held : HeldState) : Type 0 where
+-- Each memory has as many bytes as its pages have, heights begin at 1, and a tree that is kept is the state's.
+pub record IsHeldState (held : HeldState) (tree : Option HashTree) : Type 0 where
   pub sizes : HaveSizes held.system.canisters held.memories
   pub from_one : 1 ≤ held.height
+  pub kept : IfSome tree (λ t. tree_view t ≡ state_tree (part_of held.system))
 
 -- It is this state at this height, but for the rounds of pages, on which no reply depends. The canisters are in order of
 -- ids, as every step keeps them.

@@ -7,7 +7,9 @@ ghost use Rattle.state_spec.specs.Manifest.{manifest_of};
 ghost use Rattle.state_spec.specs.Root.{root_of};
 ghost use Rattle.state_spec.specs.State.{State, system_of};
 ghost use Rattle.sys_state.specs.System.{part_of};
+ghost use Rattle.tree_spec.specs.Labelled.{state_tree};
 ghost use Rattle.manifest.specs.Fits.{FitsText};
+ghost use Rattle.hash_tree.specs.View.{tree_view};
 ghost use Rattle.height_store.specs.Errors.{HasCause as StoreCause};
 ghost use Rattle.height_store.specs.Kept.{IsOver};
 ghost use Rattle.machine_spec.specs.HeightSteps.{counts_of, tree_root};
@@ -33,7 +35,7 @@ use std::alloc::Global;
 use std::marker::Model;
 use sys_state::{CanisterId, Mem, Path, SysState};
 use whole_state::checkpoint;
-use witness::{to_cbor, witness};
+use witness::{to_cbor, witness_of_state};
 
 /// A state with all its bytes, and its height.
 #[derive(Drop)]
@@ -42,8 +44,11 @@ pub struct HeightState {
     // The bytes of the memories, heap and stable of each canister in order of ids.
     memories: Vec<Vec<u8>>,
     height: u64,
+    // The tree of the state, from the first line on that asks for it until it may change. Memories have no place in it.
+    tree: Option<StateTree>,
 }
 
+// Contracts see no tree: each line answers the same with one and without.
 impl Model for HeightState {
     ghost use Rattle.std.specs.Prelude.{map};
     ghost use Rattle.state_manager.specs.StateKept.{HeldState, IsHeldState};
@@ -52,7 +57,7 @@ impl Model for HeightState {
 
     ghost view = { λ m. record { system = m.sys; memories = map (λ v. v.items) m.memories.items; height = m.height } };
 
-    ghost invariant = { λ m. IsHeldState (record { system = m.sys; memories = map (λ v. v.items) m.memories.items; height = m.height }) };
+    ghost invariant = { λ m. IsHeldState (record { system = m.sys; memories = map (λ v. v.items) m.memories.items; height = m.height }) m.tree };
 }
 
 /// Where a memory of the canister at a place stands among all memories.
@@ -74,6 +79,7 @@ impl HeightState {
             sys: SysState::new(alloc),
             memories: Vec::new(alloc),
             height: 1,
+            tree: None,
         }
     }
 
@@ -87,6 +93,7 @@ impl HeightState {
             sys,
             memories,
             height,
+            tree: None,
         }
     }
 
@@ -94,6 +101,7 @@ impl HeightState {
     pub fn create(&mut self, alloc: Global, id: &CanisterId) -> Result<Reply, NoMemory>
         ensures { (m : Machine) → KeepsState self.old (live_of m) → PerformsState result self.new m (Command.Canister id.now) }
     {
+        self.tree = None;
         create_canister(alloc, &mut self.sys, &mut self.memories, id, self.height)
     }
 
@@ -101,6 +109,7 @@ impl HeightState {
     pub fn remove(&mut self, id: &CanisterId) -> Result<Reply, NoMemory>
         ensures { (m : Machine) → KeepsState self.old (live_of m) → PerformsState result self.new m (Command.Remove id.now) }
     {
+        self.tree = None;
         remove_canister(&mut self.sys, &mut self.memories, id)
     }
 
@@ -139,6 +148,7 @@ impl HeightState {
         requires { IfSome «module» (λ wasm. length wasm ≤ MAX_MODULE) }
         ensures { (m : Machine) → KeepsState self.old (live_of m) → PerformsState result self.new m (Command.Module id.now «module») }
     {
+        self.tree = None;
         reply_to(self.sys.set_module(id, module))
     }
 
@@ -147,6 +157,7 @@ impl HeightState {
         requires { length bytes ≤ MAX_CERTIFIED }
         ensures { (m : Machine) → KeepsState self.old (live_of m) → PerformsState result self.new m (Command.Certify id.now bytes) }
     {
+        self.tree = None;
         reply_to(self.sys.set_certified(id, bytes))
     }
 
@@ -155,6 +166,7 @@ impl HeightState {
         requires { length value ≤ MAX_VALUE }
         ensures { (m : Machine) → KeepsState self.old (live_of m) → PerformsState result self.new m (Command.Put path value) }
     {
+        self.tree = None;
         reply_to(self.sys.put(alloc, path, value))
     }
 
@@ -162,6 +174,7 @@ impl HeightState {
     pub fn set_time(&mut self, time: u64) -> Result<Reply, NoMemory>
         ensures { (m : Machine) → KeepsState self.old (live_of m) → PerformsState result self.new m (Command.Time time) }
     {
+        self.tree = None;
         self.sys.set_time(time);
         Ok(Reply::Fine)
     }
@@ -170,6 +183,7 @@ impl HeightState {
     pub fn delete(&mut self, path: &Path) -> Result<Reply, NoMemory>
         ensures { (m : Machine) → KeepsState self.old (live_of m) → PerformsState result self.new m (Command.Del path.now) }
     {
+        self.tree = None;
         reply_to(self.sys.del(path))
     }
 
@@ -242,22 +256,37 @@ impl HeightState {
         self.height += 1;
     }
 
-    /// The same state at the same height.
-    pub fn copy(&self, alloc: Global) -> Result<HeightState, NoMemory>
-        ensures { IfOk result (λ copy. copy ≡ self.now) }
+    /// The same state at the same height. A tree that is kept goes to the copy.
+    pub fn copy(&mut self, alloc: Global) -> Result<HeightState, NoMemory>
+        ensures copy { IfOk result (λ copy. copy ≡ self.old) }
+        ensures same { self.new ≡ self.old }
     {
         Ok(HeightState {
             sys: self.sys.copy(alloc)?,
             memories: copy_memories(alloc, &self.memories)?,
             height: self.height,
+            tree: self.tree.take(),
         })
+    }
+
+    /// Keeps the tree of the state until it may change, so that lines that ask for it build none. NoMemory where memory runs out.
+    pub fn keep_tree(&mut self, alloc: Global) -> Result<(), NoMemory>
+        ensures { self.new ≡ self.old }
+    {
+        if self.tree.is_none() {
+            self.tree = Some(StateTree::build(alloc, &self.sys)?);
+        }
+        Ok(())
     }
 
     /// The root of the tree of the state.
     pub fn tree_root(&self, alloc: Global) -> Result<Hash32, NoMemory>
         ensures { (k : ℕ × State) → KeepsState self.now k → IfOk result (λ root. root ≡ tree_root k.1) }
     {
-        tree_root_of(alloc, &self.sys)
+        match &self.tree {
+            Some(tree) => Ok(tree.root()),
+            None => tree_root_of(alloc, &self.sys),
+        }
     }
 
     /// The witness of these paths in the tree of the state.
@@ -265,7 +294,10 @@ impl HeightState {
         requires { 1 ≤ length paths.now }
         ensures { (k : ℕ × State) → KeepsState self.now k → IfOk result (λ text. text ≡ witness_text k.1 paths.now) }
     {
-        witness_of(alloc, &self.sys, paths)
+        match &self.tree {
+            Some(tree) => witness_in(alloc, &self.sys, tree, paths),
+            None => witness_of(alloc, &self.sys, paths),
+        }
     }
 
     /// Publishes the state at its height, and answers its root hash.
@@ -300,10 +332,24 @@ pub fn witness_of(alloc: Global, sys: &SysState, paths: &[Path]) -> Result<Blob,
     requires { 1 ≤ length paths.now }
     ensures { (s : State) → system_of s ≡ part_of sys.now → IfOk result (λ text. text ≡ witness_text s paths.now) }
 {
-    // Its contract says that the state is valid, as `witness` needs.
-    let _count = sys.canisters();
     let tree = StateTree::build(alloc, sys)?;
-    let shown = witness(alloc, tree.tree(), paths)?;
+    witness_in(alloc, sys, &tree, paths)
+}
+
+// The same, where the tree is there.
+fn witness_in(
+    alloc: Global,
+    sys: &SysState,
+    tree: &StateTree,
+    paths: &[Path],
+) -> Result<Blob, NoMemory>
+    requires tree { tree_view tree.now ≡ state_tree (part_of sys.now) }
+    requires paths { 1 ≤ length paths.now }
+    ensures { (s : State) → system_of s ≡ part_of sys.now → IfOk result (λ text. text ≡ witness_text s paths.now) }
+{
+    // Its contract says that the state is valid, as `witness_of_state` needs.
+    let _count = sys.canisters();
+    let shown = witness_of_state(alloc, tree, paths)?;
     to_cbor(alloc, &shown)
 }
 

@@ -15,6 +15,16 @@ pub fn find_height(states: &[HeightState], height: u64) -> Option<&HeightState>
     states.iter().find(|state| state.height() == height)
 }
 
+/// Keeps the tree of the state at a height, where there is one. NoMemory where memory runs out.
+pub fn keep_tree_at(alloc: Global, states: &mut [HeightState], height: u64) -> Result<(), NoMemory>
+    ensures { states.new ≡ states.old }
+{
+    match states.iter().position(|state| state.height() == height) {
+        Some(place) => states[place].keep_tree(alloc),
+        None => Ok(()),
+    }
+}
+
 /// Drops the state at a height.
 pub fn drop_height(states: &mut Vec<HeightState>, height: u64)
     ensures { states.new.items ≡ filter (λ state. not (state.height == height)) states.old.items }

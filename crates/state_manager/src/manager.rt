@@ -25,7 +25,7 @@ ghost use Rattle.state_manager.specs.Kept.{Keeps, KeepsStates, Performs, Applies
 
 use crate::checks::check_witness;
 use crate::height_state::HeightState;
-use crate::kept::{drop_height, find_height, heights_of};
+use crate::kept::{drop_height, find_height, heights_of, keep_tree_at};
 use crate::stop::{OpenError, Stop};
 use crate::stored::{
     begin, count_published, is_low, is_newest, is_published, load, published_heights,
@@ -114,6 +114,16 @@ impl Manager {
         }
     }
 
+    // Keeps the tree of the state in memory that a line asks about.
+    fn keep_tree(&mut self, alloc: Global, at: HeightOrLive) -> Result<(), NoMemory>
+        ensures { self.new ≡ self.old }
+    {
+        match at {
+            HeightOrLive::Live => self.live.keep_tree(alloc),
+            HeightOrLive::Height(height) => keep_tree_at(alloc, &mut self.memory, height),
+        }
+    }
+
     // The published height that a line asks about.
     fn published_at(&self, at: HeightOrLive) -> Option<u64>
         ensures { result ≡ published_height self.now at }
@@ -137,6 +147,7 @@ impl Manager {
         if height > MAX_HEIGHT {
             return Ok(Reply::Refused(Refusal::HeightLimit));
         }
+        self.live.keep_tree(alloc)?;
         let tree = self.live.tree_root(alloc)?;
         self.memory.push(self.live.copy(alloc)?)?;
         self.live.advance();
@@ -241,12 +252,14 @@ impl Manager {
     }
 
     // `tree HL`
-    fn tree(&self, alloc: Global, at: HeightOrLive) -> Result<Reply, NoMemory>
-        ensures { (m : Machine) → KeepsStates self.now m → Performs result self.now m (Command.Tree at) }
+    fn tree(&mut self, alloc: Global, at: HeightOrLive) -> Result<Reply, NoMemory>
+        ensures step { (m : Machine) → KeepsStates self.old m → Performs result self.new m (Command.Tree at) }
+        ensures same { self.new ≡ self.old }
     {
         if let Some(height) = self.published_at(at) {
             return tree_published(alloc, &self.store, height);
         }
+        self.keep_tree(alloc, at)?;
         match self.state_at(at) {
             Some(state) => Ok(Reply::Tree(state.tree_root(alloc)?)),
             None => Ok(Reply::Refused(Refusal::NoHeight)),
@@ -254,13 +267,20 @@ impl Manager {
     }
 
     // `witness HL PATH ..`
-    fn witness(&self, alloc: Global, at: HeightOrLive, paths: &[Path]) -> Result<Reply, NoMemory>
+    fn witness(
+        &mut self,
+        alloc: Global,
+        at: HeightOrLive,
+        paths: &[Path],
+    ) -> Result<Reply, NoMemory>
         requires { 1 ≤ length paths.now }
-        ensures { (m : Machine) → KeepsStates self.now m → Performs result self.now m (Command.Witness at paths.now) }
+        ensures step { (m : Machine) → KeepsStates self.old m → Performs result self.new m (Command.Witness at paths.now) }
+        ensures same { self.new ≡ self.old }
     {
         if let Some(height) = self.published_at(at) {
             return witness_published(alloc, &self.store, height, paths);
         }
+        self.keep_tree(alloc, at)?;
         match self.state_at(at) {
             Some(state) => Ok(Reply::Witness(state.witness(alloc, paths)?)),
             None => Ok(Reply::Refused(Refusal::NoHeight)),

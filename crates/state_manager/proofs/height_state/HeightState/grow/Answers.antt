@@ -2,6 +2,7 @@ use Rattle.std.proofs.Common.{◌≡◌, ℕ, length, get_or, sym, subst, refl, 
 use Rattle.std.specs.Vec.{vec_len}
 use Rattle.sys_state.specs.Calls as calls
 use Rattle.state_manager.specs.StateKept.{HeldState, KeepsState, live_of}
+use Rattle.state_manager.proofs.Grown.{kept_grown}
 use Rattle.state_manager.proofs.MemoryLines.{step_grow, absent_there}
 use Rattle.state_manager.proofs.Sized.{is_within, has_pages, keeps_grow, steps_grow}
 use Rattle.state_manager.proofs.height_state.HeightState.grow.Goals as goal
@@ -27,6 +28,7 @@ invariant_of-self c =
       sizes = keeps_grow (λ v. v.items) c.self.inside.memories.items c.self.inside.sys c.grow_memory.new.sys c.args.id.now c.in-Ok.place c.args.mem memory c.grow_memory.new.memory c.self.invariant.sizes c.in-Ok.ensures
           c.memory_index.result c.memory_index.ensures c.index_mut-memory.ensures.value _ c.grow_memory.result c.args.pages c.grow_memory.ensures;
       from_one = c.self.invariant.from_one;
+      kept = kept_grown _ c.grow_memory.result c.self.inside.sys c.grow_memory.new.sys c.args.id.now c.args.mem c.args.pages _ _ c.self.inside.tree c.grow_memory.ensures c.self.invariant.kept;
     }
 
 pub returns : goal.returns

@@ -15,6 +15,7 @@ pub invariant_of-self : goal.invariant_of-self
 invariant_of-self c = record {
   sizes = after_remove _ c.remove_canister.result c.self.inside.sys c.remove_canister.new.sys c.args.id.now (map (λ v. v.items) c.self.inside.memories.items) _ c.self.invariant.sizes c.remove_canister.ensures;
   from_one = c.self.invariant.from_one;
+  kept = tt;
 }
 
 pub returns : goal.returns

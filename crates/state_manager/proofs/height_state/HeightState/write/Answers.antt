@@ -6,6 +6,7 @@ use Rattle.std.specs.Vec.{vec_len}
 use Rattle.format_spec.specs.declared.limits.TheConstants.{PAGE_SIZE}
 use Rattle.sys_state.specs.Calls as calls
 use Rattle.state_manager.specs.StateKept.{HeldState, KeepsState, live_of}
+use Rattle.state_manager.proofs.Grown.{kept_grown}
 use Rattle.state_manager.proofs.MemoryLines.{step_write, absent_there}
 use Rattle.state_manager.proofs.Sized.{is_within, has_pages, keeps_write, steps_write}
 use Rattle.state_manager.proofs.height_state.HeightState.write.Goals as goal
@@ -41,6 +42,7 @@ invariant_of-self c =
       sizes = keeps_write (λ v. v.items) c.self.inside.memories.items c.self.inside.sys c.write_memory.new.sys c.args.id.now c.in-Ok.place c.args.mem memory c.write_memory.new.memory c.self.invariant.sizes c.in-Ok.ensures
           c.memory_index.result c.memory_index.ensures c.index_mut-memory.ensures.value _ c.write_memory.result (vec_len memory / PAGE_SIZE) c.args.offset c.args.bytes.now (omega (arith, pages, count)) c.write_memory.ensures;
       from_one = c.self.invariant.from_one;
+      kept = kept_grown _ c.write_memory.result c.self.inside.sys c.write_memory.new.sys c.args.id.now c.args.mem _ _ _ c.self.inside.tree c.write_memory.ensures c.self.invariant.kept;
     }
 
 pub returns : goal.returns
