@@ -13,6 +13,7 @@ pub mod Publishing
 pub mod Purging
 pub mod ReadHeights
 pub mod Sized
+pub mod Spending
 pub mod Splits
 pub mod Standing
 pub mod Stepped

@@ -1,5 +1,5 @@
 -- The steps of `grow`, `write` and `read` beside what the manager does.
-use Rattle.std.proofs.Common.{◌≡◌, ◌≤◌, ◌<◌, ◌+◌, ◌-◌, ◌*◌, ◌==◌, max, ℕ, Bool, true, false, List, [], ◌∷◌, ◌++◌, length, map, get_or, set, take, drop, Option, Some, None, Result, Ok, refl, ◌∙◌, ap, sym, subst, arith, nat_lt}
+use Rattle.std.proofs.Common.{◌≡◌, ◌≤◌, ◌<◌, ◌+◌, ◌-◌, ◌*◌, ◌==◌, max, ℕ, Bool, true, false, List, [], ◌∷◌, ◌++◌, length, map, get_or, set, take, drop, Option, Some, None, Result, refl, ◌∙◌, ap, sym, subst, arith, nat_lt}
 use Rattle.std.proofs.lemmas.Bool.{le-ltb, ltb-false, lt-ltb}
 use Rattle.std.specs.Option.{option_map}
 use Rattle.std.specs.Prelude.{if◌then◌else◌}
@@ -8,7 +8,6 @@ use Rattle.format_spec.specs.Bytes.{Bytes, bytes_cmp}
 use Rattle.format_spec.specs.declared.limits.TheConstants.{PAGE_SIZE, MAX_MEMORY_PAGES}
 use Rattle.state_spec.specs.State.{State, Canister, CanisterPart, Memory, SystemPart, system_of, part_of, pages_of, memory_limit, state_limit, all_pages as pages_in_all}
 use Rattle.std.proofs.lemmas.List.{length-map}
-use Rattle.script_text.specs.declared.command.HeightOrLive.TheVariants.{Live}
 use Rattle.script_text.specs.declared.reply.Reply.TheVariants as replies
 use Rattle.state_spec.specs.Memory.{read, grow, write, zeros, pages_for}
 use Rattle.state_spec.proofs.Memories.{grow_pages, write_pages, write_bytes, write_none}
@@ -25,7 +24,7 @@ use Rattle.script_text.specs.declared.reply.Reply.{Reply}
 use Rattle.script_text.specs.declared.reply.Reply.TheVariants.{Refused}
 use Rattle.script_text.specs.declared.reply.Refusal.TheVariants as refusals
 use Rattle.machine_spec.specs.LiveSteps.{grow_step, write_step, read_reply, bytes_told, canister_told}
-use Rattle.machine_spec.specs.Machine.{Machine, Outcome, now_live, unless, unless_none, answered}
+use Rattle.machine_spec.specs.Machine.{Machine, Outcome, now_live, unless, unless_none}
 use Rattle.machine_spec.specs.States.{canister_in, with_canister, memory_of, with_memory, pages_with, state_pages}
 use Rattle.state_manager.specs.Changes.{Alters}
 use Rattle.state_manager.specs.StateKept.{HeldState, KeepsState, AfterState, live_of}

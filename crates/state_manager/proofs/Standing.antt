@@ -15,6 +15,7 @@ use Rattle.script_text.specs.declared.command.HeightOrLive.TheVariants.{Live, He
 use Rattle.script_text.specs.declared.reply.Reply.{Reply}
 use Rattle.script_text.specs.declared.reply.Reply.TheVariants as replies
 use Rattle.script_text.specs.declared.reply.Refusal.TheVariants.{NoHeight}
+use Rattle.machine_spec.specs.Costs.{on_disk}
 use Rattle.machine_spec.specs.Machine.{Machine, Outcome, answered, unless_none, on_state, state_at, kept_at, published_at, without_height}
 use Rattle.store_spec.specs.Image.{Published}
 use Rattle.disk_model.specs.Files.{Files}
@@ -131,6 +132,7 @@ pub record PublishedAt (R : StoredHeight → Published → Type 0) (hs : List St
   pub found : height_at hs height ≡ Some stored
   pub related : R stored published
   pub state : state_at m at ≡ Some published.state
+  pub on_disk : on_disk m at ≡ Some published.state
 
 module _ (R : StoredHeight → Published → Type 0) (same : (h : StoredHeight) (p : Published) → R h p → h.mark.height ≡ p.height) where
   pub find_height : (hs : List StoredHeight) (ps : List Published) (height : ℕ) → AllZip R hs ps → FoundHeight R (height_at hs height) height ps
@@ -166,6 +168,7 @@ module _ (R : StoredHeight → Published → Type 0) (same : (h : StoredHeight) 
             found = subst (λ (n : ℕ). height_at held.store.heights n ≡ Some x) (sym one) found;
             related = f.related;
             state = ap (λ (o : Option State). option_or o (kept_at h m.memory)) f.state;
+            on_disk = f.state;
           }
 
 pub knows_same : (h : StoredHeight) (p : Published) → KnowsHeight h p → h.mark.height ≡ p.height

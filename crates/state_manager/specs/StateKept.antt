@@ -7,6 +7,7 @@ use Rattle.state_spec.specs.State.{State, memory_bytes}
 use Rattle.state_spec.specs.Root.{root_of}
 use Rattle.store_spec.specs.Image.{Published}
 use Rattle.disk_model.specs.State.{IsSettled}
+use Rattle.disk_model.specs.Spending.{Spends}
 use Rattle.disk_model.specs.View.{DiskView, LeavesOnly}
 use Rattle.tree_spec.specs.Labelled.{state_tree}
 use Rattle.sys_state.specs.System.{System, kept_of, part_of}
@@ -18,6 +19,7 @@ use Rattle.height_store.specs.Kept.{IsOver, KeepsHeights, StandsForEither}
 use Rattle.whole_state.specs.Whole.{whole}
 use Rattle.script_text.specs.declared.command.Command.{Command}
 use Rattle.script_text.specs.declared.reply.Reply.{Reply}
+use Rattle.machine_spec.specs.Costs.{whole_bytes}
 use Rattle.machine_spec.specs.Machine.{Machine, Outcome}
 use Rattle.machine_spec.specs.Step.{step}
 use Rattle.state_manager.specs.Sizes.{HaveSizes}
@@ -57,7 +59,7 @@ abbrev pub PerformsState : Result Reply NoMemory → HeldState → Machine → C
 PerformsState result now m command = AfterState result now (step m command)
 
 -- What publishing a state at its height does: every image meanwhile stands for the heights before or those after, at most
--- 2,048 numbers are given, and at Ok the height is published, with the root of the state.
+-- 2,048 numbers are given, and at Ok the height is published, with the root of the state, and just its bytes were appended.
 pub record Publishes (tells : Bool) (held : HeldState) (old new : Store) (before after : DiskView) (result : Result Bytes StoreError) : Type 0 where
   pub root : (k : ℕ × State) → KeepsState held k → IfOk result (λ root. root ≡ root_of k.1)
   pub stands : IsTrue tells → (ps : List Published) (k : ℕ × State) → KeepsState held k → IsSettled before.state → KeepsHeights old.heights before.state ps
@@ -65,4 +67,5 @@ pub record Publishes (tells : Bool) (held : HeldState) (old new : Store) (before
   pub images : IsTrue tells → (ps : List Published) (k : ℕ × State) → KeepsState held k → IsSettled before.state → KeepsHeights old.heights before.state ps
       → LeavesOnly before after (StandsForEither ps (ps ++ whole held.height k.1 ∷ []))
   pub over : IsTrue tells → OnOk result (IsOver new after.state.files)
+  pub spends : IsTrue tells → (k : ℕ × State) → KeepsState held k → OnOk result (Spends (whole_bytes k.1) 0 before after)
   pub given : GivesFew old new

@@ -11,7 +11,7 @@ use Rattle.state_manager.specs.Kept.{Held, DoesLine}
 use Rattle.state_manager.specs.StateKept.{HeldState}
 use Rattle.height_store.specs.Store.{StoredHeight}
 use Rattle.format_spec.specs.declared.limits.TheConstants.{MAX_PUBLISHED}
-use Rattle.state_manager.proofs.DiskLines.{as_step, checkpoint_done, checkpoint_failed, checkpoint_low, checkpoint_many, checkpoint_none, still_line}
+use Rattle.state_manager.proofs.DiskLines.{as_step, checkpoint_done, checkpoint_failed, checkpoint_free, checkpoint_low, checkpoint_low_free, checkpoint_many, checkpoint_many_free, checkpoint_none, still_line}
 use Rattle.state_manager.proofs.manager.Manager.checkpoint.Goals as goal
 
 pub returns-in_default-clause-line : goal.returns-in_default-clause-line
@@ -19,6 +19,7 @@ returns-in_default-clause-line g c =
     let over : IsTrue g.D.Disk.tells → IsOver c.self.inside.store (g.D.Disk.view c.args.disk.now).state.files = λ told. subst (λ (h : Held). IsOver h.store (g.D.Disk.view c.args.disk.now).state.files) (sym c.self.view_is) (c.requires.over told) in
     subst (λ (h : Held). DoesLine g.D.Disk.tells h h (g.D.Disk.view c.args.disk.now) (g.D.Disk.view c.args.disk.now) (Ok (replies.Refused refusals.NoHeight)) commands.Checkpoint) c.self.view_is
     (still_line g.D.Disk.tells _ (g.D.Disk.view c.args.disk.now) (Ok (replies.Refused refusals.NoHeight)) commands.Checkpoint over
+    (λ m k. checkpoint_free m c.self.inside.memory.items k.states.memory (omega (arith, c.in_default.ensures.item.3, ap (λ (l : List HeldState). length l) c.deref.ensures.value)))
     (λ told m k. as_step (replies.Refused refusals.NoHeight) _ _ m (checkpoint_none m c.self.inside.memory.items k.states.memory (omega (arith, c.in_default.ensures.item.3, ap (λ (l : List HeldState). length l) c.deref.ensures.value))) refl refl))
 
 pub returns-then-is_low-clause-line : goal.returns-then-is_low-clause-line
@@ -29,6 +30,7 @@ returns-then-is_low-clause-line g c =
     ap (λ (h : ℕ). option_map_or (nat_le h) (last_or None (heights_in c.self.inside.store.heights)) false) (sym c.height-height.ensures) ∙ sym c.if-is_low.ensures.low in
     subst (λ (h : Held). DoesLine g.D.Disk.tells h h (g.D.Disk.view c.args.disk.now) (g.D.Disk.view c.args.disk.now) (Ok (replies.Refused refusals.HeightLow)) commands.Checkpoint) c.self.view_is
     (still_line g.D.Disk.tells _ (g.D.Disk.view c.args.disk.now) (Ok (replies.Refused refusals.HeightLow)) commands.Checkpoint over
+    (λ m k. checkpoint_low_free g.D.Disk.tells _ (g.D.Disk.view c.args.disk.now) m c.in-Some.state.now last k.states low)
     (λ told m k. as_step (replies.Refused refusals.HeightLow) _ _ m (checkpoint_low g.D.Disk.tells _ (g.D.Disk.view c.args.disk.now) m c.in-Some.state.now last k.states low) refl refl))
 
 pub returns-then-count-ge-MAX_PUBLISHED-clause-line : goal.returns-then-count-ge-MAX_PUBLISHED-clause-line
@@ -39,6 +41,7 @@ returns-then-count-ge-MAX_PUBLISHED-clause-line g c =
     ap (λ (h : ℕ). option_map_or (nat_le h) (last_or None (heights_in c.self.inside.store.heights)) false) (sym c.height-height.ensures) ∙ sym c.if-is_low.ensures.low in
     subst (λ (h : Held). DoesLine g.D.Disk.tells h h (g.D.Disk.view c.args.disk.now) (g.D.Disk.view c.args.disk.now) (Ok (replies.Refused refusals.ManyMarks)) commands.Checkpoint) c.self.view_is
     (still_line g.D.Disk.tells _ (g.D.Disk.view c.args.disk.now) (Ok (replies.Refused refusals.ManyMarks)) commands.Checkpoint over
+    (λ m k. checkpoint_many_free g.D.Disk.tells _ (g.D.Disk.view c.args.disk.now) m c.in-Some.state.now last k.states low (omega (arith, c.count.ensures)))
     (λ told m k. as_step (replies.Refused refusals.ManyMarks) _ _ m (checkpoint_many g.D.Disk.tells _ (g.D.Disk.view c.args.disk.now) m c.in-Some.state.now last k.states low (omega (arith, c.count.ensures))) refl refl))
 
 pub publish-requires-clause-above : goal.publish-requires-clause-above
