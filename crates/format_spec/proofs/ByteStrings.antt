@@ -5,7 +5,7 @@ use Rattle.std.specs.Int.{bytes_high_first, byte_at, to_be_bytes, w32}
 use Rattle.std.specs.Prelude.{slice_index}
 use Rattle.std.proofs.lemmas.Bool.{and_parts, and_from, lt-ltb, ltb-true}
 use Rattle.sha2.specs.Sha256.{sha256, digest_bytes}
-use Rattle.format_spec.specs.Bytes.{Bytes, IsBytes, AreByteStrings, are_bytes, be16, be32, be64, short_string, parts, part_count}
+use Rattle.format_spec.specs.Bytes.{Bytes, IsBytes, AreByteStrings, are_bytes, be32, short_string, parts, part_count}
 use Rattle.format_spec.specs.Hashes.{separated}
 
 -- ---- the test

@@ -6,6 +6,7 @@ use Rattle.std.proofs.lemmas.List.{append-nil, length-map, length-append, length
 use Rattle.std.proofs.lemmas.Option.{slice_get_within, get_or_from_slice_get}
 use Rattle.format_spec.specs.Bytes.{Bytes, part_count}
 use Rattle.format_spec.specs.declared.limits.TheConstants.{CHUNK_SIZE, PAGE_SIZE}
+use Rattle.format_spec.proofs.Cuts.{heads}
 use Rattle.state_spec.specs.Files.{heap_name, stable_name}
 use Rattle.state_spec.specs.State.{CanisterPart}
 use Rattle.state_spec.specs.Manifest.{Manifest, FileSums, memory_sums, manifest_from, file_row}
@@ -13,9 +14,6 @@ use Rattle.sys_state.specs.declared.record.CanisterRecord.{CanisterRecord}
 use Rattle.sys_state.specs.System.{part_of_record}
 use Rattle.manifest.specs.Adding.{Adds, canister_sums}
 use Rattle.manifest.proofs.Growing.{added}
-
-pub heads : {X : Type 0} (x y : X) (xs ys : List X) → x ∷ xs ≡ y ∷ ys → (x ≡ y) × (xs ≡ ys)
-heads x y xs ys e = (cc, cc)
 
 -- ---- a canister's memories
 

@@ -8,12 +8,13 @@ use Rattle.std.specs.Cmp.{IsTotalOrder, tied_itself}
 use Rattle.std.specs.Ordering.{is_lt, is_eq, eq_by_cmp, ordering_reverse}
 use Rattle.std.specs.declared.cmp.Ordering.{Ordering}
 use Rattle.std.specs.declared.cmp.Ordering.TheVariants.{Less, Equal, Greater}
-use Rattle.std.proofs.lemmas.Bool.{and_parts, and_from}
+use Rattle.std.proofs.lemmas.Bool.{and_parts}
 use Rattle.std.proofs.lemmas.List.{take-append-drop, length-take-le, get_or_at, set_at, take_at, drop_at}
 use Rattle.std.proofs.lemmas.List.Sorted.{searchable_from_sorted}
 use Rattle.std.proofs.lemmas.List.Sums.{sum_by-append}
 use Rattle.std.proofs.Math.Seq.{split_at}
 use Rattle.format_spec.proofs.Ascending.{less_is}
+use Rattle.format_spec.proofs.Lists.{from_T}
 use Rattle.sys_state.specs.Places.{place_of, Replaces, Stands, IsAbsent, Places}
 use Rattle.state_spec.specs.State.{without}
 use Rattle.sys_state.proofs.Lists.{all_parts}
@@ -23,10 +24,6 @@ greater_from_less R o x y lt = o.antisymm y x ∙ ap ordering_reverse lt
 
 pub less_from_greater : {K : Type 0} (R : K → K → Ordering) → IsTotalOrder R → (x y : K) → R x y ≡ Greater → R y x ≡ Less
 less_from_greater R o x y gt = o.antisymm y x ∙ ap ordering_reverse gt
-
-from_T : (b : Bool) → T b → b ≡ true
-from_T true h = refl
-from_T false h = absurd h
 
 abbrev one_if : Bool → ℕ
 one_if b = cond b 1 0

@@ -6,7 +6,7 @@ use Rattle.std.specs.List.{AllByRecursion, AllZip}
 use Rattle.std.proofs.lemmas.Bool.{false≢true}
 use Rattle.std.proofs.lemmas.List.{length-map, map-append, get_or-map, take_more, take_all}
 use Rattle.std.proofs.lemmas.List.Elements.{All-from_recursion, All-get_or}
-use Rattle.std.proofs.lemmas.Option.{slice_get-get_or, slice_get_within, get_or_from_slice_get}
+use Rattle.std.proofs.lemmas.Option.{slice_get-get_or, slice_get_within, get_or_from_slice_get, same_Some}
 use Rattle.std.proofs.lemmas.Slice.Zip.{AllZip-long}
 use Rattle.format_spec.specs.Bytes.{Bytes}
 use Rattle.format_spec.specs.declared.limits.TheConstants.{PAGE_SIZE, MAX_MEMORY_PAGES}
@@ -148,9 +148,6 @@ few_counts s pages good are = omega (arith, good.few_canisters, ap length are, l
 
 -- ---- what is kept of a height
 
-same_some : {X : Type 0} (x y : X) → Some x ≡ Some y → x ≡ y
-same_some x y is = ap (λ o. unwrap_or o x) is
-
 pub mapped_some : {X : Type 0} (f : StoredHeight → X) (o : Option StoredHeight) → is_some (option_map f o) ≡ is_some o
 mapped_some f None = refl
 mapped_some f (Some h) = refl
@@ -161,18 +158,18 @@ copied_some (Some x) = refl
 
 -- a part of a height is that of the height found
 pub found_is : {X : Type 0} (f : StoredHeight → X) (o : Option StoredHeight) (x : X) (h : StoredHeight) → Some x ≡ option_map f o → o ≡ Some h → x ≡ f h
-found_is f o x h is at = same_some x (f h) (is ∙ ap (option_map f) at)
+found_is f o x h is at = same_Some x (f h) (is ∙ ap (option_map f) at)
 
 -- what holds of the system that was found holds of the height's
 pub of_system : (o : Option StoredHeight) (system : System) (P : System → Type 0) → Some system ≡ option_map (λ h. h.system) o → P system → IfSome o (λ h. P h.system)
 of_system None system P is holds = absurd cc
-of_system (Some h) system P is holds = subst P (same_some system h.system is) holds
+of_system (Some h) system P is holds = subst P (same_Some system h.system is) holds
 
 pub sums_fit_found : (o : Option StoredHeight) (m : Mark) (s : System) (lists : List (List Bytes)) → Some m ≡ option_map (λ h. h.mark) o → Some s ≡ option_map (λ h. h.system) o → IfSome o IsHeight → lists ≡ map (λ m. m.sums) m.memories → FitSums (part_of s) lists
 sums_fit_found None m s lists is is' good are = absurd cc
 sums_fit_found (Some h) m s lists is is' good are =
-    subst (FitSums (part_of s)) (sym (are ∙ ap (λ (m : Mark). map (λ m. m.sums) m.memories) (same_some m h.mark is)))
-    (subst (λ (s : System). FitSums (part_of s) (map (λ m. m.sums) h.mark.memories)) (sym (same_some s h.system is'))
+    subst (FitSums (part_of s)) (sym (are ∙ ap (λ (m : Mark). map (λ m. m.sums) m.memories) (same_Some m h.mark is)))
+    (subst (λ (s : System). FitSums (part_of s) (map (λ m. m.sums) h.mark.memories)) (sym (same_Some s h.system is'))
     (sums_fit h.mark.memories (memories_in (part_of h.system)) good.parts.mark.memories_fit))
 
 -- the bytes of the memory at a place of a height that files show
