@@ -133,9 +133,6 @@ not_named (r ∷ rows) n none = ⊎_elim
     (λ h. (h.1, not_named rows n (sym (ap (λ (b : Bool). b || list_any (λ q. nat_eq n q.0) rows) h.0) ∙ none)))
     (eqb_tells n r.0)
 
-pub opened_none : Opened [] []
-opened_none = record { ascends = λ k within. absurd (omega arith); named = λ n. refl; fits = tt }
-
 pub opened_more : (old new : List NumberedFile) (rows : List (ℕ × ℕ)) (n p : ℕ) → AllByRecursion (λ r. r.0 ≤ n) rows → Opened old rows → Takes old n p new → Opened new (rows ++ (n, p) ∷ [])
 opened_more old new rows n p below opened (inl h) = subst (λ (fs : List NumberedFile). Opened fs (rows ++ (n, p) ∷ [])) (sym h.3) (record {
   ascends = opened.ascends;
