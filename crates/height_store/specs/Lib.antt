@@ -11,3 +11,4 @@ pub mod Shown
 pub mod Standing
 pub mod Store
 pub mod Written
+pub mod Answers
