@@ -22,4 +22,5 @@ pub mod Keeping
 pub mod KeepCalls
 pub mod Lives
 pub mod Reached
+pub mod OwnPages
 pub mod InPlace

@@ -1,8 +1,8 @@
 //! Maps, each under an id.
 
-ghost use Rattle.std.specs.Prelude.{◌≡◌, ℕ, ◌^◌, ◌<◌, [], length, None, OnOk, OnErr, IfOk};
+ghost use Rattle.std.specs.Prelude.{◌≡◌, ℕ, ◌^◌, ◌<◌, [], length, None, OnOk, OnErr, IsOk, IfOk};
 ghost use Rattle.page_pool.specs.Pool.{Pool, used_in};
-ghost use Rattle.page_delta.specs.Delta.{map_of, IsLive, pages_of, find, pages_after, RiseFrom, Holds, Adds, Sets, Drops, Keeps, SameReads};
+ghost use Rattle.page_delta.specs.Delta.{map_of, IsLive, pages_of, find, pages_after, RiseFrom, Holds, Adds, IsOwn, Sets, Drops, Keeps, SameReads};
 
 use crate::entry::Entry;
 use crate::node::Node;
@@ -119,7 +119,7 @@ impl Deltas {
     }
 
     /// Sets the bytes and the stamp of a page below 1,048,576 in one map, and in no other. NoMemory where memory ran
-    /// out, or there are too many nodes; then nothing changes.
+    /// out, or there are too many nodes; then nothing changes. A page that is the map's own wants no memory.
     pub fn set(
         &mut self,
         alloc: Global,
@@ -135,6 +135,7 @@ impl Deltas {
         ensures set { OnOk result (Sets pool.old pool.new self.old self.new id page bytes.now stamp) }
         ensures err { OnErr result (self.new ≡ self.old) }
         ensures err_pool { OnErr result (pool.new ≡ pool.old) }
+        ensures own { IsOwn self.old id page → IsOk result }
         ensures holds { Holds pool.new self.new }
     {
         if let Some(own) = own_place(&self.nodes, &self.ids, pool, id.0, page) {

@@ -140,7 +140,8 @@ pub(crate) fn own_place(
     requires kept { IsKept nodes.now.slots ids.now.slots }
     requires held { IsHeld nodes.now.slots pool.now (λ slot. 0) }
     requires live { IsSome (root_at ids.now.slots id) }
-    ensures { IfSome result (λ own. IsOwnPlace nodes.now.slots ids.now.slots pool.now id page own.leaf own.slot) }
+    ensures own { IfSome result (λ own. IsOwnPlace nodes.now.slots ids.now.slots pool.now id page own.leaf own.slot) }
+    ensures some { (leaf slot : ℕ) → IsOwnPlace nodes.now.slots ids.now.slots pool.now id page leaf slot → IsSome result }
 {
     let leaf = own_leaf(nodes, ids[id as usize].node, page)?;
     let entry = nodes[leaf].entry(page % 32)?;

@@ -31,7 +31,8 @@ pub(crate) fn look(nodes: &Slab<Node>, root: usize, page: u32) -> Option<Entry>
 fn own_below(nodes: &Slab<Node>, parent: usize, digit: u32) -> Option<usize>
     requires parent { IsSome (node_at nodes.now.slots parent) }
     requires digit { digit < 32 }
-    ensures { IfSome result (λ child. (count_in (node_at nodes.now.slots parent) ≡ 1) × (child_in (node_at nodes.now.slots parent) digit ≡ Some child)) }
+    ensures own { IfSome result (λ child. (count_in (node_at nodes.now.slots parent) ≡ 1) × (child_in (node_at nodes.now.slots parent) digit ≡ Some child)) }
+    ensures some { count_in (node_at nodes.now.slots parent) ≡ 1 → IsSome (child_in (node_at nodes.now.slots parent) digit) → IsSome result }
 {
     if nodes[parent].count() != 1 {
         return None;
@@ -43,7 +44,8 @@ fn own_below(nodes: &Slab<Node>, parent: usize, digit: u32) -> Option<usize>
 pub(crate) fn own_leaf(nodes: &Slab<Node>, root: usize, page: u32) -> Option<usize>
     requires root { IsSome (node_at nodes.now.slots root) }
     requires closed { IsClosed nodes.now.slots }
-    ensures { IfSome result (λ leaf. IsOwnLeaf nodes.now.slots root page leaf) }
+    ensures own { IfSome result (λ leaf. IsOwnLeaf nodes.now.slots root page leaf) }
+    ensures some { (leaf : ℕ) → IsOwnLeaf nodes.now.slots root page leaf → IsSome result }
 {
     let upper = own_below(nodes, root, page / 32_768 % 32)?;
     let lower = own_below(nodes, upper, page / 1024 % 32)?;
