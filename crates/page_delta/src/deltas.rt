@@ -5,10 +5,10 @@ ghost use Rattle.page_pool.specs.Pool.{Pool, used_in};
 ghost use Rattle.page_delta.specs.Delta.{map_of, IsLive, pages_of, find, pages_after, RiseFrom, Holds, Adds, IsOwn, Sets, Drops, Keeps, SameReads};
 
 use crate::entry::Entry;
+use crate::keep::keep_root;
+use crate::newer::stamped;
 use crate::node::Node;
-use crate::roots::{
-    Root, drop_root, fork_root, keep_pages, make_room, new_root, own_place, put_entry, stamped,
-};
+use crate::roots::{Root, drop_root, fork_root, make_room, new_root, own_place, put_entry};
 use crate::tree::{look, place};
 use byte_codec::NoMemory;
 use page_pool::{PageBytes, PagePool};
@@ -183,7 +183,7 @@ impl Deltas {
     /// many ids or nodes; then every map reads as before.
     pub fn keep_after(
         &mut self,
-        alloc: Global,
+        _alloc: Global,
         pool: &mut PagePool,
         id: DeltaId,
         b: u64,
@@ -194,13 +194,7 @@ impl Deltas {
         ensures err { OnErr result (SameReads pool.old pool.new self.old self.new) }
         ensures holds { Holds pool.new self.new }
     {
-        let root = self.ids[id.0 as usize].node;
-        let pages = stamped(alloc, &self.nodes, root, b)?;
-        let kept = new_root(&mut self.nodes, &mut self.ids)?;
-        if keep_pages(&mut self.nodes, &mut self.ids, pool, id.0, kept, &pages).is_err() {
-            drop_root(&mut self.nodes, &mut self.ids, pool, kept);
-            return Err(NoMemory);
-        }
+        let kept = keep_root(&mut self.nodes, &mut self.ids, pool, id.0, b)?;
         Ok(DeltaId(kept))
     }
 }
