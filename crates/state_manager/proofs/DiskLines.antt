@@ -39,7 +39,8 @@ use Rattle.machine_spec.specs.Step.{step}
 use Rattle.machine_spec.proofs.StartKept.{start_is_sound}
 use Rattle.machine_spec.proofs.StepsKept.{step_keeps}
 use Rattle.state_manager.specs.Kept.{Held, DoesLine, Keeps, KeepsEach, KeepsStates, Performs, PerformsOn, newest_bytes, published_height}
-use Rattle.state_manager.specs.StateKept.{HeldState, KeepsState, Publishes, live_of}
+use Rattle.live_state.specs.StateKept.{HeldState, KeepsState, live_of}
+use Rattle.state_manager.specs.Publishes.{Publishes}
 use Rattle.state_manager.proofs.Spending.{bytes_there, newest_there, spends_nothing}
 use Rattle.state_manager.proofs.Standing.{FoundHeight, PublishedAt, find_height, knows_same, published_some, shows_same}
 

@@ -8,8 +8,8 @@ use Rattle.store_spec.specs.Whole.{whole_length}
 use Rattle.sys_state.specs.System.{System, part_of}
 use Rattle.whole_state.specs.Whole.{HasParts}
 use Rattle.machine_spec.specs.Costs.{whole_bytes}
-use Rattle.state_manager.specs.StateKept.{HeldState, KeepsState}
-use Rattle.state_manager.proofs.MemoryLines.{parts_of_state}
+use Rattle.live_state.specs.StateKept.{HeldState, KeepsState}
+use Rattle.live_state.proofs.MemoryLines.{parts_of_state}
 
 pub has_parts : (held : HeldState) (k : ℕ × State) → KeepsState held k → (system : System) (memories : List Bytes) → held.system ≡ system → held.memories ≡ memories → HasParts k.1 system memories
 has_parts held k keeps system memories one all = record {

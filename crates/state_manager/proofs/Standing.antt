@@ -23,7 +23,7 @@ use Rattle.height_store.specs.Kept.{ShowsHeight}
 use Rattle.height_store.specs.Store.{StoredHeight, height_at}
 use Rattle.height_store.specs.Known.{KnowsHeight}
 use Rattle.state_manager.specs.Kept.{Held, KeepsStates, KeepsEach, Performs, held_at, published_height}
-use Rattle.state_manager.specs.StateKept.{HeldState, KeepsState, live_of}
+use Rattle.live_state.specs.StateKept.{HeldState, KeepsState, live_of}
 
 -- ---- the states in memory
 

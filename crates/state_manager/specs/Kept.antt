@@ -21,7 +21,7 @@ use Rattle.machine_spec.specs.Costs.{appends, reads}
 use Rattle.machine_spec.specs.Machine.{Machine}
 use Rattle.machine_spec.specs.Sound.{IsSound}
 use Rattle.machine_spec.specs.Step.{step}
-use Rattle.state_manager.specs.StateKept.{HeldState, KeepsState, live_of}
+use Rattle.live_state.specs.StateKept.{HeldState, KeepsState, live_of}
 use Rattle.state_manager.specs.declared.stop.Stop.{Stop}
 
 -- the live state, the states in memory, ascending by height, the published heights, and how an earlier call stopped

@@ -3,8 +3,8 @@
 ghost use Rattle.std.specs.Prelude.{◌≡◌, ◌==◌, not, map, filter, find, IfOk};
 ghost use Rattle.std.specs.Option.{option_copied};
 
-use crate::height_state::HeightState;
 use byte_codec::NoMemory;
+use live_state::HeightState;
 use script_text::Numbers;
 use std::alloc::Global;
 

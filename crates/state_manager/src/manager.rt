@@ -24,8 +24,8 @@ ghost use Rattle.state_manager.specs.Causes.{HasCause, OpensByCause, IsBadFile, 
 ghost use Rattle.state_manager.specs.Kept.{Keeps, KeepsStates, Performs, Applies, DoesLine, held_at, published_height, needs_disk, newest_bytes};
 
 use crate::checks::check_witness;
-use crate::height_state::HeightState;
 use crate::kept::{drop_height, find_height, heights_of, keep_tree_at};
+use crate::publishing::publish;
 use crate::stop::{OpenError, Stop};
 use crate::stored::{
     begin, count_published, is_low, is_newest, is_published, load, published_heights,
@@ -35,6 +35,7 @@ use byte_codec::NoMemory;
 use disk_model::Disk;
 use format_spec::{MAX_HEIGHT, MAX_HEIGHTS, MAX_PUBLISHED};
 use height_store::{HeightStore, StoreError};
+use live_state::HeightState;
 use script_text::{Command, HeightOrLive, Numbers, Refusal, Reply};
 use std::alloc::Global;
 use std::marker::Model;
@@ -304,7 +305,7 @@ impl Manager {
         if self.store.count() as usize >= MAX_PUBLISHED {
             return Ok(Reply::Refused(Refusal::ManyMarks));
         }
-        let root = state.publish(alloc, &mut self.store, disk)?;
+        let root = publish(alloc, state, &mut self.store, disk)?;
         Ok(Reply::Published { height, root })
     }
 

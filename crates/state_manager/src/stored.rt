@@ -17,13 +17,13 @@ ghost use Rattle.machine_spec.specs.LiveSteps.{read_reply};
 ghost use Rattle.machine_spec.specs.Machine.{start};
 ghost use Rattle.machine_spec.specs.WitnessSteps.{witness_text};
 ghost use Rattle.state_manager.specs.Kept.{newest_bytes};
-ghost use Rattle.state_manager.specs.StateKept.{KeepsState, live_of};
+ghost use Rattle.live_state.specs.StateKept.{KeepsState, live_of};
 
-use crate::height_state::{HeightState, count_manifest, memory_index, tree_root_of, witness_of};
 use byte_codec::NoMemory;
 use disk_model::Disk;
 use format_spec::PAGE_SIZE;
 use height_store::{HeightStore, StoreError, manifest_at, read_bytes, read_memories};
+use live_state::{HeightState, count_manifest, memory_index, tree_root_of, witness_of};
 use script_text::{Numbers, Refusal, Reply};
 use std::alloc::Global;
 use sys_state::{CanisterId, Mem, Path};
