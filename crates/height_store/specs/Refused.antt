@@ -8,7 +8,8 @@ use Rattle.format_spec.specs.declared.limits.TheConstants.{MAX_PUBLISHED}
 use Rattle.format_spec.proofs.Cuts.{heads}
 use Rattle.state_spec.specs.State.{SystemPart}
 use Rattle.state_spec.specs.Files.{memories_in}
-use Rattle.store_spec.specs.Image.{Published, Layer, IsLayerOf, AreLayersOf, GivesHeight, heights_of, Opens}
+use Rattle.store_spec.specs.Image.{Published, IsLayerOf, AreLayersOf, GivesHeight, heights_of, Opens}
+use Rattle.page_spec.specs.Layers.{Layer}
 use Rattle.store_spec.specs.Mark.{Mark, MarkMemory}
 use Rattle.store_spec.proofs.Images.{listing_once}
 use Rattle.disk_model.specs.declared.name.Kind.TheVariants as kind

@@ -2,7 +2,7 @@
 use Rattle.std.specs.Prelude.{◌≡◌, ℕ, ◌==◌, List, [], ◌∷◌, map, length, position, Option, None, option_map}
 use Rattle.std.specs.List.{AllZip}
 use Rattle.std.specs.Option.{option_or}
-use Rattle.store_spec.specs.Image.{Layer}
+use Rattle.page_spec.specs.Layers.{Layer}
 use Rattle.disk_model.specs.Files.{Files}
 use Rattle.page_file.specs.Files.{NumberedFile, HasPages}
 

@@ -1,7 +1,7 @@
 //! What is so of layers, by the definitions alone.
 ghost use Rattle.std.specs.Prelude.{◌≡◌, List};
 ghost use Rattle.std.specs.List.{AllByRecursion};
-ghost use Rattle.store_spec.specs.Image.{Layer};
+ghost use Rattle.page_spec.specs.Layers.{Layer};
 ghost use Rattle.disk_model.specs.declared.name.Name.TheVariants.{Page};
 ghost use Rattle.disk_model.specs.Files.{Files};
 ghost use Rattle.page_file.specs.Files.{NumberedFile, IsKept};

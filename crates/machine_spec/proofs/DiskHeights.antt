@@ -7,13 +7,13 @@ use Rattle.std.specs.FinMap.Entries.{below_all}
 use Rattle.std.proofs.lemmas.List.{length-replicate, reverse-append}
 use Rattle.std.proofs.lemmas.List.Quantifiers.{position-Some}
 use Rattle.std.proofs.lemmas.Bool.{and_parts, and_from}
-use Rattle.format_spec.specs.Bytes.{Bytes, bytes_cmp}
+use Rattle.format_spec.specs.Bytes.{Bytes, bytes_cmp, page_at}
 use Rattle.format_spec.specs.declared.limits.TheConstants.{PAGE_SIZE}
 use Rattle.state_spec.specs.State.{SystemPart, CanisterPart, canisters_from, state_from}
 use Rattle.state_spec.specs.Files.{heap_name, stable_name}
-use Rattle.state_spec.specs.Memory.{page_at}
 use Rattle.disk_model.specs.Files.{Files}
-use Rattle.store_spec.specs.Image.{Published, Layer, IsLayerOf, AreLayersOf, GivesHeight, OpensAt, GivesTrueHeight, StandsFor, heights_of, or_else, page_from, memory_from, memories_from}
+use Rattle.store_spec.specs.Image.{Published, IsLayerOf, AreLayersOf, GivesHeight, OpensAt, GivesTrueHeight, StandsFor, heights_of, memories_from}
+use Rattle.page_spec.specs.Layers.{Layer, or_else, page_from, memory_from}
 use Rattle.store_spec.specs.Mark.{MarkMemory, FitsMemory}
 use Rattle.machine_spec.specs.Sound.{Ascend, AreHeights, IsPaged, MayBegin}
 use Rattle.machine_spec.proofs.Lists.{weaker, joined}

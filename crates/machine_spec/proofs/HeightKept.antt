@@ -5,7 +5,7 @@ use Rattle.std.proofs.lemmas.Bool.{leb-false}
 use Rattle.format_spec.specs.declared.limits.TheConstants.{MAX_HEIGHT, MAX_HEIGHTS, MAX_PUBLISHED}
 use Rattle.state_spec.specs.State.{State}
 use Rattle.state_spec.specs.Root.{root_of}
-use Rattle.store_spec.specs.Image.{Published, heights_of, without_published}
+use Rattle.store_spec.specs.Image.{Published, heights_of, without_published, whole_layers}
 use Rattle.script_text.specs.declared.command.HeightOrLive.{HeightOrLive}
 use Rattle.script_text.specs.declared.reply.Reply.{Reply}
 use Rattle.script_text.specs.declared.reply.Reply.TheVariants as replies
@@ -13,7 +13,7 @@ use Rattle.script_text.specs.declared.reply.Refusal.TheVariants.{ManyHeights, He
 use Rattle.machine_spec.specs.Machine.{Machine, answered, unless, unless_none, kept_at, without_height, state_at, newest, published_at, resumed_at}
 use Rattle.machine_spec.specs.States.{memories_of}
 use Rattle.machine_spec.specs.HeightSteps.{round_step, forget_step, tree_root}
-use Rattle.machine_spec.specs.StoreSteps.{is_low, is_newest, whole_layers, checkpoint_step, purge_step, reset_step}
+use Rattle.machine_spec.specs.StoreSteps.{is_low, is_newest, checkpoint_step, purge_step, reset_step}
 use Rattle.machine_spec.specs.Sound.{IsSound, IsWholeState, IsWithin, IsBornBy, EachLater, Ascend, MayBegin}
 use Rattle.machine_spec.proofs.Lists.{weaker, joined, parts, kept, before_one, later_one, later_kept, of_map, to_map, later_of_map, later_to_map, last_holds}
 use Rattle.machine_spec.proofs.LiveKept.{if_not_refused, if_some, live_within}

@@ -5,8 +5,7 @@ use Rattle.std.specs.FinMap.{is_sorted}
 use Rattle.std.specs.FinMap.Entries.{below_all}
 use Rattle.format_spec.specs.Bytes.{Bytes, bytes_cmp}
 use Rattle.state_spec.specs.State.{State, Canister, CanisterPart, HasPageRounds, part_of, canister_from, canisters_from, state_from, system_of, memory_bytes, without_history, canister_without_history}
-use Rattle.store_spec.specs.Image.{Published, SamePublished}
-use Rattle.machine_spec.specs.Machine.{opened}
+use Rattle.store_spec.specs.Image.{Published, SamePublished, opened}
 use Rattle.machine_spec.specs.Sound.{IsPaged, IsWholeState, IsWithin, IsBornBy, MayBegin}
 use Rattle.machine_spec.proofs.Canisters.{Canisters, memories_in}
 

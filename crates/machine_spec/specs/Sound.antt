@@ -5,9 +5,9 @@ use Rattle.std.specs.List.{AllByRecursion}
 use Rattle.format_spec.specs.Bytes.{bytes_cmp}
 use Rattle.format_spec.specs.declared.limits.TheConstants.{MAX_HEIGHTS, MAX_PUBLISHED}
 use Rattle.state_spec.specs.State.{State, Memory, IsMemory, HasPageRounds}
-use Rattle.store_spec.specs.Image.{Published, heights_of}
+use Rattle.store_spec.specs.Image.{Published, heights_of, opened}
 use Rattle.script_text.specs.declared.command.Command.{Command}
-use Rattle.machine_spec.specs.Machine.{Machine, start, opened}
+use Rattle.machine_spec.specs.Machine.{Machine, start}
 use Rattle.machine_spec.specs.States.{NamedMemory, memories_of}
 use Rattle.machine_spec.specs.Step.{step}
 

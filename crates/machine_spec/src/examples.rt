@@ -13,7 +13,8 @@ ghost use Rattle.script_text.specs.declared.reply.Refusal.TheVariants.{HeightLim
 ghost use Rattle.script_text.specs.declared.reply.Reply.TheVariants as replies;
 ghost use Rattle.machine_spec.specs.Costs.{appends, reads};
 ghost use Rattle.machine_spec.specs.HeightSteps.{counts_of, tree_root};
-ghost use Rattle.machine_spec.specs.Machine.{opened, start, state_at};
+ghost use Rattle.machine_spec.specs.Machine.{start, state_at};
+ghost use Rattle.store_spec.specs.Image.{opened};
 ghost use Rattle.machine_spec.specs.Script.{output_of, output_by, machine_after, after_script};
 ghost use Rattle.machine_spec.specs.States.{empty_state};
 ghost use Rattle.machine_spec.specs.Step.{step};

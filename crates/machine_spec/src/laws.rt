@@ -2,11 +2,11 @@
 
 ghost use Rattle.std.specs.Prelude.{◌≡◌, List, []};
 ghost use Rattle.disk_model.specs.Files.{Files};
-ghost use Rattle.store_spec.specs.Image.{OpensAt, Published, SamePublished, StandsFor};
+ghost use Rattle.store_spec.specs.Image.{OpensAt, Published, SamePublished, StandsFor, opened};
 ghost use Rattle.script_text.specs.declared.command.Command.{Command};
 ghost use Rattle.script_text.specs.declared.reply.Refusal.{Refusal};
 ghost use Rattle.machine_spec.specs.Answers.{Turn, after_turns};
-ghost use Rattle.machine_spec.specs.Machine.{Machine, opened, start};
+ghost use Rattle.machine_spec.specs.Machine.{Machine, start};
 ghost use Rattle.machine_spec.specs.Script.{RefusalKeeps};
 ghost use Rattle.machine_spec.specs.Sound.{AreHeights, IsSound, MayBegin, StartIsSound, StepKeeps};
 ghost use Rattle.machine_spec.specs.States.{empty_state};

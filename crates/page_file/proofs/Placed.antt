@@ -5,7 +5,7 @@ use Rattle.std.specs.Ordering.{nat_cmp, is_lt}
 use Rattle.std.proofs.lemmas.Bool.{and_parts, cases_Bool, eqb-true, eqb-false}
 use Rattle.std.proofs.lemmas.Bool.Decides.{nat_tests}
 use Rattle.format_spec.specs.Bytes.{ascending}
-use Rattle.store_spec.specs.PageFile.{runs_of, before_runs}
+use Rattle.page_spec.specs.PageFile.{runs_of, before_runs}
 use Rattle.page_file.specs.declared.range.Range.{Range}
 use Rattle.page_file.specs.Ranges.{numbers_in, runs_in, AreRanges}
 

@@ -2,7 +2,7 @@
 use Rattle.std.proofs.Common.{◌≡◌, ℕ, ◌*◌, ◌++◌, length, take, drop, refl, sym, ◌∙◌, ap, subst, arith, length-append}
 use Rattle.std.proofs.lemmas.List.{append_cancel_left, length-take, length-drop}
 use Rattle.format_spec.specs.Bytes.{Bytes}
-use Rattle.store_spec.specs.PageFile.{PageIndex, IsIndex, IsPageFile, index_text, file_length, runs_of}
+use Rattle.page_spec.specs.PageFile.{PageIndex, IsIndex, IsPageFile, index_text, file_length, runs_of}
 use Rattle.disk_model.specs.Files.{Files}
 use Rattle.page_file.specs.Ranges.{numbers_in, ranges_from}
 use Rattle.page_file.specs.Files.{HasPages}

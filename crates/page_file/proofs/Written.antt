@@ -1,7 +1,7 @@
 -- What the calls of a writer leave.
 use Rattle.std.proofs.Common.{◌≡◌, ℕ, ◌+◌, ◌*◌, ◌++◌, length, false, Result, refl, sym, ◌∙◌, ap, subst, arith}
 use Rattle.format_spec.specs.Bytes.{Bytes}
-use Rattle.store_spec.specs.PageFile.{PageIndex, IsIndex, index_text, index_length}
+use Rattle.page_spec.specs.PageFile.{PageIndex, IsIndex, index_text, index_length}
 use Rattle.disk_model.specs.declared.disk.DiskError.{DiskError}
 use Rattle.disk_model.specs.declared.name.Name.TheVariants.{Page}
 use Rattle.disk_model.specs.Files.{same_name}

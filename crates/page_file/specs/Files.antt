@@ -2,7 +2,7 @@
 use Rattle.std.specs.Prelude.{◌≡◌, ℕ, ◌*◌, ◌++◌, Option, Some, None, Result, Ok, Err, length, take}
 use Rattle.format_spec.specs.Bytes.{Bytes}
 use Rattle.format_spec.specs.declared.limits.TheConstants.{PAGE_SIZE}
-use Rattle.store_spec.specs.PageFile.{PageIndex, IsPageFile, index_text}
+use Rattle.page_spec.specs.PageFile.{PageIndex, IsPageFile, index_text}
 use Rattle.disk_model.specs.declared.name.Name.TheVariants.{Page}
 use Rattle.disk_model.specs.Files.{Files}
 use Rattle.disk_model.specs.State.{DiskState, IsLoose, IsFirm}

@@ -1,10 +1,9 @@
 -- The index of a page file as it is kept in memory, and its text.
-use Rattle.std.specs.Prelude.{◌≡◌, ℕ, ◌+◌, ◌*◌, ◌≤◌, ◌==◌, ◌&&◌, nat_le, Bool, IsTrue, ◌++◌, length, codes}
-use Rattle.std.specs.Prelude.{if◌then◌else◌, Option, Some, None, Result, Ok, Err}
+use Rattle.std.specs.Prelude.{◌≡◌, ℕ, ◌+◌, ◌*◌, ◌≤◌, ◌==◌, ◌&&◌, nat_le, Bool, IsTrue, ◌++◌, length, codes, if◌then◌else◌, Option, Some, None, Result, Ok, Err}
 use Rattle.format_spec.specs.Bytes.{Bytes, be32, be64}
 use Rattle.format_spec.specs.declared.limits.TheConstants.{PAGE_SIZE, MAX_MEMORY_PAGES}
 use Rattle.byte_codec.specs.declared.error.NoMemory.{NoMemory}
-use Rattle.store_spec.specs.PageFile.{PageIndex, IsIndex, runs_of, ranges_text}
+use Rattle.page_spec.specs.PageFile.{PageIndex, IsIndex, runs_of, ranges_text}
 use Rattle.page_file.specs.declared.format.Header.{Header}
 use Rattle.page_file.specs.declared.index.FileIndex.TheInside.{Inside}
 use Rattle.page_file.specs.Ranges.{numbers_in, AreRanges}

@@ -1,9 +1,8 @@
 //! Reading a page file.
 ghost use Rattle.std.specs.Prelude.{◌≡◌, ◌+◌, ◌*◌, ◌<◌, ℕ, length, IsTrue, OnOk, IfOk, IfSome, IsErrOf};
 ghost use Rattle.format_spec.specs.declared.limits.TheConstants.{PAGE_SIZE, MAX_MEMORY_PAGES};
-ghost use Rattle.format_spec.specs.Bytes.{Bytes};
-ghost use Rattle.state_spec.specs.Memory.{page_at};
-ghost use Rattle.store_spec.specs.PageFile.{PageIndex, index_length};
+ghost use Rattle.format_spec.specs.Bytes.{Bytes, page_at};
+ghost use Rattle.page_spec.specs.PageFile.{PageIndex, index_length};
 ghost use Rattle.disk_model.specs.Looking.{OnlyLooks};
 ghost use Rattle.page_file.specs.Errors.{HasCause, NoBadPage};
 ghost use Rattle.page_file.specs.Index.{are_counts};

@@ -1,7 +1,7 @@
 //! The index of a page file.
 ghost use Rattle.std.specs.Prelude.{◌≡◌, ◌==◌, ◌+◌, ◌*◌, length, IfOk, OnOk, IsTrue, position};
 ghost use Rattle.format_spec.specs.declared.limits.TheConstants.{PAGE_SIZE};
-ghost use Rattle.store_spec.specs.PageFile.{IsIndex, index_text, index_length};
+ghost use Rattle.page_spec.specs.PageFile.{IsIndex, index_text, index_length};
 ghost use Rattle.page_file.specs.Index.{are_counts, ReadsIndex};
 
 use crate::format::{HEADER_SIZE, Header, RANGE_SIZE};
@@ -21,7 +21,7 @@ pub struct FileIndex {
 
 // Contracts see the pages of the memory and the numbers of those in the file.
 impl Model for FileIndex {
-    ghost use Rattle.store_spec.specs.PageFile.{PageIndex};
+    ghost use Rattle.page_spec.specs.PageFile.{PageIndex};
 
     ghost Value = { PageIndex };
 

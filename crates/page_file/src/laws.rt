@@ -1,7 +1,7 @@
 //! What is so of page files, by the definitions alone.
 ghost use Rattle.std.specs.Prelude.{◌≡◌, ◌++◌, length};
 ghost use Rattle.format_spec.specs.Bytes.{Bytes};
-ghost use Rattle.store_spec.specs.PageFile.{PageIndex, IsIndex, IsPageFile, index_text, file_length};
+ghost use Rattle.page_spec.specs.PageFile.{PageIndex, IsIndex, IsPageFile, index_text, file_length};
 
 /// A text is a page file with one index and one list of pages only.
 pub fn page_files_are_unique()

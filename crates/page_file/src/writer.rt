@@ -2,7 +2,7 @@
 ghost use Rattle.std.specs.Prelude.{◌≡◌, ◌⊎◌, ◌+◌, ◌<◌, ◌++◌, [], true, length, IsTrue, OnOk, IfOk, IsErr, IsErrOf};
 ghost use Rattle.format_spec.specs.declared.limits.TheConstants.{PAGE_SIZE};
 ghost use Rattle.format_spec.specs.Bytes.{Bytes};
-ghost use Rattle.store_spec.specs.PageFile.{index_length};
+ghost use Rattle.page_spec.specs.PageFile.{index_length};
 ghost use Rattle.disk_model.specs.declared.name.Name.TheVariants.{Page};
 ghost use Rattle.disk_model.specs.Files.{same_name};
 ghost use Rattle.disk_model.specs.State.{IsAbsent, IsLoose, IsSettled};
@@ -27,7 +27,7 @@ pub struct PageWriter {
 
 // Contracts see its number, its index and how many pages were added.
 impl Model for PageWriter {
-    ghost use Rattle.store_spec.specs.PageFile.{IsIndex};
+    ghost use Rattle.page_spec.specs.PageFile.{IsIndex};
     ghost use Rattle.page_file.specs.Files.{UnfinishedFile};
 
     ghost Value = { UnfinishedFile };

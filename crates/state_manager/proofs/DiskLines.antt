@@ -21,8 +21,9 @@ use Rattle.height_store.specs.declared.error.StoreError.{StoreError}
 use Rattle.height_store.specs.Kept.{IsOver, KeepsHeights, ShowsHeight, StandsForEither}
 use Rattle.height_store.specs.Laws.{kept_stands}
 use Rattle.height_store.specs.Store.{StoredHeight, height_at, heights_in}
-use Rattle.whole_state.specs.Laws.{kept_known}
-use Rattle.whole_state.specs.Whole.{KnowsHeight, whole}
+use Rattle.height_store.specs.KnownLaws.{kept_known}
+use Rattle.whole_state.specs.Whole.{whole}
+use Rattle.height_store.specs.Known.{KnowsHeight}
 use Rattle.script_text.specs.declared.command.Command.{Command}
 use Rattle.script_text.specs.declared.command.Command.TheVariants as commands
 use Rattle.script_text.specs.declared.command.HeightOrLive.{HeightOrLive}

@@ -12,8 +12,8 @@ use Rattle.height_store.specs.declared.error.StoreError.{StoreError}
 use Rattle.height_store.specs.declared.error.StoreError.TheVariants as store
 use Rattle.height_store.specs.Kept.{IsOver, KeepsHeights, StandsForEither}
 use Rattle.height_store.specs.Store.{StoredHeight, GivesFew, height_at, is_newest}
-use Rattle.whole_state.specs.Laws.{kept_known}
-use Rattle.whole_state.specs.Whole.{KnowsHeight}
+use Rattle.height_store.specs.KnownLaws.{kept_known}
+use Rattle.height_store.specs.Known.{KnowsHeight}
 use Rattle.script_text.specs.declared.command.Command.TheVariants as commands
 use Rattle.script_text.specs.declared.reply.Reply.{Reply}
 use Rattle.script_text.specs.declared.reply.Reply.TheVariants as replies

@@ -11,7 +11,7 @@ use Rattle.format_spec.specs.Bytes.{Bytes, bytes_cmp}
 use Rattle.format_spec.specs.declared.limits.TheConstants.{PAGE_SIZE, MAX_CANISTERS}
 use Rattle.state_spec.specs.Files.{heap_name, stable_name, memories_in}
 use Rattle.state_spec.specs.State.{State, Canister, CanisterPart, SystemPart, system_of, memory_bytes}
-use Rattle.store_spec.specs.Image.{Published}
+use Rattle.store_spec.specs.Image.{Published, opened}
 use Rattle.sys_state.specs.Calls as calls
 use Rattle.sys_state.specs.Places.{Stands, place_of}
 use Rattle.sys_state.specs.System.{System, part_of, part_of_record, parts}
@@ -19,12 +19,11 @@ use Rattle.sys_state.specs.declared.mem.Mem.{Mem}
 use Rattle.sys_state.specs.declared.mem.Mem.TheVariants.{Heap, Stable}
 use Rattle.sys_state.specs.declared.record.CanisterRecord.{CanisterRecord}
 use Rattle.height_store.specs.Store.{StoredHeight}
-use Rattle.whole_state.specs.Whole.{KnowsHeight, IsMemoryAt}
+use Rattle.height_store.specs.Known.{KnowsHeight, IsMemoryAt}
 use Rattle.script_text.specs.declared.reply.Reply.{Reply}
 use Rattle.script_text.specs.declared.reply.Reply.TheVariants as replies
 use Rattle.script_text.specs.declared.reply.Refusal.TheVariants.{NoCanister, PastEnd}
 use Rattle.machine_spec.specs.LiveSteps.{bytes_told, canister_told, read_reply}
-use Rattle.machine_spec.specs.Machine.{opened}
 use Rattle.machine_spec.specs.States.{canister_in, memory_of}
 use Rattle.state_manager.specs.Places.{index_of}
 use Rattle.state_manager.specs.StateKept.{HeldState}

@@ -22,7 +22,7 @@ use Rattle.store_spec.specs.Image.{Published}
 use Rattle.disk_model.specs.Files.{Files}
 use Rattle.height_store.specs.Kept.{ShowsHeight}
 use Rattle.height_store.specs.Store.{StoredHeight, height_at}
-use Rattle.whole_state.specs.Whole.{KnowsHeight}
+use Rattle.height_store.specs.Known.{KnowsHeight}
 use Rattle.state_manager.specs.Kept.{Held, KeepsStates, KeepsEach, Performs, held_at, published_height}
 use Rattle.state_manager.specs.StateKept.{HeldState, KeepsState, live_of}
 

@@ -9,7 +9,7 @@ use Rattle.disk_model.specs.View.{DiskView, LeavesOnly}
 use Rattle.height_store.specs.declared.error.StoreError.{StoreError}
 use Rattle.height_store.specs.Store.{Store, GivesFew, height_at}
 use Rattle.height_store.specs.Kept.{IsOver, KeepsHeights, StandsForEither}
-use Rattle.whole_state.specs.Whole.{KnowsHeight}
+use Rattle.height_store.specs.Known.{KnowsHeight}
 use Rattle.script_text.specs.declared.command.Command.{Command}
 use Rattle.script_text.specs.declared.command.Command.TheVariants.{Read, Scratch, Checkpoint, Purge, Reset}
 use Rattle.script_text.specs.declared.command.HeightOrLive.{HeightOrLive}

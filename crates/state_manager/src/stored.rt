@@ -4,15 +4,15 @@ ghost use Rattle.std.specs.Prelude.{◌≡◌, ◌≤◌, ◌<◌, ◌==◌, ◌
 ghost use Rattle.std.specs.List.{last_or, AllByRecursion, AllZip};
 ghost use Rattle.std.specs.Option.{option_map_or};
 ghost use Rattle.state_spec.specs.Root.{root_of};
-ghost use Rattle.store_spec.specs.Image.{Published};
+ghost use Rattle.store_spec.specs.Image.{Published, opened};
 ghost use Rattle.disk_model.specs.Looking.{OnlyLooks};
 ghost use Rattle.height_store.specs.Errors.{HasCause as StoreCause, NoBadFile};
 ghost use Rattle.height_store.specs.Kept.{IsReadable, ShowsHeight};
 ghost use Rattle.height_store.specs.Store.{StoredHeight, height_at, heights_in};
-ghost use Rattle.whole_state.specs.Whole.{KnowsHeight};
+ghost use Rattle.height_store.specs.Known.{KnowsHeight};
 ghost use Rattle.machine_spec.specs.HeightSteps.{counts_of, tree_root};
 ghost use Rattle.machine_spec.specs.LiveSteps.{read_reply};
-ghost use Rattle.machine_spec.specs.Machine.{opened, start};
+ghost use Rattle.machine_spec.specs.Machine.{start};
 ghost use Rattle.machine_spec.specs.WitnessSteps.{witness_text};
 ghost use Rattle.state_manager.specs.StateKept.{KeepsState, live_of};
 
@@ -20,11 +20,10 @@ use crate::height_state::{HeightState, count_manifest, memory_index, tree_root_o
 use byte_codec::NoMemory;
 use disk_model::Disk;
 use format_spec::PAGE_SIZE;
-use height_store::{HeightStore, StoreError};
+use height_store::{HeightStore, StoreError, manifest_at, read_bytes, read_memories};
 use script_text::{Numbers, Refusal, Reply};
 use std::alloc::Global;
 use sys_state::{CanisterId, Mem, Path};
-use whole_state::{manifest_at, read_bytes, read_memories};
 
 /// Whether a height is published.
 pub fn is_published(store: &HeightStore, height: u64) -> bool

@@ -6,7 +6,7 @@ use Rattle.std.proofs.lemmas.List.{append-nil, take_all}
 use Rattle.std.proofs.lemmas.List.FromFn.{length-range_with_len}
 use Rattle.format_spec.specs.Bytes.{Bytes, ascending}
 use Rattle.std.specs.Ordering.{nat_cmp}
-use Rattle.store_spec.specs.PageFile.{PageIndex, IsIndex, runs_of, index_length}
+use Rattle.page_spec.specs.PageFile.{PageIndex, IsIndex, runs_of, index_length}
 use Rattle.disk_model.specs.declared.name.Name.TheVariants.{Page}
 use Rattle.disk_model.specs.Files.{same_name}
 use Rattle.disk_model.specs.State.{IsLoose, IsSettled}

@@ -1,6 +1,6 @@
 use Rattle.std.proofs.Common.{◌≡◌, ◌∙◌, ap, map, sym, subst, arith}
 use Rattle.sys_state.specs.System.{System}
-use Rattle.whole_state.specs.Laws.{shown_known}
+use Rattle.height_store.specs.KnownLaws.{shown_known}
 use Rattle.height_store.specs.Store.{StoredHeight}
 use Rattle.state_manager.specs.Sizes.{HaveSizes}
 use Rattle.state_manager.specs.StateKept.{HeldState}

@@ -1,5 +1,5 @@
 use Rattle.std.proofs.Common.{◌+◌, ◌*◌, ◌∙◌, ap, length}
-use Rattle.store_spec.specs.PageFile.{index_length}
+use Rattle.page_spec.specs.PageFile.{index_length}
 use Rattle.page_file.specs.Files.{NumberedFile}
 use Rattle.page_file.proofs.Opened.{page_is_there, page_read}
 use Rattle.page_file.proofs.file.PageFile.read_page.Goals as goal

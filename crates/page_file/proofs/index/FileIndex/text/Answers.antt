@@ -1,6 +1,6 @@
 use Rattle.std.proofs.Common.{arith, ◌∙◌, ap, ◌++◌, sym, subst, length}
 use Rattle.format_spec.specs.Bytes.{Bytes}
-use Rattle.store_spec.specs.PageFile.{IsIndex, index_text}
+use Rattle.page_spec.specs.PageFile.{IsIndex, index_text}
 use Rattle.page_file.specs.Ranges.{text_of}
 use Rattle.page_file.proofs.Kept.{counts, is_index, text_written}
 use Rattle.page_file.proofs.index.FileIndex.text.Goals as goal

@@ -3,10 +3,11 @@ use Rattle.disk_model.specs.Looking.{looks_none}
 use Rattle.format_spec.specs.Bytes.{Bytes}
 use Rattle.state_spec.specs.Root.{root_of}
 use Rattle.height_store.specs.Store.{height_at}
-use Rattle.whole_state.specs.Laws.{shown_known}
+use Rattle.height_store.specs.KnownLaws.{shown_known}
 use Rattle.script_text.specs.declared.command.Command.TheVariants as commands
 use Rattle.script_text.specs.declared.reply.Reply.TheVariants as replies
-use Rattle.machine_spec.specs.Machine.{answered, opened}
+use Rattle.machine_spec.specs.Machine.{answered}
+use Rattle.store_spec.specs.Image.{opened}
 use Rattle.state_manager.specs.Kept.{Held}
 use Rattle.state_manager.proofs.DiskLines.{failed_line, looks_line, shown_some, still_line}
 use Rattle.state_manager.proofs.Standing.{asks_none, asks_there, at_none, at_some, published_none}
