@@ -9,7 +9,8 @@ use Rattle.sha2.specs.Sha256.{digest_bytes, final_hash, initial_hash_256, sha256
 use Rattle.state_spec.specs.Manifest.{chunk_hashes}
 use Rattle.hash_lanes.specs.Counted.{HasFirst}
 
-range_push : (k a : ℕ) → range_with_len a (k + 1) ≡ range_with_len a k ++ (a + k) ∷ []
+-- one number more
+pub range_push : (k a : ℕ) → range_with_len a (k + 1) ≡ range_with_len a k ++ (a + k) ∷ []
 range_push zero a = ap (λ (n : ℕ). n ∷ []) (omega arith)
 range_push (suc k) a =
     let more : suc k + 1 ≡ suc (k + 1) = omega arith in

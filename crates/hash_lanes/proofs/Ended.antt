@@ -1,5 +1,5 @@
 -- The last bytes of a message with the padding behind them, written in three pieces.
-use Rattle.std.proofs.Common.{◌≡◌, ℕ, ◌+◌, ◌-◌, ◌*◌, ◌%◌, ◌^◌, ◌<◌, ◌≤◌, ◌∷◌, ◌++◌, length, take, drop, replicate, sym, ap, ◌∙◌, arith}
+use Rattle.std.proofs.Common.{◌≡◌, ℕ, ◌+◌, ◌-◌, ◌*◌, ◌%◌, ◌^◌, ◌≤◌, ◌∷◌, ◌++◌, length, take, drop, replicate, sym, ap, ◌∙◌, arith}
 use Rattle.std.proofs.lemmas.List.{length-append, length-drop, length-take-le, append_assoc, drop-drop, drop-take, take_at}
 use Rattle.std.proofs.lemmas.Slice.{take-put_mid}
 use Rattle.std.specs.Int.{w64, to_be_bytes}
@@ -9,7 +9,7 @@ use Rattle.sha2.proofs.Absorbing256.{padding-take}
 use Rattle.format_spec.specs.Bytes.{Bytes}
 use Rattle.hash_lanes.specs.Messages.{last_count}
 
-pub pieces : (left more pad bits : Bytes) (u e n k l : ℕ) → u ≡ length left → e ≡ u + length pad → n ≡ e + length bits
+pieces : (left more pad bits : Bytes) (u e n k l : ℕ) → u ≡ length left → e ≡ u + length pad → n ≡ e + length bits
     → take n (put_mid e l (put_mid u k (left ++ more) pad) bits) ≡ left ++ (pad ++ bits)
 pieces left more pad bits u e n k l a b c =
     let whole = left ++ more in
@@ -19,11 +19,24 @@ pieces left more pad bits u e n k l a b c =
     length-append (take u whole) (pad ++ post_of u k whole) ∙ ap (λ m. m + length (pad ++ post_of u k whole)) (length-take-le u whole fits) ∙ ap (λ m. u + m) (length-append pad (post_of u k whole)) in
     take-put_mid e l (put_mid u k whole pad) bits n c (omega arith) ∙ ap (λ s. s ++ bits) front ∙ append_assoc left pad bits
 
-pub padded : (zeros size : ℕ) (pad bits : Bytes) → zeros ≡ (119 - size % 64) % 64 → pad ≡ take (zeros + 1) (0x80 ∷ replicate 63 0) → bits ≡ to_be_bytes w64 (size * 8 % 2 ^ 64)
+padded : (zeros size : ℕ) (pad bits : Bytes) → zeros ≡ (119 - size % 64) % 64 → pad ≡ take (zeros + 1) (0x80 ∷ replicate 63 0) → bits ≡ to_be_bytes w64 (size * 8 % 2 ^ 64)
     → pad ++ bits ≡ padding size
 padded zeros size pad bits count is b =
     let front : pad ≡ 0x80 ∷ replicate zeros 0 = is ∙ padding-take 0x80 0 zeros (omega arith) in
     ap (λ s. s ++ bits) front ∙ ap (λ s. 0x80 ∷ replicate zeros 0 ++ s) b ∙ ap (λ z. 0x80 ∷ replicate z 0 ++ to_be_bytes w64 (size * 8 % 2 ^ 64)) count
+
+-- the last bytes, then the padding
+pub ended : (left cut more pad bits : Bytes) (used end size k l : ℕ) → cut ≡ left → used ≡ length left → used ≡ size % 64 → end ≡ 64 * last_count used - 8
+    → pad ≡ take (end - used) (0x80 ∷ replicate 63 0) → bits ≡ to_be_bytes w64 (size * 8 % 2 ^ 64)
+    → take (64 * last_count used) (put_mid end l (put_mid used k (cut ++ more) pad) bits) ≡ left ++ padding size
+ended left cut more pad bits used end size k l same count short at pad_is bits_is =
+    let zeros = end - used - 1 in
+    let some : end - used ≡ zeros + 1 = omega arith in
+    let first : pad ≡ take (zeros + 1) (0x80 ∷ replicate 63 0) = pad_is ∙ ap (λ n. take n (0x80 ∷ replicate 63 0)) some in
+    let room : length pad ≡ end - used = ap length pad_is ∙ length-take-le (end - used) (0x80 ∷ replicate 63 0) (omega arith) in
+    let eight : length bits ≡ 8 = ap length bits_is in
+    pieces cut more pad bits used end (64 * last_count used) k l (count ∙ sym (ap length same)) (omega arith) (omega arith)
+    ∙ (ap (λ s. s ++ (pad ++ bits)) same ∙ ap (λ s. left ++ s) (padded zeros size pad bits (omega arith) first bits_is))
 
 -- what is left of a chunk behind its first `done` bytes
 pub left_is : (bytes : Bytes) (start size done from to : ℕ) → from ≡ start + done → to ≡ start + size → done ≤ size

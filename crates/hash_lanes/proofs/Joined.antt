@@ -1,10 +1,10 @@
 -- The hash value of a message that is taken in in pieces of whole blocks.
-use Rattle.std.proofs.Common.{◌≡◌, ℕ, zero, suc, ◌+◌, ◌-◌, ◌*◌, ◌/◌, ◌%◌, ◌^◌, ◌<◌, ◌≤◌, List, ◌∷◌, ◌++◌, length, take, drop, replicate, refl, sym, ap, ◌∙◌, arith, add-zero}
-use Rattle.std.proofs.lemmas.List.{length-append, length-replicate, length-take-le, length-drop, append_assoc, drop-append-le, take-append-drop, take-append-le, take-take, drop-drop, drop-take, take_at}
+use Rattle.std.proofs.Common.{◌≡◌, ℕ, zero, suc, ◌+◌, ◌-◌, ◌*◌, ◌/◌, ◌%◌, ◌^◌, ◌≤◌, List, ◌++◌, length, take, drop, replicate, refl, sym, ap, ◌∙◌, arith, add-zero}
+use Rattle.std.proofs.lemmas.List.{length-append, length-replicate, length-take-le, length-drop, append_assoc, take-append-drop, take-take, drop-drop, drop-take}
 use Rattle.std.proofs.Math.Seq.{drop-append-add}
 use Rattle.std.specs.Prelude.{codes}
 use Rattle.std.specs.Int.{w64, to_be_bytes}
-use Rattle.sha2.specs.Sha256.{hash_after, compress, padding, padded_message, final_hash}
+use Rattle.sha2.specs.Sha256.{hash_after, padding, padded_message, final_hash}
 use Rattle.sha2.proofs.Absorbing256.{hash_after-append}
 use Rattle.format_spec.specs.Bytes.{Bytes, short_string}
 use Rattle.format_spec.specs.Hashes.{chunk_string}

@@ -1,4 +1,4 @@
-use Rattle.std.proofs.Common.{◌∙◌, ◌+◌, ◌*◌, ap, arith, take, drop, ◌≡◌}
+use Rattle.std.proofs.Common.{◌∙◌, ◌*◌, ap, arith, take, drop, ◌≡◌}
 use Rattle.format_spec.specs.Hashes.{chunk_hash}
 use Rattle.hash_lanes.proofs.Counting.{first_more, cut_chunk}
 use Rattle.hash_lanes.proofs.chunks.add_each.Goals as goal

@@ -1,4 +1,4 @@
-use Rattle.std.proofs.Common.{◌∙◌, ◌+◌, ◌*◌, arith, slice_index}
+use Rattle.std.proofs.Common.{◌∙◌, ◌+◌, arith, slice_index}
 use Rattle.hash_lanes.specs.Lanes.{lane}
 use Rattle.hash_lanes.proofs.Counting.{first_more, first_at, digest_is}
 use Rattle.hash_lanes.proofs.chunks.add_lanes.Goals as goal

@@ -1,5 +1,4 @@
-use Rattle.std.proofs.Common.{◌*◌, min, length, arith}
-use Rattle.format_spec.specs.Bytes.{part_count}
+use Rattle.std.proofs.Common.{arith}
 use Rattle.hash_lanes.proofs.Counting.{first_empty, first_all}
 use Rattle.hash_lanes.proofs.chunks.chunk_hashes.Goals as goal
 

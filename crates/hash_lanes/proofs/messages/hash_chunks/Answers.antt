@@ -1,4 +1,4 @@
-use Rattle.std.proofs.Common.{◌∙◌, ◌+◌, ◌-◌, ◌*◌, ◌/◌, ap, arith, take, drop, slice_index, refl}
+use Rattle.std.proofs.Common.{◌∙◌, ◌+◌, ◌-◌, ◌*◌, ◌/◌, ap, take, drop, slice_index, refl}
 use Rattle.sha2.specs.Sha256.{initial_hash_256}
 use Rattle.hash_lanes.specs.Lanes.{lane}
 use Rattle.hash_lanes.specs.Messages.{last_count}
