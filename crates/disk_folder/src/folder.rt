@@ -122,7 +122,8 @@ impl<R: Files + Drop> Folder<R> {
         }
     }
 
-    /// Makes the folders that are missing, takes the lock, and syncs each folder, the one that they are in, and all on the way to that. Fault where another disk has the lock.
+    /// Makes the folders that are missing, takes the lock, and syncs each folder, the one that they are in, and all on the way to that.
+    /// Fault where another disk has the lock.
     pub fn settle(&mut self, alloc: Global) -> Result<(), DiskError>
     where
         R::File: Lock,

@@ -17,3 +17,4 @@ pub mod StacksFound
 pub mod Strays
 pub mod Swept
 pub mod Newest
+pub mod Once

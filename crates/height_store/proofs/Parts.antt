@@ -1,14 +1,14 @@
 -- The parts that a mark's system text spells.
-use Rattle.std.proofs.Common.{◌≡◌, ℕ, List, Result, Ok, Err, refl, sym, ◌∙◌, ap, subst}
+use Rattle.std.proofs.Common.{◌≡◌, ℕ, List, Err, refl, sym, subst}
 use Rattle.std.specs.List.{AllByRecursion}
 use Rattle.format_spec.specs.Bytes.{Bytes}
-use Rattle.state_spec.specs.State.{SystemPart, IsSystem}
-use Rattle.state_spec.specs.SystemText.{read_system}
-use Rattle.state_spec.proofs.BothWays.{system_again}
+use Rattle.state_spec.specs.State.{SystemPart}
 use Rattle.sys_state.specs.System.{System, part_of}
 use Rattle.store_spec.specs.Mark.{Mark, IsMark, mark_text}
 use Rattle.store_spec.proofs.Marks.{mark_once}
-use Rattle.mark_file.specs.Spells.{Spells, SpellsBoth}
+use Rattle.mark_file.specs.declared.error.MarkError.{MarkError}
+use Rattle.mark_file.specs.declared.error.MarkError.TheVariants.{BadMark}
+use Rattle.mark_file.specs.Spells.{SpellsBoth, DecodesBoth}
 use Rattle.page_file.specs.Files.{NumberedFile}
 use Rattle.height_store.specs.Store.{FitsMark, IsHeight}
 
@@ -24,8 +24,8 @@ height_decoded height text m stacks mark sys is at fits spells =
       },
     )
 
-pub is_decoded : (height : ℕ) (text : Bytes) (m : Mark) (stacks : List (List NumberedFile)) → text ≡ mark_text m → m.height ≡ height → (s : SystemPart) × FitsMark m s stacks → ((n : Mark) → Spells height text n → ⊥) → ⊥
-is_decoded height text m stacks is at fits none = none m (fits.0, record { spelled = is; good = fits.1.mark; of_height = at })
+pub is_decoded : (height : ℕ) (text : Bytes) (m : Mark) (stacks : List (List NumberedFile)) → text ≡ mark_text m → m.height ≡ height → (s : SystemPart) × FitsMark m s stacks → (e : MarkError) (n : ℕ) → e ≡ BadMark n → DecodesBoth height text (Err e) → ⊥
+is_decoded height text m stacks is at fits e n same refused = (subst (λ (x : MarkError). DecodesBoth height text (Err x)) same refused).1 m (fits.0, record { spelled = is; good = fits.1.mark; of_height = at })
 
 -- a mark is one of these parts alone
 pub parts_are_one : (m : Mark) (s t : SystemPart) → IsMark m s → IsMark m t → s ≡ t

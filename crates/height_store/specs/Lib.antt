@@ -15,3 +15,4 @@ pub mod Standing
 pub mod States
 pub mod Store
 pub mod Written
+pub mod Answers

@@ -17,7 +17,8 @@ mod sweeping;
 pub use error::StoreError;
 pub use knowing::manifest_at;
 pub use laws::{
-    bad_disks_do_not_open, heights_kept_through_calls, kept_heights_stand, stores_open,
+    bad_disks_do_not_open, heights_kept_through_calls, kept_heights_stand,
+    store_calls_have_one_answer, stores_open,
 };
 pub use limits::MAX_GIVEN;
 pub use reading::{read_bytes, read_memories};

@@ -19,7 +19,7 @@ pub named_as : (n m : ℕ) → IsErrOf {T = NumberedFile} (Err (BadPage n)) (Bad
 named_as n m is = cc
 
 module _ (files : Files) (n : ℕ) where
-  same_file : (f g : NumberedFile) → f.number ≡ n → g.number ≡ n → IsKept files f → IsKept files g → f ≡ g
+  pub same_file : (f g : NumberedFile) → f.number ≡ n → g.number ≡ n → IsKept files f → IsKept files g → f ≡ g
   same_file f g is_f is_g kept_f kept_g =
       let same = is_g ∙ sym is_f in
       let index = only_index files f.number g.number g.index f.index kept_f.0 same kept_g kept_f.1 in

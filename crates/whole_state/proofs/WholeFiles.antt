@@ -91,7 +91,7 @@ adds_none memory first writer old is loose = record {
 -- one page more
 pub adds_more : (memory page : Bytes) (i : ℕ) (first writer next : UnfinishedFile) (old mid new : DiskView) → writer ≡ record first { added = i } → page ≡ take 4096 (drop (i * 4096) memory)
     → IsLoose new.state (Page writer.number) → ((pages : Bytes) → IsWriting writer pages mid.state → IsWriting next (pages ++ page) new.state)
-    → TouchesOnly (same_name (Page writer.number)) mid new → (IsSettled mid.state → IsSettled new.state) → Spends 4096 0 mid new
+    → TouchesOnly (same_name (Page writer.number)) mid new → (IsSettled mid.state → IsSettled new.state) → Spends (length_added writer) 0 mid new
     → AddsPages memory i first writer old mid → AddsPages memory (i + 1) first next old new
 adds_more memory page i first writer next old mid new is page_is loose added touches settled spends so_far =
     let number : writer.number ≡ first.number = ap (λ (w : UnfinishedFile). w.number) is in

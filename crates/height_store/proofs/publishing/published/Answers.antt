@@ -13,4 +13,4 @@ pub returns-in-Ok-clause-mark : goal.returns-in-Ok-clause-mark
 returns-in-Ok-clause-mark c = (height_decoded _ c.args.text.now c.args.mark.now c.args.stacks.items c.in-Ok.mark c.in-Ok.sys c.requires.text (sym (ap (λ (m : Mark). m.height) c.mark.view_is)) c.requires.fits c.in-Ok.ensures.exact).0
 
 pub unreachable-requires : goal.unreachable-requires
-unreachable-requires c = let t = c in ?
+unreachable-requires c = is_decoded _ c.args.text.now c.args.mark.now c.args.stacks.items c.requires.text (sym (ap (λ (m : Mark). m.height) c.mark.view_is)) c.requires.fits c.in-Err-BadMark.field-0 c.in-Err-BadMark.field-0-0 c.in-Err-BadMark.field-0-is c.in-Err-BadMark.ensures.exact

@@ -1,4 +1,4 @@
-use Rattle.std.proofs.Common.{◌≡◌, ◌≤◌, ◌*◌, ℕ, Some, length, map, sum_by, take, IsTrue}
+use Rattle.std.proofs.Common.{◌≡◌, ◌≤◌, ◌*◌, Some, length, map, sum_by, take, IsTrue}
 use Rattle.format_spec.specs.declared.limits.TheConstants.{PAGE_SIZE}
 use Rattle.disk_model.specs.Looking.{OnlyLooks}
 use Rattle.height_store.specs.Kept.{ShowsHeight}
