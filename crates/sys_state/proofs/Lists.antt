@@ -10,5 +10,4 @@ module _ {X : Type 0} (P : X → Type 0) where
   pub all_parts : (xs ys : List X) → AllByRecursion P (xs ++ ys) → AllByRecursion P xs × AllByRecursion P ys
   all_parts [] ys p = (tt, p)
   all_parts (x ∷ xs) ys p = let q = all_parts xs ys p.1 in ((p.0, q.0), q.1)
-
   -- a loop's step
