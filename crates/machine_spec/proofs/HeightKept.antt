@@ -17,7 +17,6 @@ use Rattle.machine_spec.specs.StoreSteps.{is_low, is_newest, checkpoint_step, pu
 use Rattle.machine_spec.specs.Sound.{IsSound, IsWholeState, IsWithin, IsBornBy, EachLater, Ascend, MayBegin}
 use Rattle.machine_spec.proofs.Lists.{weaker, joined, parts, kept, before_one, later_one, later_kept, of_map, to_map, later_of_map, later_to_map, last_holds}
 use Rattle.machine_spec.proofs.LiveKept.{if_not_refused, if_some, live_within}
-use Rattle.machine_spec.proofs.Opened.{opened_whole}
 use Rattle.machine_spec.proofs.StartKept.{resumed_is_sound}
 
 abbrev Kept : Type 0
@@ -132,7 +131,7 @@ checkpoint_sound m k s last high few =
       published = record {
         ascend = subst Ascend (sym (map_longer (λ (p : Published). p.height) m.published p)) (later_one Below (heights_of m.published) k.0 s.published.ascend (to_map (λ p. p.height) (λ x. x < k.0) m.published over));
         few = omega (arith, few, length-append m.published (p ∷ []));
-        each = joined MayBegin m.published (p ∷ []) s.published.each (record { from_one = positive; whole = opened_whole p whole }, tt);
+        each = joined MayBegin m.published (p ∷ []) s.published.each (record { from_one = positive; valid = whole.valid }, tt);
       };
       above = joined (λ p. p.height < m.height) m.published (p ∷ []) s.above (under, tt);
       few_in_memory = s.few_in_memory;

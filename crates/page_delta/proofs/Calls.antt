@@ -11,7 +11,7 @@ use Rattle.page_delta.specs.declared.node.Node.{Node}
 use Rattle.page_delta.specs.declared.roots.Root.{Root}
 use Rattle.page_delta.proofs.Sharing.{one-same, one-other}
 use Rattle.page_delta.proofs.Counting.{other-test}
-use Rattle.page_delta.proofs.Seen.{seen, map-seen, live-seen, reads-same, find-held}
+use Rattle.page_delta.proofs.Seen.{seen, map-seen, live-seen, reads-same, find-held, own-put}
 
 room-more : (slots : List (Option Page)) (n k : ℕ) → get_or (slots ++ replicate n None) k None ≡ get_or slots k None
 room-more [] zero k = refl
@@ -85,6 +85,11 @@ module _ (pool mid now : Pool) (slot n : ℕ) (bytes : List ℕ) (room : mid ≡
         elsewhere = λ other place ne.
             reads-same n0 n1 ids0 ids1 pool end (λ s. 0) other place (ap (λ (m : Option Pages). find place (pages_in m)) (p.others other ne)) h1
             (λ e has still. kept e.slot (find-held n0 ids0 pool (λ s. 0) (root_at ids0 other) place e h0 has) still);
+        own = own-put n0 n1 ids0 ids1 id page entry p
+            (λ other place e has _ same.
+            let some = find-held n0 ids0 pool (λ s. 0) (root_at ids0 other) place e h0 has in
+            let none : count_at pool e.slot ≡ 0 = ap (λ i. count_at pool i) (same ∙ is) ∙ slot-free in
+            omega arith) at;
       }
 
 pub drops : (n0 n1 : List (Option Node)) (ids0 ids1 : List (Option Root)) (pool end : Pool) (id : ℕ) → IsHeld n1 end (λ s. 0) → root_at ids1 id ≡ None → ((other : ℕ) → other ≢ id → map_below n1 (root_at ids1 other) ≡ map_below n0 (root_at ids0 other)) → KeepsBytes pool end → Drops pool end (seen n0 ids0) (seen n1 ids1) id

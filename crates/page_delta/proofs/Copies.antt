@@ -63,13 +63,6 @@ tall-recount (Branch a k js) c b l ks e =
     (a, (let el : k ≡ l = cc in let ek : js ≡ ks = cc in ap (λ (i : List (Option ℕ)). Branch a k i) ek ∙ ap (λ (n : ℕ). Branch a n ks) el))
 tall-recount (Leaf a es) c b l ks e = absurd (let no : ⊥ = cc in no)
 
-none-recounted : (o : Option Node) (c : ℕ) → o ≡ None → recounted o c ≡ None
-none-recounted o c gone = ap (λ o. recounted o c) gone
-
-recounted-none : (o : Option Node) (c : ℕ) → recounted o c ≡ None → o ≡ None
-recounted-none None c e = refl
-recounted-none (Some node) c e = absurd (some-none (recount node c) e)
-
 -- what the places of a node name is counted once more, and then the copy is put at a fresh key
 module _ (xs mid ys : List (Option Node)) (counts counts' hands loose : ℕ → ℕ) (k fresh : ℕ) (node : Node) (s : IsShared xs counts hands loose) (is : node_at xs k ≡ Some node) (each : (m : ℕ) → node_at mid m ≡ recounted (node_at xs m) (count_in (node_at xs m) + names m (Some (recount node 1)))) (slots : (slot : ℕ) → counts' slot ≡ counts slot + slots_in slot (Some (recount node 1))) (gone : node_at mid fresh ≡ None) (here : node_at ys fresh ≡ Some (recount node 1)) (rest : (m : ℕ) → m ≢ fresh → node_at ys m ≡ node_at mid m) where
   abbrev copy_of : Node
@@ -117,6 +110,3 @@ module _ (xs mid ys : List (Option Node)) (counts counts' hands loose : ℕ → 
       let digit = (q / 32 ^ suc level) % 32 in
       ap (λ (o : Option ℕ). look level ys o q) (ap (λ o. child_in o digit) here ∙ child-recounted (Some node) 1 digit ∙ ap (λ o. child_in o digit) (sym is))
       ∙ look-option level xs ys q (child_in (node_at xs k) digit) (λ t e. looks-copy level t q (child-live xs counts hands loose k digit t s e))
-
-  pub fresh-before : node_at xs fresh ≡ None
-  fresh-before = recounted-none (node_at xs fresh) (count_in (node_at xs fresh) + names fresh (Some (recount node 1))) (sym (each fresh) ∙ gone)

@@ -47,9 +47,6 @@ recounted-same None = refl
 recounted-same (Some (Branch c l ks)) = refl
 recounted-same (Some (Leaf c es)) = refl
 
-pub recounted-zero : (o : Option Node) → o ≡ recounted o (count_in o + 0)
-recounted-zero o = sym (ap (λ n. recounted o n) (let e : count_in o + 0 ≡ count_in o = omega arith in e) ∙ recounted-same o)
-
 pub recounted-live : (o : Option Node) (c : ℕ) → IsSome o → IsSome (recounted o c)
 recounted-live None c live = live
 recounted-live (Some (Branch b l ks)) c live = refl

@@ -23,7 +23,7 @@ use Rattle.page_delta.proofs.Pools.{live-of-count, page-same}
 use Rattle.page_delta.proofs.Puts.{alone}
 use Rattle.page_delta.proofs.Rooted.{kept-live}
 use Rattle.page_delta.proofs.RootPuts.{kept-same, puts-same}
-use Rattle.page_delta.proofs.Seen.{seen, map-seen, live-seen, at-leaf, reads-same}
+use Rattle.page_delta.proofs.Seen.{seen, map-seen, live-seen, at-leaf, reads-same, own-put}
 
 -- a child that is there and counted once is own
 owned-child : (xs : List (Option Node)) (parent d child : ℕ) → child_in (node_at xs parent) d ≡ Some child → count_in (node_at xs child) ≡ 1 → Owned xs xs parent d child
@@ -222,4 +222,5 @@ module _ (xs : List (Option Node)) (ids : List (Option Root)) (pool : Pool) (id 
           elsewhere = λ other place ne.
               reads-same xs ys ids ids pool end (λ s. 0) other place (ap (λ (m : Option Pages). find place (pages_in m)) (put.others other ne)) held-in-place
               (λ e has still. bytes_there e.slot (only_here other place e has (λ same at_page. ne same)));
+          own = own-put xs ys ids ids id page entry put (λ other place e has far same. only_here other place e has far (same ∙ is)) at;
         }

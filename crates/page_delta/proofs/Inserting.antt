@@ -25,18 +25,6 @@ counted-live None some = absurd (omega arith)
 counted-live (Some (Branch c l kids)) some = refl
 counted-live (Some (Leaf c es)) some = refl
 
--- nodes stand after a call that keeps what is in hand
-pub stands-next : (old new : Slab Node) (pool pool' : Pool) (s : Stands old.slots pool) → IsShared new.slots (count_at pool') s.hands s.loose → IsCounted pool' → slab_len new ≤ 2 ^ 26 → Stands new.slots pool'
-stands-next old new pool pool' s shared counted few = record {
-  hands = s.hands;
-  loose = s.loose;
-  shared = shared;
-  few_hands = s.few_hands;
-  few_loose = s.few_loose;
-  few = few;
-  counted = counted;
-}
-
 leaf-of : (xs : List (Option Node)) (counts hands loose : ℕ → ℕ) (k : ℕ) → IsShared xs counts hands loose → IsSome (node_at xs k) → level_in (node_at xs k) ≡ 0 → (c : ℕ) × (es : List (Option Entry)) × (node_at xs k ≡ Some (Leaf c es))
 leaf-of xs counts hands loose k s live low = go (node_at xs k) refl
   where

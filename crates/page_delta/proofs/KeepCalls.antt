@@ -1,56 +1,107 @@
 -- What keeping the entries of a map does to what a contract sees.
-use Rattle.std.proofs.Common.{◌≡◌, ◌≢◌, inl, inr, ℕ, List, [], Option, Some, None, Result, Ok, Err, OnOk, is_ok, true, cond, sym, ap, ◌∙◌, arith}
-use Rattle.std.proofs.lemmas.Bool.{cases_eq}
-use Rattle.page_pool.specs.Pool.{Pool}
+use Rattle.std.proofs.Common.{◌≡◌, ◌≢◌, inl, inr, ℕ, ◌+◌, ◌^◌, ◌<◌, ◌≤◌, List, length, Option, Some, None, Result, Ok, Err, OnErr, is_some, count_by, refl, sym, ap, ◌∙◌, arith}
+use Rattle.std.proofs.lemmas.Bool.{cases_lt}
+use Rattle.page_pool.specs.Pool.{Pool, count_at}
+use Rattle.page_delta.specs.Totals.{total}
 use Rattle.page_delta.specs.Delta.{Pages, find, pages_in, pages_after, if_after, Keeps, SameReads}
-use Rattle.page_delta.specs.Nodes.{pages_below}
-use Rattle.page_delta.specs.Shared.{KeepsBytes}
-use Rattle.page_delta.specs.Roots.{root_at, map_below, IsHeld, AddsRoot, IsKeeping, HasPages, among, or_else}
+use Rattle.page_delta.specs.Nodes.{node_at, once, look, part, pages_below}
+use Rattle.page_delta.specs.Shared.{slots_in, IsShared, KeepsBytes}
+use Rattle.page_delta.specs.Roots.{root_at, map_below, roots, IsKept, IsHeld, KeepsTree, HasNewer, KeepsRoot}
 use Rattle.page_delta.specs.declared.node.Node.{Node}
 use Rattle.page_delta.specs.declared.roots.Root.{Root}
-use Rattle.page_delta.proofs.Sharing.{some-none}
-use Rattle.page_delta.proofs.Pools.{keeps-trans}
+use Rattle.page_delta.proofs.Sharing.{cases-option, some-live, shared-as}
+use Rattle.page_delta.proofs.Lookups.{find-below, find-past}
+use Rattle.page_delta.proofs.Walks.{part-whole, sizes-after}
+use Rattle.page_delta.proofs.Filling.{stays-looks}
+use Rattle.page_delta.proofs.Places.{placed-next}
+use Rattle.page_delta.proofs.Rooted.{Follows, shared-with, held-of, kept-live, kept-next, follows-map}
+use Rattle.page_delta.proofs.RootCalls.{Added, kept-added}
 use Rattle.page_delta.proofs.Seen.{seen, map-seen, live-seen, reads-same}
-use Rattle.page_delta.proofs.Keeping.{kept-entries}
 
-module _ (n0 n1 : List (Option Node)) (ids0 ids1 : List (Option Root)) (pool : Pool) (id kept : ℕ) (root : Root) (is : root_at ids0 id ≡ Some root) (a : AddsRoot n0 n1 ids0 ids1 kept []) (h0 : IsHeld n0 pool (λ s. 0)) where
-  pub held-added : IsHeld n1 pool (λ s. 0)
-  held-added = record { counts = λ s. let c = h0.counts s in let same = a.held s in omega arith; counted = h0.counted }
+-- trees were added, and those of the ids stay
+module _ (xs ys : List (Option Node)) (ids : List (Option Root)) (pool pool1 : Pool) (kept : Option ℕ) (k : IsKept xs ids) (h : IsHeld xs pool (λ s. 0)) (tree : KeepsTree xs ys pool pool1 kept) where
+  abbrev hands : ℕ → ℕ
+  hands key = total (roots key) ids
 
-  pub kept-apart : id ≢ kept
-  kept-apart e = some-none root (sym is ∙ ap (λ i. root_at ids0 i) e ∙ a.fresh)
+  before : IsShared xs (count_at pool) hands (λ s. 0)
+  before = shared-with xs ids pool (λ s. 0) k h
 
-  module _ (n2 : List (Option Node)) (ids2 : List (Option Root)) (pool2 : Pool) (p : IsKeeping n1 n2 ids1 ids2 pool pool2 kept) where
-    others2 : (other : ℕ) → other ≢ kept → map_below n2 (root_at ids2 other) ≡ map_below n0 (root_at ids0 other)
-    others2 other ne = p.others other ne ∙ a.others other ne
+  shared : IsShared ys (count_at pool1) (λ m. hands m + once m kept) (λ s. 0)
+  shared = tree.shared hands (λ s. 0) before
 
-    pub keeps : (b : ℕ) (pages : List ℕ) → pages ≡ pages_after b (pages_below n0 root.node) → HasPages n1 n2 ids1 ids2 id kept pages → Keeps pool pool2 (seen n0 ids0) (seen n2 ids2) id kept b
-    keeps b pages are has = record {
-      fresh = map-seen n0 ids0 kept ∙ ap (map_below n0) a.fresh;
-      live = live-seen n2 ids2 kept p.live;
-      entries = λ q.
-          let mine : map_below n1 (root_at ids1 id) ≡ Some (pages_below n0 root.node) = a.others id kept-apart ∙ ap (map_below n0) is in
-          ap (λ (m : Option Pages). find q (pages_in m)) (map-seen n2 ids2 kept) ∙ has q
-          ∙ ap (λ (ps : List ℕ). cond (among q ps) (or_else (find q (pages_in (map_below n1 (root_at ids1 id)))) (find q (pages_in (map_below n1 (root_at ids1 kept))))) (find q (pages_in (map_below n1 (root_at ids1 kept))))) are
-          ∙ ap (λ (m : Option Pages). cond (among q (pages_after b (pages_below n0 root.node))) (or_else (find q (pages_in m)) (find q (pages_in (map_below n1 (root_at ids1 kept))))) (find q (pages_in (map_below n1 (root_at ids1 kept))))) mine
-          ∙ ap (λ (m : Option Pages). cond (among q (pages_after b (pages_below n0 root.node))) (or_else (find q (pages_below n0 root.node)) (find q (pages_in m))) (find q (pages_in m))) a.here
-          ∙ kept-entries b q n0 root.node
-          ∙ ap (λ (m : Option Pages). if_after b (find q (pages_in m))) (sym (map-seen n0 ids0 id ∙ ap (map_below n0) is));
-      others = λ other ne. map-seen n2 ids2 other ∙ others2 other ne ∙ sym (map-seen n0 ids0 other);
-      elsewhere = λ other place ne. reads-same n0 n2 ids0 ids2 pool pool2 (λ s. 0) other place (ap (λ (m : Option Pages). find place (pages_in m)) (others2 other ne)) p.is_held (λ e found still. (p.keeps e.slot still).1);
-    }
+  pub held-tree : IsHeld ys pool1 (λ s. 0)
+  held-tree = held-of ys pool1 (λ m. hands m + once m kept) (λ s. 0) shared tree.counted
 
-    pub undone : (n3 : List (Option Node)) (ids3 : List (Option Root)) (pool3 : Pool) → IsHeld n3 pool3 (λ s. 0) → root_at ids3 kept ≡ None → ((other : ℕ) → other ≢ kept → map_below n3 (root_at ids3 other) ≡ map_below n2 (root_at ids2 other)) → KeepsBytes pool2 pool3 → SameReads pool pool3 (seen n0 ids0) (seen n3 ids3)
-    undone n3 ids3 pool3 h3 gone others3 keeps3 =
-        let same : (other : ℕ) → map_below n3 (root_at ids3 other) ≡ map_below n0 (root_at ids0 other) = λ other. elim (cases_eq other kept) [
-          | inl e ↦ ap (λ i. map_below n3 (root_at ids3 i)) e ∙ ap (map_below n3) gone ∙ sym (ap (λ i. map_below n0 (root_at ids0 i)) e ∙ ap (map_below n0) a.fresh)
-          | inr ne ↦ others3 other ne ∙ others2 other ne
-        ] in
-        record {
-          maps = λ other. map-seen n3 ids3 other ∙ same other ∙ sym (map-seen n0 ids0 other);
-          elsewhere = λ other place. reads-same n0 n3 ids0 ids3 pool pool3 (λ s. 0) other place (ap (λ (m : Option Pages). find place (pages_in m)) (same other)) h3 (λ e found still. (keeps-trans pool pool2 pool3 p.keeps keeps3 e.slot still).1);
-        }
+  follows : (other : ℕ) (r : Root) → root_at ids other ≡ Some r → Follows xs ys r r
+  follows other r is =
+      let live = kept-live xs ids other r k is in
+      record {
+        pages = refl;
+        top = tree.stays.level r.node live ∙ k.tops other r is;
+        looks = λ q. stays-looks xs ys (count_at pool) hands (λ s. 0) before tree.stays 3 r.node q live;
+      }
 
-pub on-ok : {T E : Type 0} {P : Type 0} (r : Result T E) → OnOk r P → is_ok r ≡ true → P
-on-ok (Ok x) h e = h
-on-ok (Err x) h e = absurd (let no : ⊥ = cc in no)
+  pub maps-tree : (other : ℕ) → map_below ys (root_at ids other) ≡ map_below xs (root_at ids other)
+  maps-tree other = elim (cases-option (root_at ids other)) [
+    | inl gone ↦ ap (map_below ys) gone ∙ sym (ap (map_below xs) gone)
+    | inr here ↦ ap (map_below ys) here.1 ∙ follows-map xs ys here.0 here.0 (follows other here.0 here.1) ∙ sym (ap (map_below xs) here.1)
+  ]
+
+  pub kept-tree : kept ≡ None → IsKept ys ids
+  kept-tree none =
+      kept-next xs ys ids ids (count_at pool1) (λ s. 0) k
+      (shared-as ys (count_at pool1) (λ m. hands m + once m kept) hands (λ s. 0) (λ s. 0) shared (λ m. let z : once m kept ≡ 0 = ap (once m) none in omega arith) (λ slot. refl))
+      (λ other r is. (r, is, follows other r is)) (placed-next xs ys k.placed tree.places) tree.few k.few_ids
+
+-- an id has the kept tree
+module _ (xs ys : List (Option Node)) (ids ids' : List (Option Root)) (pool pool1 : Pool) (id fresh b : ℕ) (from root : Root) (k : IsKept xs ids) (h : IsHeld xs pool (λ s. 0)) (is : root_at ids id ≡ Some from) (tree : KeepsTree xs ys pool pool1 (Some root.node)) (newer : HasNewer xs ys from.node 3 b (Some root)) (a : Added ids ids' fresh root) (few : count_by is_some ids + 1 ≤ 2 ^ 31) where
+  size : root.pages ≡ length (pages_below ys root.node)
+  size =
+      newer.pages 0 ∙ ap (λ (ps : Pages). length (pages_after b ps)) (part-whole xs from.node)
+      ∙ sym (sizes-after b xs ys from.node root.node newer.looks)
+
+  pub kept-newer : IsKept ys ids'
+  kept-newer =
+      kept-added ids ids' fresh root a.gone a.here a.rest xs ys (pages_below ys root.node) k (stays-looks xs ys (count_at pool) (λ key. total (roots key) ids) (λ s. 0) (shared-with xs ids pool (λ s. 0) k h) tree.stays)
+      (λ other r e. tree.stays.level r.node (kept-live xs ids other r k e)) (newer.level_is root refl) refl size (count_at pool1) (λ s. 0)
+      (tree.shared (λ key. total (roots key) ids) (λ s. 0) (shared-with xs ids pool (λ s. 0) k h)) tree.places tree.few few
+
+  entry : (q : ℕ) → find q (pages_below ys root.node) ≡ if_after b (find q (pages_below xs from.node))
+  entry q = elim (cases_lt q (2 ^ 20)) [
+    | inl low ↦ find-below ys root.node q low ∙ newer.looks q ∙ ap (if_after b) (sym (find-below xs from.node q low))
+    | inr high ↦ find-past ys root.node q (omega arith) ∙ ap (if_after b) (sym (find-past xs from.node q (omega arith)))
+  ]
+
+  pub keeps-root : KeepsRoot xs ys ids ids' id fresh b
+  keeps-root = record {
+    fresh = a.gone;
+    live = some-live (root_at ids' fresh) root a.here;
+    entries = λ q.
+        ap (λ (r : Option Root). find q (pages_in (map_below ys r))) a.here ∙ entry q
+        ∙ ap (λ (r : Option Root). if_after b (find q (pages_in (map_below xs r)))) (sym is);
+    others = λ other ne. ap (map_below ys) (a.rest other ne) ∙ maps-tree xs ys ids pool pool1 (Some root.node) k h tree other;
+  }
+
+module _ (n n' : List (Option Node)) (ids ids' : List (Option Root)) (pool pool' : Pool) (held : IsHeld n' pool' (λ s. 0)) (bytes : KeepsBytes pool pool') where
+  pub keeps : (id kept b : ℕ) → KeepsRoot n n' ids ids' id kept b → Keeps pool pool' (seen n ids) (seen n' ids') id kept b
+  keeps id kept b r = record {
+    fresh = map-seen n ids kept ∙ ap (map_below n) r.fresh;
+    live = live-seen n' ids' kept r.live;
+    entries = λ q.
+        ap (λ (m : Option Pages). find q (pages_in m)) (map-seen n' ids' kept) ∙ r.entries q
+        ∙ ap (λ (m : Option Pages). if_after b (find q (pages_in m))) (sym (map-seen n ids id));
+    others = λ other ne. map-seen n' ids' other ∙ r.others other ne ∙ sym (map-seen n ids other);
+    elsewhere = λ other place ne.
+        reads-same n n' ids ids' pool pool' (λ s. 0) other place (ap (λ (m : Option Pages). find place (pages_in m)) (r.others other ne)) held (λ e found still. (bytes e.slot still).1);
+  }
+
+  pub undone : ((other : ℕ) → map_below n' (root_at ids' other) ≡ map_below n (root_at ids other)) → SameReads pool pool' (seen n ids) (seen n' ids')
+  undone same = record {
+    maps = λ other. map-seen n' ids' other ∙ same other ∙ sym (map-seen n ids other);
+    elsewhere = λ other place.
+        reads-same n n' ids ids' pool pool' (λ s. 0) other place (ap (λ (m : Option Pages). find place (pages_in m)) (same other)) held (λ e found still. (bytes e.slot still).1);
+  }
+
+pub on-err : {T E : Type 0} {P : Type 0} (r : Result T E) → P → OnErr r P
+on-err (Ok x) h = tt
+on-err (Err x) h = h

@@ -8,7 +8,6 @@ pub mod Places
 pub mod Owning
 pub mod Inserting
 pub mod Releasing
-pub mod Gaps
 pub mod Rooted
 pub mod RootCopies
 pub mod Lookups
@@ -17,9 +16,11 @@ pub mod RootPuts
 pub mod RootCalls
 pub mod Seen
 pub mod Calls
-pub mod Stamps
-pub mod Keeping
+pub mod Walks
 pub mod KeepCalls
 pub mod Lives
 pub mod Reached
+pub mod OwnPages
+pub mod Filling
+pub mod LeafCopies
 pub mod InPlace

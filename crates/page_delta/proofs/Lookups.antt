@@ -97,7 +97,7 @@ pub length-below : (xs ys : List (Option Node)) (root page : ℕ) → page < 2 ^
 unfolding pages_below
 length-below xs ys root page low same = length-pairs (2 ^ 20) 0 page (look 3 ys (Some root)) (look 3 xs (Some root)) (omega arith) (omega arith) (λ k l u ne. same k (omega arith) ne)
 
-length-most : (n start : ℕ) (f : ℕ → Option Entry) → length (pairs_from n start f) ≤ n
+pub length-most : (n start : ℕ) (f : ℕ → Option Entry) → length (pairs_from n start f) ≤ n
 unfolding pairs_from
 length-most zero start f = omega arith
 length-most (suc n) start f =

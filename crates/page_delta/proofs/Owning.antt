@@ -12,7 +12,7 @@ use Rattle.page_delta.proofs.Looks.{child-live, looks-recounted, looks-insert, l
 use Rattle.page_delta.proofs.Places.{places-trans, places-put, places-copied, places-recounted}
 use Rattle.page_delta.proofs.Counting.{recounted-at, recounted-same, count-recounted, recounted-live}
 
-empty-place : {X : Type 0} (n d : ℕ) → get_or (replicate {A = Option X} n None) d None ≡ None
+pub empty-place : {X : Type 0} (n d : ℕ) → get_or (replicate {A = Option X} n None) d None ≡ None
 empty-place zero d = refl
 empty-place (suc n) zero = refl
 empty-place (suc n) (suc d) = empty-place n d
@@ -58,7 +58,7 @@ is_empty level = elim (cases_Bool (eqb level 0)) [
   | inr h ↦ let ne : level ≢ 0 = eqb-false level 0 h in rw h (empty_branch level (omega arith))
 ]
 
-branch-of : (o : Option Node) → 0 < level_in o → (c l : ℕ) × (kids : List (Option ℕ)) × (o ≡ Some (Branch c l kids))
+pub branch-of : (o : Option Node) → 0 < level_in o → (c l : ℕ) × (kids : List (Option ℕ)) × (o ≡ Some (Branch c l kids))
 branch-of None high = absurd (omega arith)
 branch-of (Some (Branch c l kids)) high = (c, l, kids, refl)
 branch-of (Some (Leaf c es)) high = absurd (omega arith)

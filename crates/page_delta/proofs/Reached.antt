@@ -23,31 +23,31 @@ place-uses slot (Some e) some = elim (cases_eq slot e.slot) [
   | inr ne ↦ absurd (let none : uses slot (Some e) ≡ 0 = one-other e.slot slot ne in omega arith)
 ]
 
-place-names : (key : ℕ) (o : Option ℕ) → 0 < once key o → o ≡ Some key
+pub place-names : (key : ℕ) (o : Option ℕ) → 0 < once key o → o ≡ Some key
 place-names key None some = absurd (omega arith)
 place-names key (Some child) some = elim (cases_eq key child) [
   | inl same ↦ ap (λ (k : ℕ). Some k) (sym same)
   | inr ne ↦ absurd (let none : once key (Some child) ≡ 0 = one-other child key ne in omega arith)
 ]
 
-place-roots : (key : ℕ) (o : Option Root) → 0 < roots key o → (r : Root) × (o ≡ Some r) × (r.node ≡ key)
+pub place-roots : (key : ℕ) (o : Option Root) → 0 < roots key o → (r : Root) × (o ≡ Some r) × (r.node ≡ key)
 place-roots key None some = absurd (omega arith)
 place-roots key (Some r) some = elim (cases_eq key r.node) [
   | inl same ↦ (r, refl, sym same)
   | inr ne ↦ absurd (let none : roots key (Some r) ≡ 0 = one-other r.node key ne in omega arith)
 ]
 
-within : {X : Type 0} (xs : List (Option X)) (k : ℕ) (x : X) → get_or xs k None ≡ Some x → k < length xs
+pub within : {X : Type 0} (xs : List (Option X)) (k : ℕ) (x : X) → get_or xs k None ≡ Some x → k < length xs
 within [] k x is = absurd (some-none x (sym is))
 within (y ∷ ys) zero x is = omega arith
 within (y ∷ ys) (suc k) x is = let rest = within ys k x is in omega arith
 
-record Named (o : Option Node) (key : ℕ) : Type 0 where
+pub record Named (o : Option Node) (key : ℕ) : Type 0 where
   pub digit : ℕ
   pub low : digit < 32
   pub child : child_in o digit ≡ Some key
 
-node-names : (key : ℕ) (o : Option Node) → ((node : Node) → o ≡ Some node → width node ≡ 32) → 0 < names key o → Named o key
+pub node-names : (key : ℕ) (o : Option Node) → ((node : Node) → o ≡ Some node → width node ≡ 32) → 0 < names key o → Named o key
 node-names key None wide some = absurd (omega arith)
 node-names key (Some (Branch count level kids)) wide some =
     let at = total-place (once key) refl kids some in
@@ -57,7 +57,7 @@ node-names key (Some (Branch count level kids)) wide some =
     record { digit = at.0; low = omega arith; child = is }
 node-names key (Some (Leaf count es)) wide some = absurd (omega arith)
 
-record Used (o : Option Node) (slot : ℕ) : Type 0 where
+pub record Used (o : Option Node) (slot : ℕ) : Type 0 where
   pub digit : ℕ
   pub entry : Entry
   pub low : digit < 32
@@ -66,7 +66,7 @@ record Used (o : Option Node) (slot : ℕ) : Type 0 where
   pub live : IsSome o
   pub level : level_in o ≡ 0
 
-node-uses : (slot : ℕ) (o : Option Node) → ((node : Node) → o ≡ Some node → width node ≡ 32) → 0 < slots_in slot o → Used o slot
+pub node-uses : (slot : ℕ) (o : Option Node) → ((node : Node) → o ≡ Some node → width node ≡ 32) → 0 < slots_in slot o → Used o slot
 node-uses slot None wide some = absurd (omega arith)
 node-uses slot (Some (Branch count level kids)) wide some = absurd (omega arith)
 node-uses slot (Some (Leaf count es)) wide some =
@@ -85,11 +85,11 @@ node-uses slot (Some (Leaf count es)) wide some =
     }
 
 -- the page with these digits
-spell : ℕ → ℕ → ℕ → ℕ → ℕ
+unfoldable pub spell : ℕ → ℕ → ℕ → ℕ → ℕ
 spell d3 d2 d1 d0 = d3 * 32768 + d2 * 1024 + d1 * 32 + d0
 
 module _ (nodes : List (Option Node)) (ids : List (Option Root)) (k : IsKept nodes ids) where
-  record Parent (key : ℕ) : Type 0 where
+  pub record Parent (key : ℕ) : Type 0 where
     pub node : ℕ
     pub named : Named (node_at nodes node) key
     pub level : level_in (node_at nodes node) ≡ level_in (node_at nodes key) + 1
@@ -108,7 +108,7 @@ module _ (nodes : List (Option Node)) (ids : List (Option Root)) (k : IsKept nod
       let root = place-roots key (root_at ids at.0) at.1 in
       (at.0, root.0, root.1, root.2)
 
-  parent : (key : ℕ) → IsSome (node_at nodes key) → level_in (node_at nodes key) < 3 → Parent key
+  pub parent : (key : ℕ) → IsSome (node_at nodes key) → level_in (node_at nodes key) < 3 → Parent key
   parent key live low = elim (cases_eq (total (roots key) ids) 0) [
     | inl none ↦ named-by key live none
     | inr some ↦ absurd (let r = rooted key some in
@@ -117,7 +117,7 @@ module _ (nodes : List (Option Node)) (ids : List (Option Root)) (k : IsKept nod
         omega arith)
   ]
 
-  top : (key : ℕ) → IsSome (node_at nodes key) → level_in (node_at nodes key) ≡ 3 → (id : ℕ) × (r : Root) × (root_at ids id ≡ Some r) × (r.node ≡ key)
+  pub top : (key : ℕ) → IsSome (node_at nodes key) → level_in (node_at nodes key) ≡ 3 → (id : ℕ) × (r : Root) × (root_at ids id ≡ Some r) × (r.node ≡ key)
   top key live high = elim (cases_eq (total (roots key) ids) 0) [
     | inl none ↦ absurd (let p = named-by key live none in
         let above = p.level in
@@ -126,7 +126,7 @@ module _ (nodes : List (Option Node)) (ids : List (Option Root)) (k : IsKept nod
     | inr some ↦ rooted key some
   ]
 
-  looked : (n0 n1 n2 n3 d0 d1 d2 d3 : ℕ) (e : Entry) → d0 < 32 → d1 < 32 → d2 < 32 → d3 < 32 → entry_in (node_at nodes n0) d0 ≡ Some e → child_in (node_at nodes n1) d1 ≡ Some n0 → child_in (node_at nodes n2) d2 ≡ Some n1 → child_in (node_at nodes n3) d3 ≡ Some n2 → look 3 nodes (Some n3) (spell d3 d2 d1 d0) ≡ Some e
+  pub looked : (n0 n1 n2 n3 d0 d1 d2 d3 : ℕ) (e : Entry) → d0 < 32 → d1 < 32 → d2 < 32 → d3 < 32 → entry_in (node_at nodes n0) d0 ≡ Some e → child_in (node_at nodes n1) d1 ≡ Some n0 → child_in (node_at nodes n2) d2 ≡ Some n1 → child_in (node_at nodes n3) d3 ≡ Some n2 → look 3 nodes (Some n3) (spell d3 d2 d1 d0) ≡ Some e
   unfolding spell
   looked n0 n1 n2 n3 d0 d1 d2 d3 e l0 l1 l2 l3 at c1 c2 c3 =
       let e0 : spell d3 d2 d1 d0 % 32 ≡ d0 = omega arith in

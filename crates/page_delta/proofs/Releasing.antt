@@ -59,26 +59,8 @@ module _ (xs : List (Option Node)) (k : ℕ) (live : IsSome (node_at xs k)) wher
         | inr ne ↦ let pick : lowered_now m ≡ count_in (node_at xs m) = rw (other-test m k ne) refl in let pos = s.alive m here in omega arith
       ])
 
-  live_before : (o : Option Node) (c : ℕ) → IsSome (recounted o c) → IsSome o
-  live_before None c here = here
-  live_before (Some n) c here = refl
-
-  pub shrinks-lower : Shrinks xs lowered
-  shrinks-lower = record {
-    was = λ m here. live_before (node_at xs m) (lowered_now m) (subst (λ (o : Option Node). IsSome o) (lowered_at m) here);
-    level = λ m here. ap level_in (lowered_at m) ∙ level-recounted (node_at xs m) (lowered_now m);
-    child = λ m d here. ap (λ o. child_in o d) (lowered_at m) ∙ child-recounted (node_at xs m) (lowered_now m) d;
-    entry = λ m d here. ap (λ o. entry_in o d) (lowered_at m) ∙ entry-recounted (node_at xs m) (lowered_now m) d;
-  }
-
   pub len-lower : count_by is_some lowered ≡ count_by is_some xs
   len-lower = len-recounted xs lowered lowered_now lowered_at
-
-pub grows-lower : (old new : Slab Node) (k : ℕ) → IsSome (node_at old.slots k) → new ≡ with_node old k (recounted (node_at old.slots k) (count_in (node_at old.slots k) - 1)) → Grows old new 0
-grows-lower old new k live e = subst (λ n. Grows old n 0) (sym e) record {
-  len = (let same = len-lower old.slots k live in omega arith);
-  capacity = refl;
-}
 
 pub shrinks-taken : (xs ys : List (Option Node)) (k : ℕ) → node_at ys k ≡ None → ((m : ℕ) → m ≢ k → node_at ys m ≡ node_at xs m) → Shrinks xs ys
 shrinks-taken xs ys k gone rest =

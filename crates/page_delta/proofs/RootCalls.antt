@@ -80,8 +80,8 @@ module _ (ids ids' : List (Option Root)) (id : ℕ) (root : Root) (gone : root_a
       held = held;
     }
 
--- an empty root is put at a fresh key
-module _ (xs ys : List (Option Node)) (key : ℕ) (node : Node) (empty : IsEmpty node 3) (gone : node_at xs key ≡ None) (here : node_at ys key ≡ Some node) (rest : (m : ℕ) → m ≢ key → node_at ys m ≡ node_at xs m) where
+-- an empty node is put at a fresh key
+module _ (xs ys : List (Option Node)) (key : ℕ) (node : Node) (level : ℕ) (flat : level ≤ 3) (empty : IsEmpty node level) (gone : node_at xs key ≡ None) (here : node_at ys key ≡ Some node) (rest : (m : ℕ) → m ≢ key → node_at ys m ≡ node_at xs m) where
   pub shared-empty : (counts hands loose : ℕ → ℕ) → IsShared xs counts hands loose → IsShared ys counts (λ m. hands m + one key m) loose
   shared-empty counts hands loose s =
       shared-insert xs ys counts hands loose key node
@@ -91,7 +91,7 @@ module _ (xs ys : List (Option Node)) (key : ℕ) (node : Node) (empty : IsEmpty
   pub looks-empty : (q : ℕ) → look 3 ys (Some key) q ≡ None
   looks-empty q = ap (λ (o : Option ℕ). look 2 ys o q) (ap (λ o. child_in o ((q / 32768) % 32)) here ∙ empty.child ((q / 32768) % 32))
 
-  pub level-empty : level_in (node_at ys key) ≡ 3
+  pub level-empty : level_in (node_at ys key) ≡ level
   level-empty = ap level_in here ∙ empty.level_is
 
   pub held-empty : (slot : ℕ) → total (slots_in slot) ys ≡ total (slots_in slot) xs

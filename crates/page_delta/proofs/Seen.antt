@@ -1,17 +1,18 @@
 -- What a contract sees of nodes and ids.
-use Rattle.std.proofs.Common.{◌≡◌, inl, inr, ℕ, zero, suc, ◌+◌, ◌/◌, ◌%◌, ◌^◌, ◌<◌, ◌≤◌, List, [], ◌∷◌, map, get_or, Option, Some, None, IsSome, is_some, count_by, refl, sym, ap, subst, ◌∙◌, arith}
-use Rattle.std.proofs.lemmas.Bool.{cases_lt}
+use Rattle.std.proofs.Common.{◌≡◌, ◌≢◌, inl, inr, ℕ, zero, suc, ◌+◌, ◌/◌, ◌%◌, ◌^◌, ◌<◌, ◌≤◌, List, [], ◌∷◌, map, get_or, Option, Some, None, IsSome, is_some, count_by, refl, sym, ap, subst, ◌∙◌, arith}
+use Rattle.std.proofs.lemmas.Bool.{cases_eq, cases_lt}
 use Rattle.page_pool.specs.Pool.{Pool, Page, count_at, bytes_at, used_in, IsLive as IsLiveSlot}
 use Rattle.page_delta.specs.Totals.{total}
-use Rattle.page_delta.specs.Delta.{Deltas, Pages, map_of, IsLive, pages_in, pages_of, find, read_of, reads, uses_in, RiseFrom, Holds, Adds}
+use Rattle.page_delta.specs.Delta.{Deltas, Pages, map_of, IsLive, pages_in, pages_of, find, read_of, reads, uses_in, RiseFrom, Holds, Adds, IsOwn}
 use Rattle.page_delta.specs.Nodes.{node_at, child_in, entry_in, leaf_of, look, pages_below}
 use Rattle.page_delta.specs.Shared.{slots_in}
-use Rattle.page_delta.specs.Roots.{root_at, map_below, IsKept, IsHeld, AddsRoot}
+use Rattle.page_delta.specs.Roots.{root_at, map_below, IsKept, IsHeld, AddsRoot, PutsAt}
 use Rattle.page_delta.specs.declared.entry.Entry.{Entry}
 use Rattle.page_delta.specs.declared.node.Node.{Node}
 use Rattle.page_delta.specs.declared.roots.Root.{Root}
 use Rattle.page_delta.proofs.Sums.{total-has}
 use Rattle.page_delta.proofs.Sharing.{some-none, cases-option, some-live}
+use Rattle.page_delta.proofs.Counting.{other-test}
 use Rattle.page_delta.proofs.Copies.{entry-used}
 use Rattle.page_delta.proofs.Places.{once-placed, places-nodes}
 use Rattle.page_delta.proofs.Lookups.{find-below, find-past, below-rises}
@@ -152,3 +153,27 @@ seen-unchanged n n' ids ids' pool same same_ids h = rw (same, same_ids) h
 -- the map of an id rises
 pub seen-rising : (nodes : List (Option Node)) (ids : List (Option Root)) (id : ℕ) (root : Root) → root_at ids id ≡ Some root → RiseFrom 0 (pages_of (seen nodes ids) id)
 seen-rising nodes ids id root is = subst (λ (m : Option Pages). RiseFrom 0 (pages_in m)) (sym (map-seen nodes ids id ∙ ap (map_below nodes) is)) (below-rises nodes root.node)
+
+-- a page that was put is the map's own, where no other page had its slot
+pub own-put : (n n' : List (Option Node)) (ids ids' : List (Option Root)) (id page : ℕ) (entry : Entry) → PutsAt n n' ids ids' id page entry
+    → ((other place : ℕ) (e : Entry) → find place (pages_in (map_below n (root_at ids other))) ≡ Some e → (other ≡ id → place ≡ page → ⊥) → e.slot ≢ entry.slot)
+    → find page (pages_in (map_below n' (root_at ids' id))) ≡ Some entry → IsOwn (seen n' ids') id page
+own-put n n' ids ids' id page entry p alone here = record {
+  entry = entry;
+  found = at id page ∙ here;
+  only = λ other place e has same. elim (cases_eq other id) [
+    | inl a ↦ elim (cases_eq place page) [
+      | inl b ↦ (a, b)
+      | inr far ↦
+          let test = other-test place page far in
+          let before : find place (pages_in (map_below n (root_at ids id))) ≡ Some e = sym (p.found place ∙ rw test refl) ∙ sym (at id place) ∙ ap (λ i. find place (pages_of (seen n' ids') i)) (sym a) ∙ has in
+          absurd (alone id place e before (λ _ b. far b) same)
+    ]
+    | inr ne ↦
+        let before = ap (λ (m : Option Pages). find place (pages_in m)) (sym (p.others other ne)) ∙ sym (at other place) ∙ has in
+        absurd (alone other place e before (λ a _. ne a) same)
+  ];
+}
+  where
+    at : (i q : ℕ) → find q (pages_of (seen n' ids') i) ≡ find q (pages_in (map_below n' (root_at ids' i)))
+    at i q = ap (λ (m : Option Pages). find q (pages_in m)) (map-seen n' ids' i)

@@ -65,9 +65,6 @@ width-recounted (Some (Branch b l ks)) c node e =
 width-recounted (Some (Leaf b es)) c node e =
     (Leaf b es, refl, ap width (let same : node ≡ Leaf c es = cc in same))
 
-pub none-names : (m : ℕ) → names m None ≡ 0
-none-names m = refl
-
 -- counts change, and what is in hand with them
 pub shared-recounted : (xs ys : List (Option Node)) (counts hands hands' loose now : ℕ → ℕ) → IsShared xs counts hands loose → ((m : ℕ) → node_at ys m ≡ recounted (node_at xs m) (now m)) → ((m : ℕ) → IsSome (node_at xs m) → now m + hands m ≡ count_in (node_at xs m) + hands' m) → ((m : ℕ) → node_at xs m ≡ None → hands' m ≡ 0) → ((m : ℕ) → IsSome (node_at xs m) → 0 < now m) → IsShared ys counts hands' loose
 shared-recounted xs ys counts hands hands' loose now s each moved none some =

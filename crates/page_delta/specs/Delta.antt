@@ -100,7 +100,13 @@ pub record Adds (old new : Deltas) (id : ℕ) (pages : Pages) : Type 0 where
   pub here : map_of new id ≡ Some pages
   pub others : (other : ℕ) → other ≢ id → map_of new other ≡ map_of old other
 
--- a page of one map has these bytes and this stamp, and nothing else reads otherwise
+-- a map has something at a page, and no other page of this or any other map has its slot
+pub record IsOwn (deltas : Deltas) (id page : ℕ) : Type 0 where
+  pub entry : Entry
+  pub found : find page (pages_of deltas id) ≡ Some entry
+  pub only : (other place : ℕ) (e : Entry) → find place (pages_of deltas other) ≡ Some e → e.slot ≡ entry.slot → (other ≡ id) × (place ≡ page)
+
+-- a page of one map has these bytes and this stamp, and nothing else reads otherwise; the page is this map's own
 pub record Sets (old_pool new_pool : Pool) (old new : Deltas) (id page : ℕ) (bytes : List ℕ) (stamp : ℕ) : Type 0 where
   pub live : IsLive new id
   pub written : reads new_pool new id page ≡ Some (bytes, stamp)
@@ -108,6 +114,7 @@ pub record Sets (old_pool new_pool : Pool) (old new : Deltas) (id page : ℕ) (b
   pub entries : (other : ℕ) → other ≢ page → find other (pages_of new id) ≡ find other (pages_of old id)
   pub others : (other : ℕ) → other ≢ id → map_of new other ≡ map_of old other
   pub elsewhere : (other place : ℕ) → other ≢ id → reads new_pool new other place ≡ reads old_pool old other place
+  pub own : IsOwn new id page
 
 -- an id is dead, and nothing else reads otherwise
 pub record Drops (old_pool new_pool : Pool) (old new : Deltas) (id : ℕ) : Type 0 where

@@ -1,5 +1,5 @@
 -- Nodes, and what their trees have. No public clause cites this module.
-use Rattle.std.specs.Prelude.{ℕ, zero, suc, ◌+◌, ◌/◌, ◌%◌, ◌^◌, ◌==◌, List, [], ◌∷◌, length, Option, Some, None, slice_index_or, slice_set, if◌then◌else◌, replicate}
+use Rattle.std.specs.Prelude.{ℕ, zero, suc, ◌+◌, ◌*◌, ◌/◌, ◌%◌, ◌^◌, ◌==◌, List, [], ◌∷◌, length, Option, Some, None, slice_index_or, slice_set, if◌then◌else◌, replicate}
 use Rattle.slab.specs.Slab.{Slab}
 use Rattle.page_delta.specs.Delta.{Pages}
 use Rattle.page_delta.specs.Totals.{total}
@@ -94,6 +94,14 @@ pairs_from (suc n) start at = consed start (at start) (pairs_from n (start + 1) 
 -- the map of a tree
 unfoldable pub pages_below : List (Option Node) → ℕ → Pages
 pages_below nodes key = pairs_from (2 ^ 20) 0 (look 3 nodes (Some key))
+
+-- the map of a leaf at its first so many places, where `prefix` is what the digits above it spell
+unfoldable pub leaf_part : Option Node → ℕ → ℕ → Pages
+leaf_part node prefix digits = pairs_from digits (prefix * 32) (λ page. entry_in node (page % 32))
+
+-- the map of a tree at the first so many places of its top, where `prefix` is what the digits above it spell
+unfoldable pub part : ℕ → List (Option Node) → Option ℕ → ℕ → ℕ → Pages
+part level nodes key prefix digits = pairs_from (digits * 32 ^ level) (prefix * 32 ^ suc level) (look level nodes key)
 
 -- the slab with a node, or none, at a key
 abbrev pub with_node : Slab Node → ℕ → Option Node → Slab Node

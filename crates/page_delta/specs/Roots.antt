@@ -1,13 +1,13 @@
 -- What maps are kept as: roots of trees. No public clause cites this module.
-use Rattle.std.specs.Prelude.{◌≡◌, ◌≢◌, ℕ, ◌+◌, ◌%◌, ◌^◌, ◌≤◌, ◌==◌, List, [], ◌∷◌, length, Bool, true, false, Option, Some, None, IsSome, slice_index_or, count_by, is_some, if◌then◌else◌}
+use Rattle.std.specs.Prelude.{◌≡◌, ◌≢◌, ℕ, ◌+◌, ◌%◌, ◌^◌, ◌<◌, ◌≤◌, ◌==◌, List, length, Option, Some, None, IsSome, Result, Ok, Err, slice_index_or, count_by, is_some, if◌then◌else◌}
 use Rattle.page_pool.specs.Pool.{Pool, count_at}
 use Rattle.page_delta.specs.declared.roots.Root.{Root}
 use Rattle.page_delta.specs.declared.entry.Entry.{Entry}
 use Rattle.page_delta.specs.declared.node.Node.{Node}
 use Rattle.page_delta.specs.Totals.{total}
-use Rattle.page_delta.specs.Delta.{Pages, find, pages_in, uses}
-use Rattle.page_delta.specs.Nodes.{node_at, entry_in, count_in, level_in, look, pages_below}
-use Rattle.page_delta.specs.Shared.{slots_in, IsShared, IsPlaced, IsCounted, KeepsBytes, KeepsLevels, Differs, IsOwnLeaf}
+use Rattle.page_delta.specs.Delta.{Pages, find, pages_in, pages_after, if_after, uses}
+use Rattle.page_delta.specs.Nodes.{node_at, entry_in, count_in, level_in, once, with_child, look, part, pages_below}
+use Rattle.page_delta.specs.Shared.{slots_in, IsShared, IsPlaced, IsCounted, KeepsBytes, KeepsPlaces, KeepsLevels, Stays, Differs, IsOwnLeaf}
 
 -- the root at an id
 abbrev pub root_at : List (Option Root) → ℕ → Option Root
@@ -82,32 +82,44 @@ pub record IsOwnPlace (nodes : List (Option Node)) (ids : List (Option Root)) (p
   pub slot_is : entry.slot ≡ slot
   pub once : count_at pool slot ≡ 1
 
--- the first, if it is something, and else the second
-abbrev pub or_else : Option Entry → Option Entry → Option Entry
-or_else None second = second
-or_else (Some entry) second = Some entry
+-- the node of a kept tree, and how many pages it has
+abbrev pub node_of : Option Root → Option ℕ
+node_of None = None
+node_of (Some root) = Some root.node
 
--- a map has the entry of another at a page, if that has one, and else its own
-abbrev pub TakesPage : List (Option Node) → List (Option Node) → List (Option Root) → List (Option Root) → ℕ → ℕ → ℕ → Type 0
-TakesPage old new old_ids new_ids id kept page =
-    (q : ℕ) → find q (pages_in (map_below new (root_at new_ids kept)))
-    ≡ (if q == page then or_else (find page (pages_in (map_below old (root_at old_ids id)))) (find q (pages_in (map_below old (root_at old_ids kept)))) else find q (pages_in (map_below old (root_at old_ids kept))))
+abbrev pub size_of : Option Root → ℕ
+size_of None = 0
+size_of (Some root) = root.pages
 
--- the list has the page
-abbrev pub among : ℕ → List ℕ → Bool
-among page [] = false
-among page (first ∷ rest) = if page == first then true else among page rest
+-- what was kept, if anything was
+abbrev pub kept_of : {E : Type 0} → Result (Option Root) E → Option Root
+kept_of (Ok kept) = kept
+kept_of (Err error) = None
 
--- nothing but one map has changed, and what is counted has its bytes
-pub record IsKeeping (old new : List (Option Node)) (old_ids new_ids : List (Option Root)) (old_pool new_pool : Pool) (kept : ℕ) : Type 0 where
-  pub is_kept : IsKept new new_ids
-  pub is_held : IsHeld new new_pool (λ slot. 0)
-  pub live : IsSome (root_at new_ids kept)
-  pub others : (other : ℕ) → other ≢ kept → map_below new (root_at new_ids other) ≡ map_below old (root_at old_ids other)
+-- the node with another child at a digit, if there is one
+abbrev pub hung : Node → ℕ → Option ℕ → Node
+hung node digit None = node
+hung node digit (Some child) = with_child node digit child
+
+-- a tree was added, which is in hand; all that was there stays
+pub record KeepsTree (old new : List (Option Node)) (old_pool new_pool : Pool) (kept : Option ℕ) : Type 0 where
+  pub shared : (hands loose : ℕ → ℕ) → IsShared old (count_at old_pool) hands loose → IsShared new (count_at new_pool) (λ m. hands m + once m kept) loose
+  pub stays : Stays old new
+  pub places : KeepsPlaces old new
+  pub few : count_by is_some new ≤ 2 ^ 26
+  pub counted : IsCounted new_pool
   pub keeps : KeepsBytes old_pool new_pool
 
--- a map has the entries of another at these pages, and else its own
-abbrev pub HasPages : List (Option Node) → List (Option Node) → List (Option Root) → List (Option Root) → ℕ → ℕ → List ℕ → Type 0
-HasPages old new old_ids new_ids id kept pages =
-    (q : ℕ) → find q (pages_in (map_below new (root_at new_ids kept)))
-    ≡ (if among q pages then or_else (find q (pages_in (map_below old (root_at old_ids id)))) (find q (pages_in (map_below old (root_at old_ids kept)))) else find q (pages_in (map_below old (root_at old_ids kept))))
+-- a tree of this level has the entries of another with a stamp above the bound
+pub record HasNewer (old new : List (Option Node)) (from level b : ℕ) (kept : Option Root) : Type 0 where
+  pub level_is : (root : Root) → kept ≡ Some root → level_in (node_at new root.node) ≡ level
+  pub looks : (page : ℕ) → look level new (node_of kept) page ≡ if_after b (look level old (Some from) page)
+  pub pages : (prefix : ℕ) → size_of kept ≡ length (pages_after b (part level old (Some from) prefix 32))
+  pub some : (root : Root) → kept ≡ Some root → level < 3 → 0 < root.pages
+
+-- an id that was dead has the entries of another with a stamp above the bound, and nothing else has changed
+pub record KeepsRoot (old new : List (Option Node)) (old_ids new_ids : List (Option Root)) (id kept b : ℕ) : Type 0 where
+  pub fresh : root_at old_ids kept ≡ None
+  pub live : IsSome (root_at new_ids kept)
+  pub entries : (page : ℕ) → find page (pages_in (map_below new (root_at new_ids kept))) ≡ if_after b (find page (pages_in (map_below old (root_at old_ids id))))
+  pub others : (other : ℕ) → other ≢ kept → map_below new (root_at new_ids other) ≡ map_below old (root_at old_ids other)

@@ -1,13 +1,13 @@
 -- What trees that share their nodes keep true. No public clause cites this module.
-use Rattle.std.specs.Prelude.{◌≡◌, ◌≢◌, ℕ, zero, suc, ◌+◌, ◌/◌, ◌%◌, ◌^◌, ◌<◌, ◌≤◌, List, Option, Some, IsSome, count_by, is_some}
+use Rattle.std.specs.Prelude.{◌≡◌, ◌≢◌, ℕ, zero, suc, ◌+◌, ◌/◌, ◌%◌, ◌^◌, ◌<◌, ◌≤◌, List, length, Option, Some, None, IsSome, count_by, is_some, slice_index_or}
 use Rattle.slab.specs.Slab.{Slab, slab_len}
 use Rattle.page_pool.specs.Pool.{Pool, count_at, bytes_at, IsLive as IsLiveSlot}
-use Rattle.page_delta.specs.Delta.{uses, uses_in}
+use Rattle.page_delta.specs.Delta.{uses, uses_in, pages_after, if_after}
 use Rattle.page_delta.specs.Totals.{total}
-use Rattle.page_delta.specs.Nodes.{node_at, child_in, entry_in, count_in, level_in, width, names, leaf_of, look}
+use Rattle.page_delta.specs.Nodes.{node_at, child_in, entry_in, count_in, level_in, width, names, leaf_of, look, leaf_part}
 use Rattle.page_delta.specs.declared.entry.Entry.{Entry}
 use Rattle.page_delta.specs.declared.node.Node.{Node}
-use Rattle.page_delta.specs.declared.node.Node.TheVariants.{Branch}
+use Rattle.page_delta.specs.declared.node.Node.TheVariants.{Branch, Leaf}
 
 abbrev pub slots_in : ℕ → Option Node → ℕ
 slots_in slot node = uses_in slot (leaf_of node)
@@ -77,6 +77,24 @@ pub record Shrinks (old new : List (Option Node)) : Type 0 where
   pub level : (key : ℕ) → IsSome (node_at new key) → level_in (node_at new key) ≡ level_in (node_at old key)
   pub child : (key digit : ℕ) → IsSome (node_at new key) → child_in (node_at new key) digit ≡ child_in (node_at old key) digit
   pub entry : (key digit : ℕ) → IsSome (node_at new key) → entry_in (node_at new key) digit ≡ entry_in (node_at old key) digit
+
+-- what was there is there, with the same places
+pub record Stays (old new : List (Option Node)) : Type 0 where
+  pub live : (key : ℕ) → IsSome (node_at old key) → IsSome (node_at new key)
+  pub level : (key : ℕ) → IsSome (node_at old key) → level_in (node_at new key) ≡ level_in (node_at old key)
+  pub child : (key digit : ℕ) → IsSome (node_at old key) → child_in (node_at new key) digit ≡ child_in (node_at old key) digit
+  pub entry : (key digit : ℕ) → IsSome (node_at old key) → entry_in (node_at new key) digit ≡ entry_in (node_at old key) digit
+
+-- a leaf, counted once, has the entries at the first so many places of a node whose stamp is above the bound, so many of them
+pub record IsNewer (b : ℕ) (node leaf : Node) (pages digits : ℕ) : Type 0 where
+  pub entries : List (Option Entry)
+  pub is : leaf ≡ Leaf 1 entries
+  pub wide : length entries ≡ 32
+  pub has : (digit : ℕ) → digit < digits → slice_index_or entries digit None ≡ if_after b (entry_in (Some node) digit)
+  pub rest : (digit : ℕ) → digits ≤ digit → slice_index_or entries digit None ≡ None
+  pub few : pages ≤ digits
+  pub counted : (prefix : ℕ) → pages ≡ length (pages_after b (leaf_part (Some node) prefix digits))
+  pub none : pages ≡ 0 → (digit : ℕ) → slice_index_or entries digit None ≡ None
 
 -- so many values more, and no memory taken
 pub record Grows (old new : Slab Node) (more : ℕ) : Type 0 where

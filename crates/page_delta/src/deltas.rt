@@ -1,14 +1,14 @@
 //! Maps, each under an id.
 
-ghost use Rattle.std.specs.Prelude.{◌≡◌, ℕ, ◌^◌, ◌<◌, [], length, None, OnOk, OnErr, IfOk};
+ghost use Rattle.std.specs.Prelude.{◌≡◌, ℕ, ◌^◌, ◌<◌, [], length, None, OnOk, OnErr, IsOk, IfOk};
 ghost use Rattle.page_pool.specs.Pool.{Pool, used_in};
-ghost use Rattle.page_delta.specs.Delta.{map_of, IsLive, pages_of, find, pages_after, RiseFrom, Holds, Adds, Sets, Drops, Keeps, SameReads};
+ghost use Rattle.page_delta.specs.Delta.{map_of, IsLive, pages_of, find, pages_after, RiseFrom, Holds, Adds, IsOwn, Sets, Drops, Keeps, SameReads};
 
 use crate::entry::Entry;
+use crate::keep::keep_root;
+use crate::newer::stamped;
 use crate::node::Node;
-use crate::roots::{
-    Root, drop_root, fork_root, keep_pages, make_room, new_root, own_place, put_entry, stamped,
-};
+use crate::roots::{Root, drop_root, fork_root, make_room, new_root, own_place, put_entry};
 use crate::tree::{look, place};
 use byte_codec::NoMemory;
 use page_pool::{PageBytes, PagePool};
@@ -119,7 +119,7 @@ impl Deltas {
     }
 
     /// Sets the bytes and the stamp of a page below 1,048,576 in one map, and in no other. NoMemory where memory ran
-    /// out, or there are too many nodes; then nothing changes.
+    /// out, or there are too many nodes; then nothing changes. A page that is the map's own wants no memory.
     pub fn set(
         &mut self,
         alloc: Global,
@@ -135,6 +135,7 @@ impl Deltas {
         ensures set { OnOk result (Sets pool.old pool.new self.old self.new id page bytes.now stamp) }
         ensures err { OnErr result (self.new ≡ self.old) }
         ensures err_pool { OnErr result (pool.new ≡ pool.old) }
+        ensures own { IsOwn self.old id page → IsOk result }
         ensures holds { Holds pool.new self.new }
     {
         if let Some(own) = own_place(&self.nodes, &self.ids, pool, id.0, page) {
@@ -182,7 +183,7 @@ impl Deltas {
     /// many ids or nodes; then every map reads as before.
     pub fn keep_after(
         &mut self,
-        alloc: Global,
+        _alloc: Global,
         pool: &mut PagePool,
         id: DeltaId,
         b: u64,
@@ -193,13 +194,7 @@ impl Deltas {
         ensures err { OnErr result (SameReads pool.old pool.new self.old self.new) }
         ensures holds { Holds pool.new self.new }
     {
-        let root = self.ids[id.0 as usize].node;
-        let pages = stamped(alloc, &self.nodes, root, b)?;
-        let kept = new_root(&mut self.nodes, &mut self.ids)?;
-        if keep_pages(&mut self.nodes, &mut self.ids, pool, id.0, kept, &pages).is_err() {
-            drop_root(&mut self.nodes, &mut self.ids, pool, kept);
-            return Err(NoMemory);
-        }
+        let kept = keep_root(&mut self.nodes, &mut self.ids, pool, id.0, b)?;
         Ok(DeltaId(kept))
     }
 }

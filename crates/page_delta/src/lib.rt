@@ -4,6 +4,8 @@
 
 mod deltas;
 mod entry;
+mod keep;
+mod newer;
 mod node;
 mod roots;
 #[cfg(test)]

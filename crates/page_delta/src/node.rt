@@ -2,6 +2,7 @@
 
 ghost use Rattle.std.specs.Prelude.{◌≡◌, ◌<◌, Some};
 ghost use Rattle.page_delta.specs.Nodes.{child_in, entry_in, count_in, level_in, recount, with_child, with_entry, empty_node};
+ghost use Rattle.page_delta.specs.Shared.{IsNewer};
 
 use crate::entry::Entry;
 
@@ -126,6 +127,23 @@ impl Node {
             Node::Branch { .. } => {}
             Node::Leaf { entries, .. } => entries[digit as usize] = Some(entry),
         }
+    }
+
+    // A leaf with the entries of this one whose stamp is above `b`, counted once, and how many they are.
+    pub(crate) fn newer(&self, b: u64) -> (Node, u32)
+        ensures { IsNewer b self.now result.0 result.1 32 }
+    {
+        let mut leaf = Node::empty(0);
+        let mut pages = 0;
+        for digit in 0..32 {
+            if let Some(entry) = self.entry(digit) {
+                if entry.stamp > b {
+                    leaf.set_entry(digit, entry);
+                    pages += 1;
+                }
+            }
+        }
+        (leaf, pages)
     }
 }
 

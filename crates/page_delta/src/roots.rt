@@ -1,21 +1,20 @@
 //! Roots of trees, each under an id.
 
-ghost use Rattle.std.specs.Prelude.{length, slice_index, ◌≡◌, ◌≢◌, ℕ, ◌+◌, ◌%◌, ◌^◌, ◌<◌, ◌≤◌, [], Some, None, IsSome, IfSome, OnOk, OnErr, IfOk, ◌==◌, if◌then◌else◌};
+ghost use Rattle.std.specs.Prelude.{◌≡◌, ◌≢◌, ℕ, ◌+◌, ◌%◌, ◌^◌, ◌<◌, ◌≤◌, [], Some, None, IsSome, IfSome, OnOk, OnErr, IfOk};
 ghost use Rattle.slab.specs.Slab.{HasRoomFor, slab_len};
 ghost use Rattle.page_pool.specs.Pool.{count_at};
-ghost use Rattle.page_delta.specs.Delta.{uses, pages_after};
-ghost use Rattle.page_delta.specs.Nodes.{node_at, count_in, pages_below};
-ghost use Rattle.page_delta.specs.Roots.{root_at, map_below, IsKept, IsHeld, AddsRoot, ForksRoot, PutsOwn, PutsAt, IsKeeping, HasPages, TakesPage, IsOwnPlace};
-ghost use Rattle.page_delta.specs.Shared.{Grows, KeepsBytes, KeepsPlaces, StandsAt, IsClosed, IsCounted};
+ghost use Rattle.page_delta.specs.Delta.{uses};
+ghost use Rattle.page_delta.specs.Nodes.{node_at, count_in};
+ghost use Rattle.page_delta.specs.Roots.{root_at, map_below, IsKept, IsHeld, AddsRoot, ForksRoot, PutsOwn, PutsAt, IsOwnPlace};
+ghost use Rattle.page_delta.specs.Shared.{Grows, KeepsBytes, KeepsPlaces, StandsAt, IsCounted};
 ghost use Rattle.page_delta.specs.declared.roots.Root.{Root as Held_root};
 
 use crate::entry::Entry;
 use crate::node::Node;
-use crate::tree::{copy, gap, insert, look, lower, own_leaf, put, raise, release};
+use crate::tree::{copy, insert, look, lower, own_leaf, put, raise, release};
 use byte_codec::NoMemory;
 use page_pool::{PagePool, SlotId};
 use slab::Slab;
-use std::alloc::Global;
 
 // So many nodes and ids at most: then no count reaches 2^32, since a node has 32 places.
 pub(crate) const MAX_NODES: usize = 0x0400_0000;
@@ -51,7 +50,7 @@ pub(crate) fn make_room(nodes: &mut Slab<Node>, more: usize) -> Result<(), NoMem
 }
 
 // Takes memory for an id, and answers it. Nothing else changes.
-fn make_id(ids: &mut Slab<Root>) -> Result<u32, NoMemory>
+pub(crate) fn make_id(ids: &mut Slab<Root>) -> Result<u32, NoMemory>
     ensures ids { ids.new.slots ≡ ids.old.slots }
     ensures room { OnOk result (HasRoomFor ids.new 1) }
     ensures few { OnOk result (slab_len ids.new + 1 ≤ 2 ^ 31) }
@@ -140,7 +139,8 @@ pub(crate) fn own_place(
     requires kept { IsKept nodes.now.slots ids.now.slots }
     requires held { IsHeld nodes.now.slots pool.now (λ slot. 0) }
     requires live { IsSome (root_at ids.now.slots id) }
-    ensures { IfSome result (λ own. IsOwnPlace nodes.now.slots ids.now.slots pool.now id page own.leaf own.slot) }
+    ensures own { IfSome result (λ own. IsOwnPlace nodes.now.slots ids.now.slots pool.now id page own.leaf own.slot) }
+    ensures some { (leaf slot : ℕ) → IsOwnPlace nodes.now.slots ids.now.slots pool.now id page leaf slot → IsSome result }
 {
     let leaf = own_leaf(nodes, ids[id as usize].node, page)?;
     let entry = nodes[leaf].entry(page % 32)?;
@@ -219,86 +219,4 @@ pub(crate) fn drop_root(nodes: &mut Slab<Node>, ids: &mut Slab<Root>, pool: &mut
 {
     let root = ids.remove(id as usize);
     release(nodes, pool, root.node, 3);
-}
-
-// The pages of a tree whose stamp is above `b`, ascending.
-pub(crate) fn stamped(
-    alloc: Global,
-    nodes: &Slab<Node>,
-    root: usize,
-    b: u64,
-) -> Result<Vec<u32>, NoMemory>
-    requires root { IsSome (node_at nodes.now.slots root) }
-    requires closed { IsClosed nodes.now.slots }
-    ensures { IfOk result (λ pages. pages.items ≡ pages_after b (pages_below nodes.now.slots root)) }
-{
-    let mut pages = Vec::new(alloc);
-    let mut page = 0;
-    while page < 1_048_576 {
-        let gap = gap(nodes, root, page);
-        if gap > 0 {
-            page += gap;
-        } else {
-            if let Some(entry) = look(nodes, root, page) {
-                if entry.stamp > b {
-                    pages.push(page)?;
-                }
-            }
-            page += 1;
-        }
-    }
-    Ok(pages)
-}
-
-// Puts the entry of one map into another at the same page.
-pub(crate) fn keep_page(
-    nodes: &mut Slab<Node>,
-    ids: &mut Slab<Root>,
-    pool: &mut PagePool,
-    id: u32,
-    kept: u32,
-    page: u32,
-) -> Result<(), NoMemory>
-    requires kept { IsKept nodes.old.slots ids.old.slots }
-    requires held { IsHeld nodes.old.slots pool.old (λ slot. 0) }
-    requires live { IsSome (root_at ids.old.slots id) }
-    requires live_kept { IsSome (root_at ids.old.slots kept) }
-    requires page { page < 2 ^ 20 }
-    ensures kept { IsKept nodes.new.slots ids.new.slots }
-    ensures held { IsHeld nodes.new.slots pool.new (λ slot. 0) }
-    ensures live { IsSome (root_at ids.new.slots kept) }
-    ensures found { OnOk result (TakesPage nodes.old.slots nodes.new.slots ids.old.slots ids.new.slots id kept page) }
-    ensures others { (other : ℕ) → other ≢ kept → map_below nodes.new.slots (root_at ids.new.slots other) ≡ map_below nodes.old.slots (root_at ids.old.slots other) }
-    ensures keeps { KeepsBytes pool.old pool.new }
-{
-    make_room(nodes, 4)?;
-    if let Some(entry) = look(nodes, ids[id as usize].node, page) {
-        pool.retain(entry.slot);
-        put_entry(nodes, ids, pool, kept, page, entry);
-    }
-    Ok(())
-}
-
-// Puts the entries of one map at these pages into another.
-pub(crate) fn keep_pages(
-    nodes: &mut Slab<Node>,
-    ids: &mut Slab<Root>,
-    pool: &mut PagePool,
-    id: u32,
-    kept: u32,
-    pages: &[u32],
-) -> Result<(), NoMemory>
-    requires kept { IsKept nodes.old.slots ids.old.slots }
-    requires held { IsHeld nodes.old.slots pool.old (λ slot. 0) }
-    requires live { IsSome (root_at ids.old.slots id) }
-    requires live_kept { IsSome (root_at ids.old.slots kept) }
-    requires apart { id ≢ kept }
-    requires pages { (k : ℕ) → k < length pages.now → slice_index pages.now k < 2 ^ 20 }
-    ensures progress { IsKeeping nodes.old.slots nodes.new.slots ids.old.slots ids.new.slots pool.old pool.new kept }
-    ensures found { OnOk result (HasPages nodes.old.slots nodes.new.slots ids.old.slots ids.new.slots id kept pages.now) }
-{
-    for page in pages {
-        keep_page(nodes, ids, pool, id, kept, *page)?;
-    }
-    Ok(())
 }

@@ -1,10 +1,11 @@
 //! Trees of nodes, which share their parts.
 
-ghost use Rattle.std.specs.Prelude.{◌≡◌, ◌≢◌, ℕ, ◌+◌, ◌-◌, ◌%◌, ◌^◌, ◌<◌, ◌≤◌, List, length, Some, None, IsSome, IfSome, slice_index_or};
+ghost use Rattle.std.specs.Prelude.{◌≡◌, ◌≢◌, ℕ, ◌+◌, ◌-◌, ◌%◌, ◌^◌, ◌<◌, ◌≤◌, List, length, Option, Some, None, IsSome, IfSome, slice_index_or};
 ghost use Rattle.slab.specs.Slab.{HasRoomFor, slab_len};
 ghost use Rattle.page_pool.specs.Pool.{count_at, IsLive};
 ghost use Rattle.page_delta.specs.declared.entry.Entry.{Entry as Held};
 ghost use Rattle.page_delta.specs.declared.node.Node.{Node as Held_node};
+ghost use Rattle.page_delta.specs.declared.node.Node.TheVariants.{Leaf};
 ghost use Rattle.page_delta.specs.Totals.{total};
 ghost use Rattle.page_delta.specs.Delta.{uses};
 ghost use Rattle.page_delta.specs.Nodes.{node_at, child_in, entry_in, width, count_in, level_in, recounted, with_child, with_entry, once, names, with_node, look};
@@ -31,7 +32,8 @@ pub(crate) fn look(nodes: &Slab<Node>, root: usize, page: u32) -> Option<Entry>
 fn own_below(nodes: &Slab<Node>, parent: usize, digit: u32) -> Option<usize>
     requires parent { IsSome (node_at nodes.now.slots parent) }
     requires digit { digit < 32 }
-    ensures { IfSome result (λ child. (count_in (node_at nodes.now.slots parent) ≡ 1) × (child_in (node_at nodes.now.slots parent) digit ≡ Some child)) }
+    ensures own { IfSome result (λ child. (count_in (node_at nodes.now.slots parent) ≡ 1) × (child_in (node_at nodes.now.slots parent) digit ≡ Some child)) }
+    ensures some { count_in (node_at nodes.now.slots parent) ≡ 1 → IsSome (child_in (node_at nodes.now.slots parent) digit) → IsSome result }
 {
     if nodes[parent].count() != 1 {
         return None;
@@ -43,7 +45,8 @@ fn own_below(nodes: &Slab<Node>, parent: usize, digit: u32) -> Option<usize>
 pub(crate) fn own_leaf(nodes: &Slab<Node>, root: usize, page: u32) -> Option<usize>
     requires root { IsSome (node_at nodes.now.slots root) }
     requires closed { IsClosed nodes.now.slots }
-    ensures { IfSome result (λ leaf. IsOwnLeaf nodes.now.slots root page leaf) }
+    ensures own { IfSome result (λ leaf. IsOwnLeaf nodes.now.slots root page leaf) }
+    ensures some { (leaf : ℕ) → IsOwnLeaf nodes.now.slots root page leaf → IsSome result }
 {
     let upper = own_below(nodes, root, page / 32_768 % 32)?;
     let lower = own_below(nodes, upper, page / 1024 % 32)?;
@@ -134,7 +137,7 @@ fn take(nodes: &mut Slab<Node>, node: usize) -> Node
 }
 
 // Counts what a node has once more.
-fn share(nodes: &mut Slab<Node>, pool: &mut PagePool, node: &Node)
+pub(crate) fn share(nodes: &mut Slab<Node>, pool: &mut PagePool, node: &Node)
     requires stands { Stands nodes.old.slots pool.old }
     requires children { (digit child : ℕ) → child_in (Some node.now) digit ≡ Some child → IsSome (node_at nodes.old.slots child) }
     requires entries { (digit : ℕ) (entry : Held) → entry_in (Some node.now) digit ≡ Some entry → IsLive pool.old entry.slot }
@@ -144,6 +147,7 @@ fn share(nodes: &mut Slab<Node>, pool: &mut PagePool, node: &Node)
     ensures counts { (slot : ℕ) → count_at pool.new slot ≡ count_at pool.old slot + slots_in slot (Some node.now) }
     ensures counted { IsCounted pool.new }
     ensures keeps { KeepsBytes pool.old pool.new }
+    ensures leaf { (count : ℕ) (places : List (Option Held)) → node.now ≡ Leaf count places → nodes.new.slots ≡ nodes.old.slots }
 {
     match node {
         Node::Branch { children, .. } => raise_each(nodes, children),
@@ -172,7 +176,7 @@ pub(crate) fn copy(nodes: &mut Slab<Node>, pool: &mut PagePool, node: usize) -> 
 }
 
 // Gives a node another child at a digit.
-fn link(nodes: &mut Slab<Node>, parent: usize, digit: u32, child: usize)
+pub(crate) fn link(nodes: &mut Slab<Node>, parent: usize, digit: u32, child: usize)
     requires parent { IsSome (node_at nodes.old.slots parent) }
     requires digit { digit < 32 }
     ensures now { (node : Held_node) → node_at nodes.old.slots parent ≡ Some node → node_at nodes.new.slots parent ≡ Some (with_child node digit child) }
@@ -327,23 +331,4 @@ pub(crate) fn release(nodes: &mut Slab<Node>, pool: &mut PagePool, node: usize, 
             }
         }
     }
-}
-
-// How many pages from this one on have nothing in the tree, up to the end of the largest empty node that begins the way.
-pub(crate) fn gap(nodes: &Slab<Node>, root: usize, page: u32) -> u32
-    requires root { IsSome (node_at nodes.now.slots root) }
-    requires closed { IsClosed nodes.now.slots }
-    ensures none { (other : ℕ) → page ≤ other → other < page + result → look 3 nodes.now.slots (Some root) other ≡ None }
-    ensures end { page < 2 ^ 20 → page + result ≤ 2 ^ 20 }
-{
-    let Some(upper) = nodes[root].child(page / 32_768 % 32) else {
-        return 32_768 - page % 32_768;
-    };
-    let Some(lower) = nodes[upper].child(page / 1024 % 32) else {
-        return 1024 - page % 1024;
-    };
-    let Some(_leaf) = nodes[lower].child(page / 32 % 32) else {
-        return 32 - page % 32;
-    };
-    0
 }

@@ -25,6 +25,7 @@ use Rattle.height_store.specs.Store.{StoredHeight, height_at, heights_in}
 use Rattle.height_store.specs.KnownLaws.{kept_known}
 use Rattle.whole_state.specs.Whole.{whole}
 use Rattle.height_store.specs.Known.{KnowsHeight}
+use Rattle.script_text.specs.Commands.{IsCommand}
 use Rattle.script_text.specs.declared.command.Command.{Command}
 use Rattle.script_text.specs.declared.command.Command.TheVariants as commands
 use Rattle.script_text.specs.declared.command.HeightOrLive.{HeightOrLive}
@@ -92,7 +93,7 @@ failed_line tells held before after result command failed over looks =
 
 -- a line that needs no disk
 module _ (tells : Bool) (old now : Held) (view : DiskView) (command : Command) (over : IsTrue tells → IsOver old.store view.state.files) (store : now.store ≡ old.store) (same : now.stopped ≡ old.stopped)
-    (free : (m : Machine) → appends m command ≡ 0) where
+    (free : (m : Machine) → appends m command ≡ 0) (good : IsCommand command) where
   pub apart_line : (result : Result Reply StoreError) → ((m : Machine) → KeepsStates old m → IfOk result (λ reply. Performs (Ok reply) now m command)) → DoesLine tells old now view view result command
   apart_line result performs = record {
     reply = λ told m k. answers result m k (performs m k.states);
@@ -107,7 +108,7 @@ module _ (tells : Bool) (old now : Held) (view : DiskView) (command : Command) (
       answers (Ok reply) m k h = (
         h.0,
         record {
-          sound = step_keeps m command k.sound;
+          sound = step_keeps m command good k.sound;
           states = h.1;
           over = rw store k.over;
           settled = k.settled;
@@ -264,7 +265,7 @@ module _ (tells : Bool) (old now : Held) (before after : DiskView) (a : HeldStat
         let heights : KeepsHeights now.store.heights after.state (m.published ++ whole kk.0.0 kk.0.1 ∷ []) = subst (λ (h : ℕ). KeepsHeights now.store.heights after.state (m.published ++ whole h kk.0.1 ∷ [])) kk.2.height stands.1 in
         let does = checkpoints tells old before m a last k.states low few in
         let keeps : Keeps now after.state (published_with m kk.0) = record {
-          sound = subst (λ (o : Outcome). IsSoundMachine o.after) does (step_keeps m commands.Checkpoint k.sound);
+          sound = subst (λ (o : Outcome). IsSoundMachine o.after) does (step_keeps m commands.Checkpoint (record { form = tt; types = tt }) k.sound);
           states = record {
             usable = rw closed k.states.usable;
             live = rw live (live_beside old.live m (published_with m kk.0) refl refl k.states.live);

@@ -65,7 +65,7 @@ module _ {T : Type 0} (tells : Bool) (old now : Held) (before after : DiskView) 
   refuses reason same does is =
       subst (λ (v : DiskView). DoesLine tells old now before v reply (commands.Purge height)) (sym same.1)
       (subst (λ (x : Result Reply StoreError). DoesLine tells old now before before x (commands.Purge height)) (sym is)
-      (apart_line tells old now before (commands.Purge height) over same.0 closed (λ m. refl) (Ok (replies.Refused reason))
+      (apart_line tells old now before (commands.Purge height) over same.0 closed (λ m. refl) (record { form = tt; types = tt }) (Ok (replies.Refused reason))
       (λ m k.
       let states : KeepsStates now m = record { usable = closed ∙ k.usable; live = rw live k.live; memory = rw memory k.memory; published = rw same.0 k.published } in
       subst (λ (o : Outcome). (replies.Refused reason ≡ o.reply) × KeepsStates now o.after × (o.after.published ≡ m.published)) (sym (does m k)) (refl, states, refl))))
@@ -132,7 +132,7 @@ module _ {T : Type 0} (tells : Bool) (old now : Held) (before after : DiskView) 
           let settled = done _ (p.settled told) k.settled in
           let does = does_purge there older m k.states in
           let keeps : Keeps now after.state (without m) = record {
-            sound = subst (λ (o : Outcome). IsSound o.after) does (step_keeps m (commands.Purge height) k.sound);
+            sound = subst (λ (o : Outcome). IsSound o.after) does (step_keeps m (commands.Purge height) (record { form = tt; types = tt }) k.sound);
             states = record {
               usable = closed ∙ k.states.usable;
               live = rw live (live_beside old.live m (without m) refl refl k.states.live);

@@ -36,7 +36,7 @@ use disk_model::Disk;
 use format_spec::{MAX_HEIGHT, MAX_HEIGHTS, MAX_PUBLISHED};
 use height_store::{HeightStore, StoreError};
 use live_state::HeightState;
-use script_text::{Command, HeightOrLive, Numbers, Refusal, Reply};
+use script_text::{Command, HeightOrLive, Refusal, Reply};
 use std::alloc::Global;
 use std::marker::Model;
 use sys_state::{CanisterId, Mem, Path};
@@ -437,6 +437,8 @@ impl Manager {
         ensures line { DoesLine D.tells self.old self.new (D.view disk.old) (D.view disk.new) result command.now }
         ensures cause { StoreCause (D.faults disk.old) (D.faults disk.new) result }
     {
+        // Its contract says what the types of the command's fields hold.
+        command.types();
         if needs_disk(command) {
             return self.perform_on(alloc, command, disk);
         }

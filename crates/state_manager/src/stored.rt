@@ -1,6 +1,6 @@
 //! Published heights, and the lines on them.
 
-ghost use Rattle.std.specs.Prelude.{◌≡◌, ◌≤◌, ◌<◌, ◌==◌, ◌+◌, ◌*◌, nat_le, ℕ, List, [], ◌∷◌, Some, None, length, map, IsTrue, IfOk, is_some, true, false};
+ghost use Rattle.std.specs.Prelude.{◌≡◌, ◌≤◌, ◌<◌, ◌==◌, ◌+◌, ◌*◌, nat_le, List, Some, None, length, map, IsTrue, IfOk, is_some, true, false};
 ghost use Rattle.std.specs.List.{last_or, AllByRecursion, AllZip};
 ghost use Rattle.std.specs.Option.{option_map_or};
 ghost use Rattle.format_spec.specs.declared.limits.TheConstants.{PAGE_SIZE as page_size};

@@ -20,7 +20,7 @@ returns-clause-kept c =
     let none : ℕ → ℕ = λ slot. 0 in
     let looks = looks-insert c.args.nodes.now.slots c.put-node.new.nodes.slots counts hands none c.put-node.result c.requires.shared fresh rest in
     let ids_same = c.make_id.ensures.ids in
-    kept-added c.args.ids.now.slots c.insert_reserved.new.self.slots c.in_ok-id.id (record { node = c.put-node.result; pages = 0 }) a.gone a.here a.rest c.args.nodes.now.slots c.put-node.new.nodes.slots [] c.requires looks (λ other r e. level-rest c.args.nodes.now.slots c.put-node.new.nodes.slots c.put-node.result c.empty.result empty fresh c.put-node.ensures.here rest r.node (kept-live c.args.nodes.now.slots c.args.ids.now.slots other r c.requires e)) (level-empty c.args.nodes.now.slots c.put-node.new.nodes.slots c.put-node.result c.empty.result empty fresh c.put-node.ensures.here rest) (pages-none c.put-node.new.nodes.slots c.put-node.result (looks-empty c.args.nodes.now.slots c.put-node.new.nodes.slots c.put-node.result c.empty.result empty fresh c.put-node.ensures.here rest)) refl counts none (shared-empty c.args.nodes.now.slots c.put-node.new.nodes.slots c.put-node.result c.empty.result empty fresh c.put-node.ensures.here rest counts hands none c.requires.shared) (places-empty c.args.nodes.now.slots c.put-node.new.nodes.slots c.put-node.result c.empty.result empty fresh c.put-node.ensures.here rest) (omega (arith, c.put-node.ensures.len, c.in_ok-make_room.ensures.few)) (rw c.make_id.ensures.ids at c.in_ok-id.ensures.few)
+    kept-added c.args.ids.now.slots c.insert_reserved.new.self.slots c.in_ok-id.id (record { node = c.put-node.result; pages = 0 }) a.gone a.here a.rest c.args.nodes.now.slots c.put-node.new.nodes.slots [] c.requires looks (λ other r e. level-rest c.args.nodes.now.slots c.put-node.new.nodes.slots c.put-node.result c.empty.result 3 (omega arith) empty fresh c.put-node.ensures.here rest r.node (kept-live c.args.nodes.now.slots c.args.ids.now.slots other r c.requires e)) (level-empty c.args.nodes.now.slots c.put-node.new.nodes.slots c.put-node.result c.empty.result 3 (omega arith) empty fresh c.put-node.ensures.here rest) (pages-none c.put-node.new.nodes.slots c.put-node.result (looks-empty c.args.nodes.now.slots c.put-node.new.nodes.slots c.put-node.result c.empty.result 3 (omega arith) empty fresh c.put-node.ensures.here rest)) refl counts none (shared-empty c.args.nodes.now.slots c.put-node.new.nodes.slots c.put-node.result c.empty.result 3 (omega arith) empty fresh c.put-node.ensures.here rest counts hands none c.requires.shared) (places-empty c.args.nodes.now.slots c.put-node.new.nodes.slots c.put-node.result c.empty.result 3 (omega arith) empty fresh c.put-node.ensures.here rest) (omega (arith, c.put-node.ensures.len, c.in_ok-make_room.ensures.few)) (rw c.make_id.ensures.ids at c.in_ok-id.ensures.few)
 
 pub returns-clause-added : goal.returns-clause-added
 returns-clause-added c =
@@ -33,4 +33,4 @@ returns-clause-added c =
     let counts = λ (slot : ℕ). total (slots_in slot) c.args.nodes.now.slots in
     let none : ℕ → ℕ = λ slot. 0 in
     let looks = looks-insert c.args.nodes.now.slots c.put-node.new.nodes.slots counts hands none c.put-node.result c.requires.shared fresh rest in
-    adds-root c.args.ids.now.slots c.insert_reserved.new.self.slots c.in_ok-id.id (record { node = c.put-node.result; pages = 0 }) a.gone a.here a.rest c.args.nodes.now.slots c.put-node.new.nodes.slots [] c.requires looks (λ other r e. level-rest c.args.nodes.now.slots c.put-node.new.nodes.slots c.put-node.result c.empty.result empty fresh c.put-node.ensures.here rest r.node (kept-live c.args.nodes.now.slots c.args.ids.now.slots other r c.requires e)) (level-empty c.args.nodes.now.slots c.put-node.new.nodes.slots c.put-node.result c.empty.result empty fresh c.put-node.ensures.here rest) (pages-none c.put-node.new.nodes.slots c.put-node.result (looks-empty c.args.nodes.now.slots c.put-node.new.nodes.slots c.put-node.result c.empty.result empty fresh c.put-node.ensures.here rest)) refl (held-empty c.args.nodes.now.slots c.put-node.new.nodes.slots c.put-node.result c.empty.result empty fresh c.put-node.ensures.here rest)
+    adds-root c.args.ids.now.slots c.insert_reserved.new.self.slots c.in_ok-id.id (record { node = c.put-node.result; pages = 0 }) a.gone a.here a.rest c.args.nodes.now.slots c.put-node.new.nodes.slots [] c.requires looks (λ other r e. level-rest c.args.nodes.now.slots c.put-node.new.nodes.slots c.put-node.result c.empty.result 3 (omega arith) empty fresh c.put-node.ensures.here rest r.node (kept-live c.args.nodes.now.slots c.args.ids.now.slots other r c.requires e)) (level-empty c.args.nodes.now.slots c.put-node.new.nodes.slots c.put-node.result c.empty.result 3 (omega arith) empty fresh c.put-node.ensures.here rest) (pages-none c.put-node.new.nodes.slots c.put-node.result (looks-empty c.args.nodes.now.slots c.put-node.new.nodes.slots c.put-node.result c.empty.result 3 (omega arith) empty fresh c.put-node.ensures.here rest)) refl (held-empty c.args.nodes.now.slots c.put-node.new.nodes.slots c.put-node.result c.empty.result 3 (omega arith) empty fresh c.put-node.ensures.here rest)

@@ -4,7 +4,9 @@ use Rattle.page_delta.specs.Delta.{Holds}
 use Rattle.page_delta.specs.declared.entry.Entry.{Entry}
 use Rattle.page_delta.proofs.Seen.{held-seen, seen-held, seen-unchanged}
 use Rattle.page_delta.proofs.Calls.{slot-free, held-new, sets}
+use Rattle.page_delta.proofs.Sharing.{not-some}
 use Rattle.page_delta.proofs.Places.{stands-free}
+use Rattle.page_delta.proofs.OwnPages.{own-found}
 use Rattle.page_delta.proofs.InPlace.{kept-in-place, held-in-place, sets-in-place}
 use Rattle.page_delta.proofs.deltas.Deltas.set.Goals as goal
 
@@ -15,19 +17,19 @@ pub invariant_of-self : goal.invariant_of-self
 invariant_of-self c =
     let h0 = held-seen c.self.inside.nodes.slots c.self.inside.ids.slots c.args.pool.now (subst (λ d. Holds c.args.pool.now d) (sym c.self.view_is) c.requires.holds) in
     let entry : Entry = record { slot = c.in-Some.own.slot; stamp = c.args.stamp } in
-    kept-in-place c.self.inside.nodes.slots c.self.inside.ids.slots c.args.pool.now c.id.inside.0 c.args.page c.in-Some.own.leaf c.in-Some.own.slot c.self.invariant h0 c.requires.page c.in-Some.ensures c.place.new.nodes.slots entry c.args.bytes.now refl c.place.ensures.now c.place.ensures.rest (omega (arith, c.place.ensures.grows.len, c.self.invariant.few_nodes))
+    kept-in-place c.self.inside.nodes.slots c.self.inside.ids.slots c.args.pool.now c.id.inside.0 c.args.page c.in-Some.own.leaf c.in-Some.own.slot c.self.invariant h0 c.requires.page c.in-Some.ensures.own c.place.new.nodes.slots entry c.args.bytes.now refl c.place.ensures.now c.place.ensures.rest (omega (arith, c.place.ensures.grows.len, c.self.invariant.few_nodes))
 
 pub returns-in-Some-clause-set : goal.returns-in-Some-clause-set
 returns-in-Some-clause-set c =
     let h0 = held-seen c.self.inside.nodes.slots c.self.inside.ids.slots c.args.pool.now (subst (λ d. Holds c.args.pool.now d) (sym c.self.view_is) c.requires.holds) in
     let entry : Entry = record { slot = c.in-Some.own.slot; stamp = c.args.stamp } in
-    rw (← c.self.view_is, ← c.id.view_is) (sets-in-place c.self.inside.nodes.slots c.self.inside.ids.slots c.args.pool.now c.id.inside.0 c.args.page c.in-Some.own.leaf c.in-Some.own.slot c.self.invariant h0 c.requires.page c.in-Some.ensures c.place.new.nodes.slots entry c.args.bytes.now refl c.place.ensures.now c.place.ensures.rest (omega (arith, c.place.ensures.grows.len, c.self.invariant.few_nodes)))
+    rw (← c.self.view_is, ← c.id.view_is) (sets-in-place c.self.inside.nodes.slots c.self.inside.ids.slots c.args.pool.now c.id.inside.0 c.args.page c.in-Some.own.leaf c.in-Some.own.slot c.self.invariant h0 c.requires.page c.in-Some.ensures.own c.place.new.nodes.slots entry c.args.bytes.now refl c.place.ensures.now c.place.ensures.rest (omega (arith, c.place.ensures.grows.len, c.self.invariant.few_nodes)))
 
 pub returns-in-Some-clause-holds : goal.returns-in-Some-clause-holds
 returns-in-Some-clause-holds c =
     let h0 = held-seen c.self.inside.nodes.slots c.self.inside.ids.slots c.args.pool.now (subst (λ d. Holds c.args.pool.now d) (sym c.self.view_is) c.requires.holds) in
     let entry : Entry = record { slot = c.in-Some.own.slot; stamp = c.args.stamp } in
-    seen-held c.place.new.nodes.slots c.self.inside.ids.slots (with_bytes c.args.pool.now c.in-Some.own.slot c.args.bytes.now) (kept-in-place c.self.inside.nodes.slots c.self.inside.ids.slots c.args.pool.now c.id.inside.0 c.args.page c.in-Some.own.leaf c.in-Some.own.slot c.self.invariant h0 c.requires.page c.in-Some.ensures c.place.new.nodes.slots entry c.args.bytes.now refl c.place.ensures.now c.place.ensures.rest (omega (arith, c.place.ensures.grows.len, c.self.invariant.few_nodes))) (held-in-place c.self.inside.nodes.slots c.self.inside.ids.slots c.args.pool.now c.id.inside.0 c.args.page c.in-Some.own.leaf c.in-Some.own.slot c.self.invariant h0 c.requires.page c.in-Some.ensures c.place.new.nodes.slots entry c.args.bytes.now refl c.place.ensures.now c.place.ensures.rest (omega (arith, c.place.ensures.grows.len, c.self.invariant.few_nodes)))
+    seen-held c.place.new.nodes.slots c.self.inside.ids.slots (with_bytes c.args.pool.now c.in-Some.own.slot c.args.bytes.now) (kept-in-place c.self.inside.nodes.slots c.self.inside.ids.slots c.args.pool.now c.id.inside.0 c.args.page c.in-Some.own.leaf c.in-Some.own.slot c.self.invariant h0 c.requires.page c.in-Some.ensures.own c.place.new.nodes.slots entry c.args.bytes.now refl c.place.ensures.now c.place.ensures.rest (omega (arith, c.place.ensures.grows.len, c.self.invariant.few_nodes))) (held-in-place c.self.inside.nodes.slots c.self.inside.ids.slots c.args.pool.now c.id.inside.0 c.args.page c.in-Some.own.leaf c.in-Some.own.slot c.self.invariant h0 c.requires.page c.in-Some.ensures.own c.place.new.nodes.slots entry c.args.bytes.now refl c.place.ensures.now c.place.ensures.rest (omega (arith, c.place.ensures.grows.len, c.self.invariant.few_nodes)))
 
 pub put_entry-requires-clause-held : goal.put_entry-requires-clause-held
 put_entry-requires-clause-held c =
@@ -59,3 +61,13 @@ pub returns-in_err-reserve-clause-holds : goal.returns-in_err-reserve-clause-hol
 returns-in_err-reserve-clause-holds c =
     let same = seen-unchanged c.self.inside.nodes.slots c.make_room.new.nodes.slots c.self.inside.ids.slots c.self.inside.ids.slots c.args.pool.now c.make_room.ensures.nodes refl (subst (λ d. Holds c.args.pool.now d) (sym c.self.view_is) c.requires.holds) in
     rw c.in_err-reserve.ensures.err same
+
+pub returns-in_err-make_room-clause-own : goal.returns-in_err-make_room-clause-own
+returns-in_err-make_room-clause-own c = λ own.
+    let p = own-found c.self.inside.nodes.slots c.self.inside.ids.slots c.args.pool.now c.args.self.now c.id.inside.0 c.args.id c.args.page c.self.view_is c.id.view_is c.self.invariant c.requires.holds c.requires.page own in
+    absurd (not-some c.own_place.result c.in_default.is (c.own_place.ensures.some p.0 p.1 p.2))
+
+pub returns-in_err-reserve-clause-own : goal.returns-in_err-reserve-clause-own
+returns-in_err-reserve-clause-own c = λ own.
+    let p = own-found c.self.inside.nodes.slots c.self.inside.ids.slots c.args.pool.now c.args.self.now c.id.inside.0 c.args.id c.args.page c.self.view_is c.id.view_is c.self.invariant c.requires.holds c.requires.page own in
+    absurd (not-some c.own_place.result c.in_default.is (c.own_place.ensures.some p.0 p.1 p.2))

@@ -18,9 +18,9 @@ returns-clause-usable g c = (refl, c.in_ok-store.ensures.next.0)
 
 pub returns-clause-kept : goal.returns-clause-kept
 returns-clause-kept g c = λ told ps each stands.
-    let looks = c.begin.ensures.looks told in
+    let looks = (c.begin.ensures.looks told) in
     opens_keeping _ (g.D.Disk.view c.open.new.disk).state _ ps looks.state (g.met.D.Disk.reads_as_image c.begin.new.disk told) refl c.new.ensures.items (c.in_ok-store.ensures.over told) (c.in_ok-store.ensures.settled told) (c.in_ok-store.ensures.stands told ps each stands)
-    (g.met.D.Disk.reads_as_image c.open.new.disk told) (λ shown. c.in_ok-live.ensures.state told ps shown) (standing_heights (g.D.Disk.view c.args.disk.now).state.files ps stands)
+    (g.met.D.Disk.reads_as_image c.open.new.disk told) (λ shown. c.in_ok-live.ensures.state told ps shown) (standing_heights (g.D.Disk.view c.args.disk.now).state.files ps (g.met.D.Disk.holds_bytes c.args.disk.now told).files stands)
 
 pub returns-in_err-live-clause-marks : goal.returns-in_err-live-clause-marks
 returns-in_err-live-clause-marks g c = λ told n. ap (λ (s : DiskState). s.files (name.Mark n)) (c.begin.ensures.looks told).state ∙ c.open.ensures.marks told n
