@@ -32,7 +32,8 @@ pub fn chunk_hashes(alloc: Global, bytes: &[u8]) -> Result<Vec<Hash32>, NoMemory
 // Adds the hashes of eight chunks, or of those that are left.
 fn add_group(hashes: &mut Vec<Hash32>, bytes: &[u8], first: usize) -> Result<(), NoMemory>
     requires { first < part_count chunk_size (length bytes.now) }
-    ensures { OnOk result (HasFirst hashes.old.items bytes.now first → HasFirst hashes.new.items bytes.now (min (first + 8) (part_count chunk_size (length bytes.now)))) }
+    ensures { OnOk result (HasFirst hashes.old.items bytes.now first
+        → HasFirst hashes.new.items bytes.now (min (first + 8) (part_count chunk_size (length bytes.now)))) }
 {
     let left = bytes.len() - CHUNK_SIZE * first;
     let last = first + left.div_ceil(CHUNK_SIZE).min(LANES);
