@@ -4,14 +4,15 @@ use Rattle.format_spec.specs.Bytes.{Bytes}
 use Rattle.format_spec.specs.declared.limits.TheConstants.{PAGE_SIZE}
 use Rattle.manifest.specs.Fits.{FitMemories}
 use Rattle.manifest.specs.declared.counts.Counts.{Counts}
-use Rattle.manifest.specs.Counts.{counts_in}
+use Rattle.manifest.specs.Counts.{counts_by, counts_in}
+use Rattle.manifest.proofs.Counting.{by_state}
 use Rattle.format_spec.specs.Hashes.{piece_hash}
 use Rattle.std.proofs.lemmas.List.{length-map}
 use Rattle.state_spec.specs.Files.{memories_in}
 use Rattle.state_spec.specs.Manifest.{Manifest, manifest_of}
 use Rattle.state_spec.specs.ManifestText.{manifest_text}
 use Rattle.state_spec.specs.Root.{MetaManifest, meta_of, pieces_of, root_of, root_of_meta}
-use Rattle.state_spec.specs.State.{State, memory_bytes}
+use Rattle.state_spec.specs.State.{State, SystemPart, memory_bytes}
 use Rattle.script_text.specs.declared.reply.Reply.TheVariants as replies
 use Rattle.machine_spec.specs.HeightSteps.{counts_of, tree_root}
 use Rattle.machine_spec.specs.WitnessSteps.{witness_text}
@@ -40,11 +41,6 @@ pub root_is : (s : State) (man : Manifest) (meta : MetaManifest) (r : Bytes) →
 unfolding root_of
 root_is s man meta r a b c = c ∙ ap root_of_meta (b ∙ ap meta_of a)
 
-pub counts_are : (s : State) (man : Manifest) (meta : MetaManifest) (text : Bytes) → man ≡ manifest_of s → meta ≡ meta_of man → text ≡ manifest_text man
-    → replies.Manifest (length man.files) (length man.chunks) (length meta.pieces) (length text) ≡ counts_of s
-unfolding counts_of
-counts_are s man meta text a b c = rw (c, b, a) refl
-
 pub sizes_are : (s : State) (c : Counts) → c ≡ counts_in (manifest_of s) → replies.Manifest c.files c.chunks c.pieces c.bytes ≡ counts_of s
 unfolding counts_of meta_of
 sizes_are s c is =
@@ -63,10 +59,13 @@ witness_text_is s paths w text a b = a ∙ ap cbor b
 pub parts_kept : (held : HeldState) (system : System) (k : ℕ × State) → KeepsState held k → system ≡ held.system → system_of k.1 ≡ part_of system
 parts_kept held system k keeps is = sym (ap part_of (is ∙ keeps.system) ∙ parts_of_state k.1)
 
-pub counts_kept : (held inside : HeldState) (k : ℕ × State) (c : Counts) → inside ≡ held → KeepsState held k → HaveSizes inside.system.canisters inside.memories
-    → ((s : State) → s.version ≡ 1 → kept_of s ≡ inside.system → FitMemories (part_of inside.system) (memory_bytes s) → c ≡ counts_in (manifest_of s))
-    → replies.Manifest c.files c.chunks c.pieces c.bytes ≡ counts_of k.1
-counts_kept held inside k c view keeps sizes is =
-    let system : kept_of k.1 ≡ inside.system = sym (ap (λ (h : HeldState). h.system) view ∙ keeps.system) in
-    let fit = subst (FitMemories (part_of inside.system)) (ap (λ (h : HeldState). h.memories) view ∙ keeps.memories) (fit_memories inside.system inside.memories sizes) in
-    sizes_are k.1 c (is k.1 keeps.version system fit)
+pub fit_kept : (held inside : HeldState) (k : ℕ × State) → inside ≡ held → KeepsState held k → HaveSizes inside.system.canisters inside.memories → FitMemories (part_of inside.system) (memory_bytes k.1)
+fit_kept held inside k view keeps sizes =
+    subst (FitMemories (part_of inside.system)) (ap (λ (h : HeldState). h.memories) view ∙ keeps.memories) (fit_memories inside.system inside.memories sizes)
+
+-- counts by sizes are those of the state's manifest
+pub counted : (s : State) (sys : System) (c : Counts) → s.version ≡ 1 → system_of s ≡ part_of sys → FitMemories (part_of sys) (memory_bytes s) → c ≡ counts_by (part_of sys)
+    → replies.Manifest c.files c.chunks c.pieces c.bytes ≡ counts_of s
+counted s sys c one parts fit is =
+    let same : part_of (kept_of s) ≡ part_of sys = parts_of_state s ∙ parts in
+    sizes_are s c (is ∙ ap counts_by (sym same) ∙ by_state s (kept_of s) one refl (subst (λ (p : SystemPart). FitMemories p (memory_bytes s)) (sym same) fit))

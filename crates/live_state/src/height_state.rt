@@ -1,10 +1,11 @@
 //! A state at its height, and the lines on it.
 
-ghost use Rattle.std.specs.Prelude.{◌≡◌, ◌≤◌, ◌<◌, ◌+◌, ◌-◌, ◌^◌, ℕ, [], length, map, IsTrue, IfOk, IfSome};
+ghost use Rattle.std.specs.Prelude.{◌≡◌, ◌≤◌, ◌<◌, ◌+◌, ◌-◌, ◌^◌, ℕ, length, map, IfOk, IfSome};
 ghost use Rattle.format_spec.specs.declared.limits.TheConstants.{MAX_MODULE, MAX_CERTIFIED, MAX_VALUE};
 ghost use Rattle.state_spec.specs.Manifest.{manifest_of};
 ghost use Rattle.state_spec.specs.Root.{root_of};
-ghost use Rattle.state_spec.specs.State.{State, system_of};
+ghost use Rattle.state_spec.specs.State.{State, memory_bytes, system_of};
+ghost use Rattle.state_spec.specs.SystemText.{system_text};
 ghost use Rattle.sys_state.specs.System.{part_of};
 ghost use Rattle.tree_spec.specs.Labelled.{state_tree};
 ghost use Rattle.manifest.specs.Fits.{FitMemories, FitsText};
@@ -226,13 +227,7 @@ impl HeightState {
         ensures { (k : ℕ × State) → KeepsState self.now k → IfOk result (λ reply. reply ≡ counts_of k.1) }
     {
         let system = self.sys.encode(alloc)?;
-        let counts = count(system.bytes(), &self.sys);
-        Ok(Reply::Manifest {
-            files: counts.files,
-            chunks: counts.chunks,
-            pieces: counts.pieces,
-            bytes: counts.bytes,
-        })
+        Ok(manifest_counts(system.bytes(), &self.sys))
     }
 
     /// The height, 1 or above.
@@ -345,17 +340,16 @@ fn witness_in(
     to_cbor(alloc, &shown)
 }
 
-/// What the manifest of a state counts.
-pub fn count_manifest(alloc: Global, manifest: &Manifest) -> Result<Reply, NoMemory>
-    requires { FitsText manifest.now }
-    ensures { (s : State) → manifest.now ≡ manifest_of s → IfOk result (λ reply. reply ≡ counts_of s) }
+/// What the manifest of a state with these parts counts, by the sizes of its memories. It hashes nothing and takes no memory.
+pub fn manifest_counts(system: &[u8], sys: &SysState) -> Reply
+    requires { system.now ≡ system_text (part_of sys.now) }
+    ensures { (s : State) → s.version ≡ 1 → system_of s ≡ part_of sys.now → FitMemories (part_of sys.now) (memory_bytes s) → result ≡ counts_of s }
 {
-    let meta = manifest.meta(alloc)?;
-    let text = manifest.encode(alloc)?;
-    Ok(Reply::Manifest {
-        files: manifest.files.len() as u32,
-        chunks: manifest.chunks.len() as u32,
-        pieces: meta.pieces.len() as u32,
-        bytes: text.bytes().len() as u64,
-    })
+    let counts = count(system, sys);
+    Reply::Manifest {
+        files: counts.files,
+        chunks: counts.chunks,
+        pieces: counts.pieces,
+        bytes: counts.bytes,
+    }
 }

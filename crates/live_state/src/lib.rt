@@ -6,4 +6,4 @@ mod height_state;
 mod memories;
 mod refusals;
 
-pub use height_state::{HeightState, count_manifest, memory_index, tree_root_of, witness_of};
+pub use height_state::{HeightState, manifest_counts, memory_index, tree_root_of, witness_of};

@@ -2,7 +2,7 @@ pub mod AtHeights
 pub mod Checked
 pub mod DiskLines
 pub mod Onward
-pub mod Publishing
+pub mod PublishedState
 pub mod Purging
 pub mod ReadHeights
 pub mod Spending

@@ -244,7 +244,7 @@ impl Manager {
         ensures { (m : Machine) → KeepsStates self.now m → Performs result self.now m (Command.Manifest at) }
     {
         if let Some(height) = self.published_at(at) {
-            return count_published(alloc, &self.store, height);
+            return Ok(count_published(&self.store, height));
         }
         match self.state_at(at) {
             Some(state) => state.count_manifest(alloc),

@@ -22,8 +22,8 @@ ghost use Rattle.live_state.specs.StateKept.{KeepsState, live_of};
 use byte_codec::NoMemory;
 use disk_model::Disk;
 use format_spec::PAGE_SIZE;
-use height_store::{HeightStore, StoreError, manifest_at, read_bytes, read_memories};
-use live_state::{HeightState, count_manifest, memory_index, tree_root_of, witness_of};
+use height_store::{HeightStore, StoreError, read_bytes, read_memories};
+use live_state::{HeightState, manifest_counts, memory_index, tree_root_of, witness_of};
 use script_text::{Numbers, Refusal, Reply};
 use std::alloc::Global;
 use sys_state::{CanisterId, Mem, Path};
@@ -159,15 +159,15 @@ pub fn root_published(store: &HeightStore, height: u64) -> Reply
     Reply::Root(mark.root)
 }
 
-/// `manifest H` at a published height, by its mark.
-pub fn count_published(alloc: Global, store: &HeightStore, height: u64) -> Result<Reply, NoMemory>
+/// `manifest H` at a published height, by its mark. It hashes nothing.
+pub fn count_published(store: &HeightStore, height: u64) -> Reply
     requires { is_some (height_at store.now.heights height) ≡ true }
-    ensures { (h : StoredHeight) (p : Published) → height_at store.now.heights height ≡ Some h → KnowsHeight h p → IfOk result (λ reply. reply ≡ counts_of p.state) }
+    ensures { (h : StoredHeight) (p : Published) → height_at store.now.heights height ≡ Some h → KnowsHeight h p → result ≡ counts_of p.state }
 {
-    let Some(manifest) = manifest_at(alloc, store, height)? else {
+    let (Some(mark), Some(sys)) = (store.mark(height), store.sys(height)) else {
         unreachable!();
     };
-    count_manifest(alloc, &manifest)
+    manifest_counts(mark.system.bytes(), sys)
 }
 
 /// `tree H` at a published height.

@@ -8,7 +8,7 @@ use Rattle.sys_state.specs.System.{System, part_of}
 use Rattle.height_store.specs.Laws.{over_after}
 use Rattle.whole_state.specs.Whole.{HasParts}
 use Rattle.live_state.specs.StateKept.{KeepsState}
-use Rattle.state_manager.proofs.Publishing.{has_parts, on_ok_both, on_ok_given, written_bytes}
+use Rattle.state_manager.proofs.PublishedState.{has_parts, on_ok_both, on_ok_given, written_bytes}
 use Rattle.state_manager.proofs.publishing.publish.Goals as goal
 
 pub checkpoint-requires-clause-fit : goal.checkpoint-requires-clause-fit
