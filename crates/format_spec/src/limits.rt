@@ -2,6 +2,9 @@
 
 /// Bytes in a page of memory.
 pub const PAGE_SIZE: usize = 4096;
+/// The bytes of a page.
+pub type PageBytes = [u8; PAGE_SIZE];
+
 /// Pages in a chunk.
 pub const CHUNK_PAGES: usize = 256;
 /// Pages that one step of a job writes.

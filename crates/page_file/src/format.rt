@@ -8,9 +8,6 @@ use byte_codec::{NoMemory, Writer};
 use format_spec::{INDEX_HEAD, INDEX_RANGE, MAX_MEMORY_PAGES, PAGE_SIZE};
 use std::alloc::Global;
 
-/// The bytes of a page.
-pub type PageBytes = [u8; PAGE_SIZE];
-
 /// What the header of a page file says: the pages of the memory, and how many ranges and pages the file has.
 #[derive(Clone, Copy, Debug, PartialEq, Eq)]
 pub struct Header {

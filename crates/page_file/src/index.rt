@@ -4,10 +4,10 @@ ghost use Rattle.format_spec.specs.declared.limits.TheConstants.{PAGE_SIZE, INDE
 ghost use Rattle.page_spec.specs.PageFile.{IsIndex, index_text, index_length};
 ghost use Rattle.page_file.specs.Index.{are_counts, ReadsIndex};
 
-use crate::format::{Header, PageBytes};
+use crate::format::Header;
 use crate::range::{Range, begun_by, pages_in, push_pages, read_ranges, write_ranges};
 use byte_codec::{Blob, NoMemory, Writer};
-use format_spec::{INDEX_HEAD, INDEX_RANGE, PAGE_SIZE};
+use format_spec::{INDEX_HEAD, INDEX_RANGE, PAGE_SIZE, PageBytes};
 use std::alloc::{AllocFailed, Global};
 use std::marker::Model;
 use std::rc::Rc;

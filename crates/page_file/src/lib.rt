@@ -11,7 +11,7 @@ mod writer;
 
 pub use error::PageError;
 pub use file::PageFile;
-pub use format::PageBytes;
+pub use format_spec::PageBytes;
 pub use index::FileIndex;
 pub use laws::{a_page_reads_as_one, open_has_one_answer};
 pub use writer::PageWriter;

@@ -6,5 +6,6 @@ mod slot;
 #[cfg(test)]
 mod tests;
 
+pub use format_spec::PageBytes;
 pub use pool::PagePool;
-pub use slot::{PageBytes, SlotId};
+pub use slot::SlotId;

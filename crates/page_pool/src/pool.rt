@@ -4,8 +4,9 @@ ghost use Rattle.std.specs.Prelude.{◌≡◌, ◌≢◌, ◌+◌, ◌-◌, ◌^
 ghost use Rattle.std.specs.Borrow.{sem};
 ghost use Rattle.page_pool.specs.Pool.{page_at, used_in, IsLive, count_at, bytes_at, with_count, with_new, with_free, with_room, IsCopied};
 
-use crate::slot::{PageBytes, Slot, SlotId};
+use crate::slot::{Slot, SlotId};
 use byte_codec::NoMemory;
+use format_spec::PageBytes;
 use std::alloc::Global;
 use std::marker::Model;
 

@@ -1,9 +1,7 @@
 //! A slot, which has a page or is free.
 
+use format_spec::PageBytes;
 use std::marker::Model;
-
-/// The bytes of a page.
-pub type PageBytes = [u8; 4096];
 
 /// A slot of a pool.
 #[derive(Clone, Copy, Debug, PartialEq, Eq, Drop)]

@@ -1,12 +1,12 @@
 -- What is written of a state whose memories are written whole: a page file of all pages for each, and the mark.
 use Rattle.std.specs.Prelude.{ℕ, ◌+◌, ◌==◌, if◌then◌else◌, List, length, map, sum_by}
 use Rattle.format_spec.specs.Bytes.{Bytes, part_count}
-use Rattle.format_spec.specs.declared.limits.TheConstants.{CHUNK_SIZE}
+use Rattle.format_spec.specs.declared.limits.TheConstants.{CHUNK_SIZE, INDEX_HEAD, INDEX_RANGE}
 use Rattle.store_spec.specs.Mark.{mark_length}
 
 -- the page file of a memory: a header, one range and its pages; none for no pages
 abbrev pub file_bytes : Bytes → ℕ
-file_bytes memory = if length memory == 0 then 0 else 32 + 12 + length memory
+file_bytes memory = if length memory == 0 then 0 else INDEX_HEAD + INDEX_RANGE + length memory
 
 -- the layers and the hashes that the mark has of a memory
 abbrev pub whole_counts : Bytes → ℕ × ℕ
