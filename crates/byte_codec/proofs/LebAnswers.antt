@@ -1,5 +1,5 @@
 -- A text has one answer of `leb_read`.
-use Rattle.std.proofs.Common.{◌≡◌, ℕ, zero, suc, ◌+◌, ◌*◌, ◌/◌, ◌%◌, ◌^◌, ◌<◌, ◌≤◌, [], ◌∷◌, ◌++◌, length, take, drop, refl, sym, ap, ◌∙◌, append_assoc, arith, inl, inr, Result, Ok, Err}
+use Rattle.std.proofs.Common.{◌≡◌, ℕ, zero, suc, ◌+◌, ◌/◌, ◌%◌, ◌^◌, ◌<◌, ◌≤◌, [], ◌∷◌, ◌++◌, length, take, drop, refl, sym, ap, ◌∙◌, append_assoc, arith, inl, inr, Result, Ok, Err}
 use Rattle.std.proofs.lemmas.Bool.{cases_lt}
 use Rattle.std.proofs.lemmas.List.{take-append-drop, append-nil}
 use Rattle.format_spec.specs.Bytes.{Bytes, leb, leb_within}
@@ -7,7 +7,7 @@ use Rattle.format_spec.specs.Fields.{Cursor}
 use Rattle.byte_codec.specs.declared.error.LebError.{LebError}
 use Rattle.byte_codec.specs.declared.error.LebError.TheVariants.{Short, Long}
 use Rattle.byte_codec.specs.Leb.{leb_limit, IsCutLeb, IsNoLeb, ReadsLeb}
-use Rattle.byte_codec.proofs.LebSteps.{within_last, within_more, limit_more}
+use Rattle.byte_codec.proofs.LebSteps.{within_last, within_more}
 
 same_head : (a b : ℕ) (s t : Bytes) → a ∷ s ≡ b ∷ t → (a ≡ b) × (s ≡ t)
 same_head a b s t e = (cc, cc)

@@ -84,19 +84,6 @@ front_ends (suc (suc k)) [] some none = (1, 1 ∷ [], omega arith, large k, refl
     large (suc k) = let h = large k in omega arith
 front_ends k (b ∷ s) some none = absurd (omega arith)
 
--- the spelling behind the first byte, and all of it
-pub front_more : (k high size : ℕ) (s : Bytes) → 1 ≤ k → 1 ≤ length s → 128 ≤ slice_index s 0 → slice_index s 0 < 256 → 1 ≤ high
-    → FindsLeb k (drop 1 s) (Ok (high, size)) → FindsLeb (suc k) s (Ok (high * 128 + (slice_index s 0 - 128), size + 1))
-front_more k high size [] some full large byte more found = absurd (omega arith)
-front_more k high size (b ∷ s) some full large byte more found =
-    let limit = limit_more k some in
-    let below : high < leb_limit k = found.0 in
-    let one : size + 1 ≡ suc size = omega arith in (
-      omega arith,
-      (let short : size ≤ length s = found.1 in omega arith),
-      rw one (within_parts k high b more large byte ∙ ap (λ (t : Bytes). b ∷ t) found.2),
-    )
-
 -- no spelling has 0 behind a byte with its high bit set
 pub front_zero : (k size : ℕ) (s : Bytes) → 1 ≤ k → 1 ≤ length s → 128 ≤ slice_index s 0
     → FindsLeb k (drop 1 s) (Ok (0, size)) → FindsLeb (suc k) s (Err Long)

@@ -51,14 +51,29 @@ fn make_folder<R: Files>(rt: &R, path: &str) -> io::Result<()> {
     sync_folder(rt, parent_of(path))
 }
 
+// The folder on the way to a path, or at its end, whose own path ends at this byte. `None` where none does.
+fn folder_ending(path: &str, end: usize) -> Option<&str> {
+    match path.split_at_checked(end) {
+        Some((folder, rest)) if rest.is_empty() || rest.starts_with('/') => Some(folder),
+        _ => None,
+    }
+}
+
 // Makes the folders of a path that are missing, the outermost first.
 fn make_folders<R: Files>(rt: &R, path: &str) -> io::Result<()> {
     for end in 1..=path.len() {
-        match path.split_at_checked(end) {
-            Some((folder, rest)) if rest.is_empty() || rest.starts_with('/') => {
-                make_folder(rt, folder)?;
-            }
-            _ => {}
+        if let Some(folder) = folder_ending(path, end) {
+            make_folder(rt, folder)?;
+        }
+    }
+    Ok(())
+}
+
+// Makes the names of all folders of a path durable, whoever made them: their maker may have been killed before it synced.
+fn sync_names<R: Files>(rt: &R, path: &str) -> io::Result<()> {
+    for end in 1..=path.len() {
+        if let Some(folder) = folder_ending(path, end) {
+            sync_folder(rt, parent_of(folder))?;
         }
     }
     Ok(())
@@ -107,7 +122,8 @@ impl<R: Files + Drop> Folder<R> {
         }
     }
 
-    /// Makes the folders that are missing, takes the lock, and syncs each folder and the one that they are in. Fault where another disk has the lock.
+    /// Makes the folders that are missing, takes the lock, and syncs each folder, the one that they are in, and all on the way to that.
+    /// Fault where another disk has the lock.
     pub fn settle(&mut self, alloc: Global) -> Result<(), DiskError>
     where
         R::File: Lock,
@@ -123,7 +139,7 @@ impl<R: Files + Drop> Folder<R> {
             fault(sync_folder(&self.rt, folder))?;
         }
         fault(sync_folder(&self.rt, folder_at(&self.path)))?;
-        fault(sync_folder(&self.rt, parent_of(&self.path)))
+        fault(sync_names(&self.rt, &self.path))
     }
 
     /// The numbers of the files of a kind, ascending.

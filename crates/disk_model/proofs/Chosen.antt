@@ -1,6 +1,7 @@
 -- The image that a disk in memory makes is the one of its choice, and one that a crash may leave.
 use Rattle.std.proofs.Common.{◌≡◌, ℕ, Bool, true, false, ◌||◌, ◌&&◌, ◌==◌, ◌/◌, ◌%◌, List, [], ◌∷◌, ◌++◌, map, is_some, Option, None, unwrap_or, if◌then◌else◌, refl, inl, inr, sym, ◌∙◌, ap, subst, cond}
 use Rattle.std.proofs.lemmas.Bool.{cases_Bool}
+use Rattle.format_spec.proofs.Lists.{and_false}
 use Rattle.disk_model.specs.declared.name.Name.{Name}
 use Rattle.disk_model.specs.declared.event.Event.{Event}
 use Rattle.disk_model.specs.Files.{Files, same_name, replaced, moved}
@@ -130,10 +131,6 @@ marks_after q was s [] h = h
 marks_after q was s (e ∷ es) h = marks_after q (is_marked q was (call_of e.act) e.done) (after_event s e) es (marks_step q was (call_of e.act) e.done s h)
 
 -- ---- the image
-
-and_false : (a b : Bool) → b ≡ false → (a && b) ≡ false
-and_false true b h = h
-and_false false b h = refl
 
 same_test : (a b there : Bool) → (there ≡ true → a ≡ b) → (a && there) ≡ (b && there)
 same_test a b there h = elim (cases_Bool there) [ inl is ↦ ap (λ (t : Bool). t && there) (h is) | inr not_there ↦ and_false a there not_there ∙ sym (and_false b there not_there) ]

@@ -7,6 +7,7 @@ use Rattle.std.specs.Ordering.{is_eq}
 use Rattle.std.specs.declared.cmp.Ordering.TheVariants.{Less}
 use Rattle.std.specs.declared.alloc.Global.{Global}
 use Rattle.std.proofs.lemmas.Bool.{cases_Bool, false≢true}
+use Rattle.format_spec.proofs.Lists.{and_false}
 use Rattle.disk_model.specs.declared.name.Name.{Name}
 use Rattle.disk_model.specs.declared.event.Event.{Event}
 use Rattle.disk_model.specs.contracts.name.NameOrd.TheImpl.{cmp-value}
@@ -23,10 +24,6 @@ apart a b less = sym (cmp_same a b) ∙ (λ i. is_eq (less i))
 none_after : (q : Name) (es : Entries) → AllByRecursion (λ b. cmp-value.it q b ≡ Less) (keys_of es) → files_in es q ≡ None
 none_after q [] all = refl
 none_after q (e ∷ es) all = rw (apart q e.0 all.0) (none_after q es all.1)
-
-and_false : (a b : Bool) → b ≡ false → (a && b) ≡ false
-and_false true b h = h
-and_false false b h = refl
 
 module _ (how : ℕ) (events : List Event) where
   abbrev loose : Name → Bool

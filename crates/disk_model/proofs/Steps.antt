@@ -75,16 +75,6 @@ module _ (first : Files) (es : List Event) (act : Act) where
   pub wrote_after_failure : (later : List Event) → later ≡ failure → WroteBytes es → IsBytes (bytes_given (call_of act)) → WroteBytes later
   wrote_after_failure later is wrote given = subst WroteBytes (sym is) (wrote_more es _ wrote given)
 
--- a look that failed has looked at nothing
-pub failed_look : (old new : DiskView) (most : ℕ) → Failed look old new → Looks most old new
-failed_look old new most failed = record {
-  state = λ i. record { files = λ q. failed.state.others q refl i; loose = failed.state.loose i; outcomes = failed.state.outcomes i };
-  past = failed.past;
-  appended = omega arith;
-  read_least = omega arith;
-  read_most = omega arith;
-}
-
 -- a look that was done, and read so many bytes
 pub done_look : (old mid new : DiskView) (most : ℕ) → Done look old mid → new.state ≡ mid.state → new.past ≡ mid.past → new.appended ≡ mid.appended → mid.bytes_read ≤ new.bytes_read → new.bytes_read ≤ mid.bytes_read + most → Looks most old new
 done_look old mid new most does state past appended least most_read = record {

@@ -5,7 +5,7 @@ use Rattle.std.specs.Int.{bytes_high_first, byte_at, to_be_bytes, w32}
 use Rattle.std.specs.Prelude.{slice_index}
 use Rattle.std.proofs.lemmas.Bool.{and_parts, and_from, lt-ltb, ltb-true}
 use Rattle.sha2.specs.Sha256.{sha256, digest_bytes}
-use Rattle.format_spec.specs.Bytes.{Bytes, IsBytes, AreByteStrings, are_bytes, be16, be32, be64, short_string, parts, part_count}
+use Rattle.format_spec.specs.Bytes.{Bytes, IsBytes, AreByteStrings, are_bytes, be32, short_string, parts, part_count}
 use Rattle.format_spec.specs.Hashes.{separated}
 
 -- ---- the test
@@ -24,9 +24,6 @@ by_test (b ∷ s) h (suc i) = by_test s (and_parts (nat_lt b 256) (are_bytes s) 
 pub one_byte : (b : ℕ) (s : Bytes) → b < 256 → IsBytes s → IsBytes (b ∷ s)
 one_byte b s lt h zero = lt
 one_byte b s lt h (suc i) = h i
-
-pub behind_byte : (b : ℕ) (s : Bytes) → IsBytes (b ∷ s) → IsBytes s
-behind_byte b s h i = h (suc i)
 
 pub join_bytes : (xs ys : Bytes) → IsBytes xs → IsBytes ys → IsBytes (xs ++ ys)
 join_bytes [] ys p q = q
@@ -87,14 +84,8 @@ pub high_bytes : (k n : ℕ) → IsBytes (bytes_high_first k n)
 high_bytes zero n = by_test [] refl
 high_bytes (suc k) n = one_byte (byte_at k n) (bytes_high_first k n) (byte_fits k n) (high_bytes k n)
 
-pub be16_bytes : (n : ℕ) → IsBytes (be16 n)
-be16_bytes n = high_bytes 2 n
-
 pub be32_bytes : (n : ℕ) → IsBytes (be32 n)
 be32_bytes n = high_bytes 4 n
-
-pub be64_bytes : (n : ℕ) → IsBytes (be64 n)
-be64_bytes n = high_bytes 8 n
 
 digest_is : (h : List ℕ) (n : ℕ) → IsBytes (digest_bytes h n)
 unfolding digest_bytes

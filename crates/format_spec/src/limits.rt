@@ -52,6 +52,10 @@ pub const HASH_SIZE: usize = 32;
 pub const VERSION: u32 = 1;
 /// Bytes of a manifest's text before its first file row: name, version and number of files.
 pub const MANIFEST_HEAD: usize = 12;
+/// Bytes of a page file's index before its first range.
+pub const INDEX_HEAD: usize = 32;
+/// Bytes of a range in a page file's index: the first page, the length, and the pages before.
+pub const INDEX_RANGE: usize = 12;
 /// Bytes of a file's row apart from its name: the name's length, the size and the hash.
 pub const FILE_ROW: usize = 41;
 /// Bytes of a chunk's row: the file's number, the size, the offset and the hash.

@@ -17,12 +17,12 @@ use Rattle.format_spec.specs.declared.limits.TheConstants.{MAX_LABELS}
 use Rattle.state_spec.specs.State.{is_path, is_label, CanisterPart, SystemPart}
 use Rattle.format_spec.specs.Bytes.{leb}
 use Rattle.std.proofs.Common.{codes}
+use Rattle.format_spec.proofs.Lists.{all_weaker}
 use Rattle.sys_state.specs.System.{System, part_of, parts}
 use Rattle.hash_tree.specs.Canisters.{canister_trees}
 use Rattle.hash_tree.proofs.Putting.{Entry, total, greater_from, joined, child_trees-joined, AreBelow, AreAbove, put_leaf_behind, put_leaf_before, put_node_behind, put_node_before, FirstIs, OfLabels-fold, GoesBehind, entry_children-append, group_node, group_leaf}
 use Rattle.hash_tree.proofs.Levelling.{level_all, level_parts, level_first, level_none, level_deeper, parts_are_levels, alone, all_go_on, rests_level}
 use Rattle.hash_tree.proofs.Stacking.{pushed_one, pushed_all}
-use Rattle.hash_tree.proofs.Lists.{all_so}
 
 -- ---- entries, and others with higher first labels
 
@@ -31,12 +31,12 @@ pub apart_by : (Q : Bytes → Type 0) (l : Bytes) (es fs : Entries) → AllByRec
     → entry_children (es ++ fs) ≡ joined (entry_children es) (entry_children fs)
 apart_by Q l es fs lows highs apart =
     entry_children-append es fs
-    (all_so (IsAbove l) (GoesBehind (entry_children es))
+    (all_weaker (IsAbove l) (GoesBehind (entry_children es))
     (λ f h. record {
       label = h.label;
       has = h.has;
       good = OfLabels-fold (λ (k : Bytes). bytes_cmp h.label k ≡ Greater) none es tt
-          (all_so (FirstIs Q) (FirstIs (λ (k : Bytes). bytes_cmp h.label k ≡ Greater))
+          (all_weaker (FirstIs Q) (FirstIs (λ (k : Bytes). bytes_cmp h.label k ≡ Greater))
           (λ e g. record { label = g.label; has = g.has; good = apart g.label h.label g.good h.greater }) es lows);
     }) fs highs)
 
@@ -44,14 +44,14 @@ apart_by Q l es fs lows highs apart =
 label_apart : (l : Bytes) (es fs : Entries) → AllByRecursion (HasFirst l) es → AllByRecursion (IsAbove l) fs → entry_children (es ++ fs) ≡ joined (entry_children es) (entry_children fs)
 label_apart l es fs lows highs =
     apart_by (λ (k : Bytes). k ≡ l) l es fs
-    (all_so (HasFirst l) (FirstIs (λ (k : Bytes). k ≡ l)) (λ e h. record { label = l; has = h; good = refl }) es lows) highs
+    (all_weaker (HasFirst l) (FirstIs (λ (k : Bytes). k ≡ l)) (λ e h. record { label = l; has = h; good = refl }) es lows) highs
     (λ k m same lt. ap (bytes_cmp m) same ∙ greater_from l m lt)
 
 -- lower and higher labels
 pub sides_apart : (l : Bytes) (es fs : Entries) → AllByRecursion (IsBelow l) es → AllByRecursion (IsAbove l) fs → entry_children (es ++ fs) ≡ joined (entry_children es) (entry_children fs)
 sides_apart l es fs lows highs =
     apart_by (λ (k : Bytes). bytes_cmp k l ≡ Less) l es fs
-    (all_so (IsBelow l) (FirstIs (λ (k : Bytes). bytes_cmp k l ≡ Less)) (λ e h. record { label = h.label; has = h.has; good = h.less }) es lows) highs
+    (all_weaker (IsBelow l) (FirstIs (λ (k : Bytes). bytes_cmp k l ≡ Less)) (λ e h. record { label = h.label; has = h.has; good = h.less }) es lows) highs
     (λ k m below lt. greater_from k m (total.trans k l m below lt))
 
 pub label_split : (d from end to : ℕ) (es : Entries) → EndsLabel d from end to es
@@ -68,9 +68,6 @@ pub record Walked (d from at to : ℕ) (es : Entries) (old new : List HashTree) 
   pub is_level : IsLevel (level d at to es)
   pub pushed : Pushed old new (child_trees (entry_children (level d from to es))) (child_trees (entry_children (level d at to es)))
 
-pub walked_none : (d from to : ℕ) (es : Entries) (old : List HashTree) → from ≤ to → IsLevel (level d from to es) → Walked d from from to es old old
-walked_none d from to es old le h = record { bound = le; is_level = h; pushed = record { added = []; new_is = sym (append-nil old); views = refl } }
-
 label_parts : (d at end to : ℕ) (es : Entries) → EndsLabel d at end to es → IsLevel (level d at to es) → IsLevel (level d at end es) × IsLevel (level d end to es)
 label_parts d at end to es e h = parts_are_levels (level d at end es) (level d end to es) (subst IsLevel (level_parts d at end to es (omega (arith, e.some)) e.within) h)
 
@@ -86,10 +83,6 @@ walked_more d from at end to es old new next b w e tree is = record {
       (subst (Pushed old new (child_trees (entry_children (level d from to es)))) (label_split d at end to es e ∙ ap (λ (ts : List Tree). ts ++ child_trees (entry_children (level d end to es))) tree) w.pushed)
       is refl;
 }
-
-pub walked_all : (d from at to : ℕ) (es : Entries) (old new : List HashTree) → Walked d from at to es old new → to ≤ at → Pushes old new (child_trees (entry_children (level d from to es)))
-walked_all d from at to es old new w le =
-    pushed_all old new _ (subst (Pushed old new (child_trees (entry_children (level d from to es)))) (ap (λ (xs : Entries). child_trees (entry_children xs)) (level_none d at to es le)) w.pushed)
 
 -- ---- the entries of one label
 
@@ -182,19 +175,19 @@ goes_further p labels d l same lt is count = go (drop (d + 1) p) refl (label_fir
 below_label : (l m : Bytes) → bytes_cmp l m ≡ Less → (es : Entries) → AllByRecursion (IsBelow l) es → AreBelow m (entry_children es)
 below_label l m lt es h =
     OfLabels-fold (λ (k : Bytes). bytes_cmp m k ≡ Greater) none es tt
-    (all_so (IsBelow l) (FirstIs (λ (k : Bytes). bytes_cmp m k ≡ Greater))
+    (all_weaker (IsBelow l) (FirstIs (λ (k : Bytes). bytes_cmp m k ≡ Greater))
     (λ e b. record { label = b.label; has = b.has; good = greater_from b.label m (total.trans b.label l m b.less lt) }) es h)
 
 below_itself : (l : Bytes) (es : Entries) → AllByRecursion (IsBelow l) es → AreBelow l (entry_children es)
 below_itself l es h =
     OfLabels-fold (λ (k : Bytes). bytes_cmp l k ≡ Greater) none es tt
-    (all_so (IsBelow l) (FirstIs (λ (k : Bytes). bytes_cmp l k ≡ Greater))
+    (all_weaker (IsBelow l) (FirstIs (λ (k : Bytes). bytes_cmp l k ≡ Greater))
     (λ e b. record { label = b.label; has = b.has; good = greater_from b.label l b.less }) es h)
 
 above_itself : (l : Bytes) (es : Entries) → AllByRecursion (IsAbove l) es → AreAbove l (entry_children es)
 above_itself l es h =
     OfLabels-fold (λ (k : Bytes). bytes_cmp l k ≡ Less) none es tt
-    (all_so (IsAbove l) (FirstIs (λ (k : Bytes). bytes_cmp l k ≡ Less)) (λ e b. record { label = b.label; has = b.has; good = b.greater }) es h)
+    (all_weaker (IsAbove l) (FirstIs (λ (k : Bytes). bytes_cmp l k ≡ Less)) (λ e b. record { label = b.label; has = b.has; good = b.greater }) es h)
 
 abbrev canister_label : Bytes
 canister_label = codes "canister"

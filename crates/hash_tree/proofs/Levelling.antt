@@ -7,7 +7,7 @@ use Rattle.std.specs.FinMap.Entries.{below_all}
 use Rattle.std.specs.Ordering.{is_lt, is_eq, is_gt, ordering_then}
 use Rattle.std.specs.declared.cmp.Ordering.{Ordering}
 use Rattle.std.specs.declared.cmp.Ordering.TheVariants.{Less, Equal, Greater}
-use Rattle.std.proofs.lemmas.Bool.{and_parts}
+use Rattle.std.proofs.lemmas.Bool.{and_parts, not-true}
 use Rattle.std.proofs.lemmas.List.{map-append, drop-drop}
 use Rattle.format_spec.specs.Bytes.{Bytes, bytes_cmp, path_cmp}
 use Rattle.state_spec.specs.State.{is_prefix, are_apart}
@@ -17,9 +17,11 @@ use Rattle.std.proofs.Common.{bytes_eq}
 use Rattle.std.specs.Ordering.{ordering_reverse}
 use Rattle.state_spec.specs.State.{is_path, is_reserved, FitsEntry}
 use Rattle.std.proofs.Common.{codes}
+use Rattle.format_spec.proofs.Lists.{all_weaker}
+use Rattle.format_spec.proofs.Ascending.{less_is}
 use Rattle.sys_state.specs.System.{System, IsKept}
 use Rattle.hash_tree.proofs.Putting.{Entry, total, GoesOn}
-use Rattle.hash_tree.proofs.Lists.{all_join, all_parts, all_so, all_at, take_sum, take_all, some_at, drop_found}
+use Rattle.hash_tree.proofs.Lists.{all_join, all_parts, all_at, take_sum, take_all, some_at, drop_found}
 
 -- ---- levels in parts
 
@@ -176,15 +178,6 @@ less_at l m e f a b differs h = go (subst (λ (x : List Bytes). Before x (m ∷ 
 
 -- ---- from ascending paths that are apart
 
-is_less : (o : Ordering) → is_lt o ≡ true → o ≡ Less
-is_less Less h = refl
-is_less Equal h = absurd cc
-is_less Greater h = absurd cc
-
-not_false : (b : Bool) → not b ≡ true → b ≡ false
-not_false true h = absurd cc
-not_false false h = refl
-
 pub apart : (l m : Bytes) → bytes_cmp l m ≡ Equal → l ≡ m
 apart l m e = slice_cmp-IsAntisymmetric nat_cmp-IsAntisymmetric l m e
 
@@ -204,7 +197,7 @@ before_all e [] h k = tt
 before_all e (f ∷ es) h k =
     let p = and_parts (is_lt (path_cmp e.0 f.0)) (below_all path_cmp e.0 es) h in
     let q = and_parts (not (is_prefix e.0 f.0)) (list_all (λ (g : Entry). not (is_prefix e.0 g.0)) es) k in
-    (before_from e.0 f.0 (is_less (path_cmp e.0 f.0) p.0) (not_false (is_prefix e.0 f.0) q.0), before_all e es p.1 q.1)
+    (before_from e.0 f.0 (less_is (path_cmp e.0 f.0) p.0) (not-true (is_prefix e.0 f.0) q.0), before_all e es p.1 q.1)
 
 pub in_order_from : (es : Entries) → is_sorted path_cmp es ≡ true → are_apart es ≡ true → AreInOrder es
 in_order_from [] h k = tt
@@ -272,7 +265,7 @@ pub kept_level : (s : System) (from : ℕ) → IsKept s → from ≤ length s.en
 kept_level s from kept le =
     let all : IsLevel s.entries = record {
       in_order = in_order_from s.entries kept.system.paths_ascend kept.system.paths_apart;
-      labels = all_so FitsEntry (λ (e : Entry). 0 < length e.0) (λ e f. is_path_some e.0 f.path) s.entries kept.system.entries_fit;
+      labels = all_weaker FitsEntry (λ (e : Entry). 0 < length e.0) (λ e f. is_path_some e.0 f.path) s.entries kept.system.entries_fit;
     } in
     (parts_are_levels (level 0 0 from s.entries) (level 0 from (length s.entries) s.entries)
     (subst IsLevel (sym (level_all s.entries) ∙ level_parts 0 0 from (length s.entries) s.entries (omega arith) le) all)).1
@@ -295,16 +288,6 @@ parted from i es l m le lt h below other gt =
       below = below;
       above = subst (AllByRecursion (IsAbove l)) (sym (level_first 0 i (length es) es b.entry b.is lt))
           (above_from l m (behind 0 b.entry) (level 0 (i + 1) (length es) es) b.first (total.antisymm l m ∙ ap ordering_reverse gt) rest.1);
-    }
-
-pub parted_at_end : (from i : ℕ) (es : Entries) (l : Bytes) → from ≤ i → i ≤ length es → length es ≤ i → AllByRecursion (IsBelow l) (level 0 from i es) → Parts l from (length es) es
-parted_at_end from i es l le most least below =
-    let e : i ≡ length es = omega arith in
-    record {
-      later = omega arith;
-      within = omega arith;
-      below = subst (λ (k : ℕ). AllByRecursion (IsBelow l) (level 0 from k es)) e below;
-      above = subst (AllByRecursion (IsAbove l)) (sym (level_none 0 (length es) (length es) es (omega arith))) tt;
     }
 
 pub more_below : (from i : ℕ) (es : Entries) (l m : Bytes) → from ≤ i → AllByRecursion (Misses l) es → AllByRecursion (IsBelow l) (level 0 from i es) → label_in 0 i es ≡ Some m
@@ -347,7 +330,7 @@ level_within s from to kept le within =
 -- the labels that no path begins with
 free_of : (l : Bytes) → ((p : List Bytes) → is_reserved (l ∷ p) ≡ true) → (s : System) → IsKept s → AllByRecursion (Misses l) s.entries
 free_of l reserved s kept =
-    all_so FitsEntry (Misses l) (λ e f p is. clash (is_reserved e.0) (ap is_reserved is ∙ reserved p) f.free) s.entries kept.system.entries_fit
+    all_weaker FitsEntry (Misses l) (λ e f p is. clash (is_reserved e.0) (ap is_reserved is ∙ reserved p) f.free) s.entries kept.system.entries_fit
   where
     clash : (b : Bool) → b ≡ true → not b ≡ true → ⊥
     clash true h k = absurd cc

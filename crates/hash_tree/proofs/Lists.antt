@@ -13,10 +13,6 @@ module _ {X : Type 0} (P : X → Type 0) where
   all_parts [] ys p = (tt, p)
   all_parts (x ∷ xs) ys p = let q = all_parts xs ys p.1 in ((p.0, q.0), q.1)
 
-pub all_so : {X : Type 0} (P Q : X → Type 0) → ((x : X) → P x → Q x) → (xs : List X) → AllByRecursion P xs → AllByRecursion Q xs
-all_so P Q f [] p = tt
-all_so P Q f (x ∷ xs) p = (f x p.0, all_so P Q f xs p.1)
-
 pub drop_found : {X : Type 0} (xs : List X) (i : ℕ) (x : X) → slice_get xs i ≡ Some x → drop i xs ≡ x ∷ drop (i + 1) xs
 drop_found {X} xs i x is =
     let lt = slice_get_within xs i x is in

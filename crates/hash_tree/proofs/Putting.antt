@@ -47,11 +47,6 @@ AreBelow l c = OfLabels (λ k. bytes_cmp l k ≡ Greater) c
 abbrev pub AreAbove : Bytes → Children → Type 0
 AreAbove l c = OfLabels (λ k. bytes_cmp l k ≡ Less) c
 
-pub OfLabels-joined : (P : Bytes → Type 0) (c d : Children) → OfLabels P c → OfLabels P d → OfLabels P (joined c d)
-OfLabels-joined P none d p q = q
-OfLabels-joined P (leaf_at k w rest) d p q = (p.0, OfLabels-joined P rest d p.1 q)
-OfLabels-joined P (node_at k below rest) d p q = (p.0, OfLabels-joined P rest d p.1 q)
-
 -- ---- one put behind all of some children
 
 abbrev by_leaf : Ordering → Children → Children → Children → Children

@@ -11,7 +11,8 @@ use Rattle.std.proofs.lemmas.List.Elements.{All-from_recursion, recursion_from_A
 use Rattle.std.proofs.lemmas.List.Kept.{AllPairs-from_increasing}
 use Rattle.std.proofs.lemmas.List.Folds.{list_any-append, list_any_at}
 use Rattle.std.proofs.lemmas.List.Sorted.{searched}
-use Rattle.store_spec.specs.PageFile.{PageIndex}
+use Rattle.format_spec.proofs.Lists.{all_push}
+use Rattle.page_spec.specs.PageFile.{PageIndex}
 use Rattle.disk_model.specs.Files.{Files}
 use Rattle.page_file.specs.declared.error.PageError.{PageError}
 use Rattle.page_file.specs.declared.error.PageError.TheVariants as errors
@@ -93,10 +94,6 @@ pub record Opened (files : List NumberedFile) (namings : List (ℕ × ℕ)) : Ty
   pub named : (n : ℕ) → list_any (nat_eq n) (numbers_of files) ≡ list_any (λ naming. nat_eq n naming.0) namings
   pub fits : FitNamings files namings
 
-pub all_push : {X : Type 0} (P : X → Type 0) (xs : List X) (x : X) → AllByRecursion P xs → P x → AllByRecursion P (xs ++ x ∷ [])
-all_push P [] x all last = (last, tt)
-all_push P (y ∷ xs) x all last = (all.0, all_push P xs x all.1 last)
-
 all_map : {X : Type 0} (P Q : X → Type 0) (xs : List X) → ((x : X) → P x → Q x) → AllByRecursion P xs → AllByRecursion Q xs
 all_map P Q [] step all = tt
 all_map P Q (x ∷ xs) step all = (step x all.0, all_map P Q xs step all.1)
@@ -135,9 +132,6 @@ not_named (r ∷ rows) n none = ⊎_elim
     (λ h. absurd (true≢false (sym (ap (λ (b : Bool). b || list_any (λ q. nat_eq n q.0) rows) h.0) ∙ none)))
     (λ h. (h.1, not_named rows n (sym (ap (λ (b : Bool). b || list_any (λ q. nat_eq n q.0) rows) h.0) ∙ none)))
     (eqb_tells n r.0)
-
-pub opened_none : Opened [] []
-opened_none = record { ascends = λ k within. absurd (omega arith); named = λ n. refl; fits = tt }
 
 pub opened_more : (old new : List NumberedFile) (rows : List (ℕ × ℕ)) (n p : ℕ) → AllByRecursion (λ r. r.0 ≤ n) rows → Opened old rows → Takes old n p new → Opened new (rows ++ (n, p) ∷ [])
 opened_more old new rows n p below opened (inl h) = subst (λ (fs : List NumberedFile). Opened fs (rows ++ (n, p) ∷ [])) (sym h.3) (record {

@@ -10,6 +10,7 @@ use Rattle.std.proofs.lemmas.List.Elements.{All-from_recursion, All-get_or}
 use Rattle.std.proofs.lemmas.List.Folds.{list_any-append, list_any_none}
 use Rattle.format_spec.specs.Bytes.{Bytes}
 use Rattle.format_spec.specs.declared.limits.TheConstants.{MAX_PUBLISHED}
+use Rattle.format_spec.proofs.Lists.{all_join}
 use Rattle.state_spec.specs.State.{SystemPart}
 use Rattle.sys_state.specs.System.{part_of}
 use Rattle.store_spec.specs.Image.{Published}
@@ -30,7 +31,7 @@ use Rattle.height_store.specs.Laws.{kept_stands, shown_stands, shown_depends, se
 use Rattle.height_store.specs.Shown.{or_left, or_right}
 use Rattle.height_store.specs.Written.{is_of, with_mark, HasWritten, IsBeforeOrAfter}
 use Rattle.height_store.proofs.Parts.{parts_are_one}
-use Rattle.height_store.proofs.Carried.{all_weaker, all_append, all_both, height_carried, stacks_carried, no_draft_needed}
+use Rattle.height_store.proofs.Carried.{all_weaker, all_both, height_carried, stacks_carried, no_draft_needed}
 
 abbrev pub AreBelow : ℕ → List StoredHeight → Type 0
 AreBelow height hs = AllByRecursion (λ h. h.mark.height < height) hs
@@ -196,9 +197,9 @@ module _ (store : Store) (old new : DiskView) (h : StoredHeight) (written : HasW
   pub readable_push : IsReadable store.heights old.state.files → AreBelow h.mark.height store.heights → AllByRecursion (AllByRecursion (IsKept old.state.files)) h.stacks → IsReadable (store.heights ++ h ∷ []) new.state.files
   readable_push readable below kept = record {
     listed = subst (IsListing kind.Mark new.state.files) (sym (heights_push store.heights h)) (listing_push old.state.files new.state.files (heights_in store.heights) h.mark.height (mark_text h.mark) (numbers_below h.mark.height store.heights below) readable.listed marks);
-    marks = all_append (HasMark new.state.files) store.heights (h ∷ []) (all_weaker (λ x. (x.mark.height < h.mark.height) × HasMark old.state.files x) (HasMark new.state.files)
+    marks = all_join (HasMark new.state.files) store.heights (h ∷ []) (all_weaker (λ x. (x.mark.height < h.mark.height) × HasMark old.state.files x) (HasMark new.state.files)
         (λ x both. mark_apart old.state.files new.state.files h.mark.height (mark_text h.mark) marks x.mark.height both.0 ∙ both.1) store.heights (all_both _ (HasMark old.state.files) store.heights below readable.marks)) (written.there, tt);
-    stacks = all_append (HasStacks new.state.files) store.heights (h ∷ []) (all_weaker (HasStacks old.state.files) (HasStacks new.state.files) (λ x kept. stacks_carried old.state.files new.state.files pages x.stacks kept) store.heights readable.stacks)
+    stacks = all_join (HasStacks new.state.files) store.heights (h ∷ []) (all_weaker (HasStacks old.state.files) (HasStacks new.state.files) (λ x kept. stacks_carried old.state.files new.state.files pages x.stacks kept) store.heights readable.stacks)
         (stacks_carried old.state.files new.state.files pages h.stacks kept, tt);
   }
 

@@ -3,20 +3,17 @@ use Rattle.std.proofs.Common.{◌≡◌, ℕ, ◌<◌, Bool, true, false, List, 
 use Rattle.std.specs.List.{find, AllByRecursion}
 use Rattle.std.proofs.lemmas.Bool.{cases_lt, false≢true}
 use Rattle.std.proofs.lemmas.List.Elements.{All-from_recursion, All-get_or}
-use Rattle.std.proofs.lemmas.Option.{slice_get_past, slice_get-get_or}
+use Rattle.std.proofs.lemmas.Option.{slice_get_past, slice_get-get_or, same_Some}
 use Rattle.std.proofs.lemmas.Slice.Zip.{AllZip-long}
 use Rattle.format_spec.specs.Bytes.{Bytes}
 use Rattle.state_spec.specs.Files.{memories_in}
 use Rattle.sys_state.specs.System.{part_of}
-use Rattle.store_spec.specs.Image.{Layer, page_from}
+use Rattle.page_spec.specs.Layers.{Layer, page_from}
 use Rattle.disk_model.specs.Files.{Files}
 use Rattle.page_file.specs.Files.{NumberedFile, IsKept}
 use Rattle.layer_stack.specs.Stacks.{AreLayers}
 use Rattle.height_store.specs.Kept.{HasStacks}
 use Rattle.height_store.specs.Store.{StoredHeight, IsHeight, FitsPages, height_at}
-
-pub same_some : {X : Type 0} (x y : X) → Some x ≡ Some y → x ≡ y
-same_some x y is = ap (λ o. unwrap_or o x) is
 
 pub not_some : {X : Type 0} (x : X) → None ≡ Some x → ⊥
 not_some x is = false≢true (ap is_some is)
@@ -27,7 +24,7 @@ found_has P p [] h is all = absurd (not_some h is)
 found_has P p (x ∷ hs) h is all = step (p x) (λ e. found_has P p hs h e all.1) is
   where
     step : (b : Bool) → (find p hs ≡ Some h → P h) → cond b (Some x) (find p hs) ≡ Some h → P h
-    step true later e = subst P (same_some x h e) all.0
+    step true later e = subst P (same_Some x h e) all.0
     step false later e = later e
 
 within_some : (xs : List (Bytes × ℕ)) (i page : ℕ) → IsSomeAnd (slice_get xs i) (λ m. page < m.1) → i < length xs
@@ -54,6 +51,6 @@ pub page_there : (files : Files) (hs : List StoredHeight) (height file page : �
     → ((layers : List Layer) → AreLayers files seen layers → into ≡ page_from (reverse layers) page)
     → height_at hs height ≡ Some h → slice_get h.stacks file ≡ Some stack → AreLayers files stack layers → into ≡ page_from (reverse layers) page
 page_there files hs height file page h found stack seen layers into is lt at reads is' at' are =
-    let same = same_some found h (is ∙ is') in
-    let one = same_some seen stack (ap Some at ∙ sym (slice_get-get_or found.stacks file seen lt) ∙ ap (λ (x : StoredHeight). slice_get x.stacks file) same ∙ at') in
+    let same = same_Some found h (is ∙ is') in
+    let one = same_Some seen stack (ap Some at ∙ sym (slice_get-get_or found.stacks file seen lt) ∙ ap (λ (x : StoredHeight). slice_get x.stacks file) same ∙ at') in
     reads layers (subst (λ s. AreLayers files s layers) (sym one) are)

@@ -5,7 +5,7 @@ use Rattle.std.proofs.Common.{sym, ◌∙◌, ap, subst, arith, eq-eqb}
 use Rattle.std.proofs.lemmas.List.Folds.{list_any-append}
 use Rattle.format_spec.specs.Bytes.{Bytes}
 use Rattle.store_spec.specs.Mark.{MarkMemory, FitsMemory, mark_text}
-use Rattle.store_spec.specs.PageFile.{index_length}
+use Rattle.page_spec.specs.PageFile.{index_length}
 use Rattle.disk_model.specs.declared.name.Kind.TheVariants as kind
 use Rattle.disk_model.specs.Files.{Files, IsListing}
 use Rattle.disk_model.specs.View.{DiskView}

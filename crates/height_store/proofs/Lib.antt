@@ -1,3 +1,4 @@
+pub mod BytesRead
 pub mod Carried
 pub mod FilesFound
 pub mod Gaining
@@ -9,8 +10,11 @@ pub mod MarksRead
 pub mod Namings
 pub mod Numbers
 pub mod Parts
+pub mod Places
+pub mod Ranges
 pub mod Since
 pub mod StacksFound
 pub mod Strays
 pub mod Swept
 pub mod Newest
+pub mod Once

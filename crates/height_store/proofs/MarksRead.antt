@@ -9,6 +9,7 @@ use Rattle.std.proofs.lemmas.Bool.{le-leb}
 use Rattle.std.proofs.lemmas.List.Sums.{sum_by-append, sum_by_more, sum_by-take-le}
 use Rattle.format_spec.specs.declared.limits.TheConstants.{MAX_PUBLISHED}
 use Rattle.format_spec.specs.Bytes.{Bytes}
+use Rattle.format_spec.proofs.Lists.{all_push}
 use Rattle.store_spec.specs.declared.limits.TheConstants.{MAX_MARK}
 use Rattle.store_spec.specs.Mark.{mark_text}
 use Rattle.store_spec.proofs.MarkLengths.{mark_bounded}
@@ -21,7 +22,7 @@ use Rattle.disk_model.specs.State.{DiskState}
 use Rattle.disk_model.specs.Looking.{OnlyLooks, looks_then, looks_more}
 use Rattle.height_store.specs.Bad.{SpellsMark, HasGoodMark, AreGoodMarks, IsFirstBadMark, mark_bytes, marks_bytes}
 use Rattle.height_store.specs.Opened.{ReadMark, parts_of}
-use Rattle.height_store.proofs.FilesFound.{all_push, error_inside}
+use Rattle.height_store.proofs.FilesFound.{error_inside}
 
 pub filled_length : (n : ℕ) (into rest : Bytes) → length into ≡ n → length (take n (into ++ rest)) ≡ n
 filled_length n into rest is = omega (arith, is, length-take n (into ++ rest), length-append into rest)

@@ -8,6 +8,7 @@ use Rattle.std.proofs.lemmas.List.{append-nil, get_or_default, get_or-take, leng
 use Rattle.std.proofs.lemmas.List.Elements.{All-from_recursion, recursion_from_All}
 use Rattle.std.proofs.lemmas.List.Sorted.{IsPermutation-sym, All-permutation, Contains-permutation}
 use Rattle.format_spec.specs.Bytes.{Bytes}
+use Rattle.format_spec.proofs.Lists.{all_push}
 use Rattle.state_spec.specs.State.{SystemPart}
 use Rattle.state_spec.specs.Files.{memories_in}
 use Rattle.store_spec.specs.Mark.{Mark, MarkMemory, FitsMemory, IsMark}
@@ -15,7 +16,7 @@ use Rattle.disk_model.specs.Files.{Files}
 use Rattle.page_file.specs.Files.{NumberedFile}
 use Rattle.height_store.specs.Bad.{memory_namings, mark_namings, namings, IsGoodNaming, AreGoodMarks, IsFirstBadPage}
 use Rattle.height_store.specs.Naming.{rows_of, Takes, IsFirstBadNaming}
-use Rattle.height_store.proofs.FilesFound.{Opened, opened_more, all_push}
+use Rattle.height_store.proofs.FilesFound.{Opened, opened_more}
 
 -- ---- gathering them
 

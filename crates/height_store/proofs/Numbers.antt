@@ -68,9 +68,6 @@ ascends_behind xs b ascends i j d lt in' =
     let step = AllPairs-from_increasing xs ascends (b + i) (b + j) d (omega (arith, lt)) (omega (arith, in', length-drop b xs)) in
     omega (arith, step, get_or-drop b xs i d, get_or-drop b xs j d)
 
-pub behind_least : (xs : List ℕ) (b from : ℕ) → ((k d : ℕ) → b ≤ k → k < length xs → from ≤ get_or xs k d) → (k d : ℕ) → k < length (drop b xs) → from ≤ get_or (drop b xs) k d
-behind_least xs b from others k d lt = omega (arith, others (b + k) d (omega arith) (omega (arith, lt, length-drop b xs)), get_or-drop b xs k d)
-
 pub run_more : (xs : List ℕ) (from free i : ℕ) → i < length xs → free ≡ from + i → get_or xs i 0 ≡ free → ((k d : ℕ) → k < i → get_or xs k d ≡ from + k) → (k d : ℕ) → k < i + 1 → get_or xs k d ≡ from + k
 run_more xs from free i lt is at run k d below = elim (cases_lt k i) [
   | inl before ↦ run k d before

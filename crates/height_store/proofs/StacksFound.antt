@@ -5,6 +5,7 @@ use Rattle.std.proofs.lemmas.List.{map-append}
 use Rattle.std.proofs.lemmas.List.Elements.{All-from_recursion, All-contains}
 use Rattle.format_spec.specs.Bytes.{Bytes}
 use Rattle.format_spec.specs.declared.limits.TheConstants.{MAX_LAYERS}
+use Rattle.format_spec.proofs.Lists.{all_push}
 use Rattle.state_spec.specs.State.{SystemPart}
 use Rattle.state_spec.specs.Files.{memories_in}
 use Rattle.store_spec.specs.Mark.{Mark, MarkMemory, FitsMemory, IsMark}
@@ -14,7 +15,6 @@ use Rattle.height_store.specs.Bad.{memory_namings, mark_namings, namings}
 use Rattle.height_store.specs.Kept.{HasStacks}
 use Rattle.height_store.specs.Opened.{FitNamings, ReadMark, parts_of}
 use Rattle.height_store.specs.Store.{IsHeight, StoredHeight, FitsMark, FitsPages, numbers_of}
-use Rattle.height_store.proofs.FilesFound.{all_push}
 
 all_split : {X : Type 0} (P : X → Type 0) (xs ys : List X) → AllByRecursion P (xs ++ ys) → AllByRecursion P xs × AllByRecursion P ys
 all_split P [] ys all = (tt, all)

@@ -3,6 +3,7 @@ use Rattle.std.specs.Prelude.{◌≡◌, ℕ, Bool, true, false, ◌&&◌, nat_e
 use Rattle.std.proofs.Common.{sym, ◌∙◌, ap, subst}
 use Rattle.std.proofs.lemmas.Bool.{false≢true}
 use Rattle.std.specs.List.{list_any, AllByRecursion}
+use Rattle.format_spec.proofs.Lists.{and_false}
 use Rattle.disk_model.specs.declared.name.Kind.{Kind}
 use Rattle.disk_model.specs.declared.name.Kind.TheVariants as kind
 use Rattle.disk_model.specs.declared.name.Name.{Name}
@@ -14,10 +15,6 @@ use Rattle.disk_model.specs.Frame.{TouchesOnly}
 use Rattle.height_store.specs.Found.{is_stray}
 use Rattle.height_store.specs.Opened.{is_swept}
 use Rattle.height_store.specs.Shown.{or_right, first_named}
-
-and_false : (a b : Bool) → b ≡ false → (a && b) ≡ false
-and_false true b h = h
-and_false false b h = refl
 
 pub pages_within : (numbers named : List ℕ) (q : Name) → is_stray named q ≡ false → is_swept kind.Page numbers named q ≡ false
 pages_within numbers named (name.Page n) h = and_false (list_any (nat_eq n) numbers) _ h

@@ -163,9 +163,6 @@ still_there k xs keep i old mid up lt there touches =
         let within : j < i = omega (arith, length-take i xs) in
         same_false x (get_or (take i xs) j d) (λ e. omega (arith, e, get_or-take i xs j d within, AllPairs-from_increasing xs up j i d within lt, get_or_default xs i d 0 lt))
 
-pub sweeps_none : (k : Kind) (keep : List ℕ) (v : DiskView) → Sweeps k [] keep v v
-sweeps_none k keep v = record { gone = λ n some. absurd (true≢false (sym some)); touches = touches_none _ v; settled = λ settled. settled; appended = refl; read = refl }
-
 pub sweeps_more : (k : Kind) (xs keep : List ℕ) (i : ℕ) (old mid new : DiskView) → i < length xs → Sweeps k (take i xs) keep old mid → Sweeps k (get_or xs i 0 ∷ []) keep mid new → Sweeps k (take (i + 1) xs) keep old new
 sweeps_more k xs keep i old mid new lt first second = record {
   gone = λ n some free. ⊎_elim

@@ -5,7 +5,7 @@ use Rattle.format_spec.specs.Bytes.{Bytes}
 use Rattle.format_spec.specs.declared.limits.TheConstants.{MAX_PUBLISHED}
 use Rattle.state_spec.specs.State.{SystemPart}
 use Rattle.state_spec.specs.Files.{memories_in}
-use Rattle.store_spec.specs.PageFile.{PageIndex}
+use Rattle.page_spec.specs.PageFile.{PageIndex}
 use Rattle.store_spec.specs.declared.limits.TheConstants.{MAX_MARK}
 use Rattle.store_spec.specs.Mark.{Mark, MarkMemory, IsMarkText}
 use Rattle.disk_model.specs.declared.name.Kind.TheVariants as kind

@@ -6,9 +6,10 @@ use Rattle.std.proofs.lemmas.Bool.{cases_Bool, false≢true}
 use Rattle.format_spec.specs.Bytes.{Bytes}
 use Rattle.state_spec.specs.Files.{memories_in}
 use Rattle.sys_state.specs.System.{part_of}
-use Rattle.store_spec.specs.Image.{Published, Layer, IsLayerOf, AreLayersOf, GivesTrueHeight, heights_of}
+use Rattle.store_spec.specs.Image.{Published, IsLayerOf, AreLayersOf, GivesTrueHeight, heights_of}
+use Rattle.page_spec.specs.Layers.{Layer}
 use Rattle.store_spec.specs.Mark.{Mark, MarkMemory, FitsMemory, mark_text}
-use Rattle.store_spec.specs.PageFile.{PageIndex, index_text}
+use Rattle.page_spec.specs.PageFile.{PageIndex, index_text}
 use Rattle.disk_model.specs.declared.name.Name.{Name}
 use Rattle.disk_model.specs.declared.name.Name.TheVariants as name
 use Rattle.disk_model.specs.Files.{Files, same_name, replaced}

@@ -22,6 +22,12 @@ pub record HasCause {T : Type 0} (old new : ℕ) (result : Result T StoreError) 
   pub never_falls : old ≤ new
   pub fault : IsErrOf result Fault → counted old 1 ≤ new
 
+-- neither a fault nor want of memory ended the call
+abbrev pub IsAnswered : {T : Type 0} → Result T StoreError → Type 0
+IsAnswered (Err Fault) = ⊥
+IsAnswered (Err Memory) = ⊥
+IsAnswered result = Unit {0}
+
 -- the disk opens: no mark and no page file is bad
 abbrev pub NoBadFile : {T : Type 0} → Result T StoreError → Type 0
 NoBadFile result = ((h : ℕ) → IsErrOf result (BadMark h) → ⊥) × ((n : ℕ) → IsErrOf result (BadPage n) → ⊥)

@@ -4,7 +4,8 @@ use Rattle.std.specs.List.{AllByRecursion, AllZip}
 use Rattle.format_spec.specs.declared.limits.TheConstants.{MAX_PUBLISHED}
 use Rattle.state_spec.specs.State.{SystemPart, SameState, state_from}
 use Rattle.sys_state.specs.System.{part_of}
-use Rattle.store_spec.specs.Image.{Published, Layer, HasTrueSums, memories_from, StandsFor}
+use Rattle.store_spec.specs.Image.{Published, HasTrueSums, memories_from, StandsFor}
+use Rattle.page_spec.specs.Layers.{Layer}
 use Rattle.store_spec.specs.Mark.{Mark, mark_text}
 use Rattle.disk_model.specs.declared.name.Kind.TheVariants as kind
 use Rattle.disk_model.specs.declared.name.Name.{Name}

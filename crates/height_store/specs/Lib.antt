@@ -3,11 +3,16 @@ pub mod Entry
 pub mod Errors
 pub mod Found
 pub mod Kept
+pub mod Known
+pub mod KnownLaws
 pub mod Laws
+pub mod Memories
 pub mod Naming
 pub mod Opened
 pub mod Refused
 pub mod Shown
 pub mod Standing
+pub mod States
 pub mod Store
 pub mod Written
+pub mod Answers

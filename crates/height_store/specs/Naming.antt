@@ -2,7 +2,7 @@
 use Rattle.std.specs.Prelude.{◌≡◌, ◌⊎◌, ℕ, ◌<◌, ◌≤◌, nat_eq, false, List, [], ◌∷◌, ◌++◌, map, sum_by}
 use Rattle.std.specs.List.{list_any, AllByRecursion, Contains}
 use Rattle.store_spec.specs.Mark.{MarkMemory}
-use Rattle.store_spec.specs.PageFile.{index_length}
+use Rattle.page_spec.specs.PageFile.{index_length}
 use Rattle.disk_model.specs.Files.{Files}
 use Rattle.page_file.specs.Files.{NumberedFile}
 use Rattle.height_store.specs.Bad.{IsGoodNaming}

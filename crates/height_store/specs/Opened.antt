@@ -4,7 +4,7 @@ use Rattle.std.specs.List.{AllByRecursion, list_any}
 use Rattle.state_spec.specs.State.{SystemPart}
 use Rattle.sys_state.specs.System.{System, part_of}
 use Rattle.store_spec.specs.Mark.{Mark, IsMark, mark_text}
-use Rattle.store_spec.specs.PageFile.{index_length}
+use Rattle.page_spec.specs.PageFile.{index_length}
 use Rattle.disk_model.specs.declared.name.Kind.{Kind}
 use Rattle.disk_model.specs.declared.name.Name.{Name}
 use Rattle.disk_model.specs.Files.{Files, number_in}

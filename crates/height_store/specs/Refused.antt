@@ -8,7 +8,8 @@ use Rattle.format_spec.specs.declared.limits.TheConstants.{MAX_PUBLISHED}
 use Rattle.format_spec.proofs.Cuts.{heads}
 use Rattle.state_spec.specs.State.{SystemPart}
 use Rattle.state_spec.specs.Files.{memories_in}
-use Rattle.store_spec.specs.Image.{Published, Layer, IsLayerOf, AreLayersOf, GivesHeight, heights_of, Opens}
+use Rattle.store_spec.specs.Image.{Published, IsLayerOf, AreLayersOf, GivesHeight, heights_of, Opens}
+use Rattle.page_spec.specs.Layers.{Layer}
 use Rattle.store_spec.specs.Mark.{Mark, MarkMemory}
 use Rattle.store_spec.proofs.Images.{listing_once}
 use Rattle.disk_model.specs.declared.name.Kind.TheVariants as kind
@@ -22,7 +23,7 @@ all_append : {A : Type 0} (P : A → Type 0) (xs ys : List A) → AllByRecursion
 all_append P [] ys first second = second
 all_append P (x ∷ xs) ys first second = (first.0, all_append P xs ys first.1 second)
 
-at_split : {A : Type 0} (P : A → Type 0) (before : List A) (x : A) (after : List A) → AllByRecursion P (before ++ x ∷ after) → P x
+pub at_split : {A : Type 0} (P : A → Type 0) (before : List A) (x : A) (after : List A) → AllByRecursion P (before ++ x ∷ after) → P x
 at_split P [] x after all = all.0
 at_split P (y ∷ before) x after all = at_split P before x after all.1
 

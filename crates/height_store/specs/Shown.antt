@@ -7,9 +7,10 @@ use Rattle.format_spec.specs.Bytes.{Bytes}
 use Rattle.format_spec.proofs.Cuts.{heads}
 use Rattle.state_spec.specs.Files.{memories_in}
 use Rattle.sys_state.specs.System.{part_of}
-use Rattle.store_spec.specs.Image.{Published, Layer, IsLayerOf, AreLayersOf, GivesTrueHeight, heights_of}
+use Rattle.store_spec.specs.Image.{Published, IsLayerOf, AreLayersOf, GivesTrueHeight, heights_of}
+use Rattle.page_spec.specs.Layers.{Layer}
 use Rattle.store_spec.specs.Mark.{MarkMemory, mark_text}
-use Rattle.store_spec.specs.PageFile.{PageIndex, IsPageFile}
+use Rattle.page_spec.specs.PageFile.{PageIndex, IsPageFile}
 use Rattle.disk_model.specs.declared.name.Kind.TheVariants as kind
 use Rattle.disk_model.specs.declared.name.Name.TheVariants as name
 use Rattle.disk_model.specs.Files.{Files, IsListing}

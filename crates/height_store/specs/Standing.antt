@@ -8,12 +8,13 @@ use Rattle.format_spec.proofs.Cuts.{heads}
 use Rattle.state_spec.specs.State.{SystemPart, state_from}
 use Rattle.state_spec.specs.Files.{memories_in}
 use Rattle.sys_state.specs.System.{part_of}
-use Rattle.store_spec.specs.Image.{Published, Layer, IsLayerOf, AreLayersOf, memories_from, GivesHeight, GivesTrueHeight, heights_of, OpensAt, StandsFor}
+use Rattle.store_spec.specs.Image.{Published, IsLayerOf, AreLayersOf, memories_from, GivesHeight, GivesTrueHeight, heights_of, OpensAt, StandsFor}
+use Rattle.page_spec.specs.Layers.{Layer}
 use Rattle.store_spec.specs.Mark.{Mark, MarkMemory, IsMark, IsMarkText, mark_text}
-use Rattle.store_spec.specs.PageFile.{PageIndex, IsPageFile}
+use Rattle.page_spec.specs.PageFile.{PageIndex, IsPageFile}
 use Rattle.store_spec.proofs.Images.{listing_once}
 use Rattle.store_spec.proofs.Marks.{mark_once}
-use Rattle.store_spec.proofs.PageFiles.{page_file_once}
+use Rattle.page_spec.proofs.PageFiles.{page_file_once}
 use Rattle.disk_model.specs.declared.name.Kind.TheVariants as kind
 use Rattle.disk_model.specs.declared.name.Name.TheVariants as name
 use Rattle.disk_model.specs.Files.{Files, IsListing}

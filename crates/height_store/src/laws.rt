@@ -1,8 +1,13 @@
 //! What is so of every store and every disk, by the definitions alone.
 
-ghost use Rattle.std.specs.Prelude.{◌≡◌, ◌≤◌, ◌⊎◌, ℕ, Bool, true, false, List, length};
+ghost use Rattle.std.specs.Prelude.{◌≡◌, ◌≤◌, ◌<◌, ◌⊎◌, ℕ, Bool, true, false, List, length, slice_get, Some, IsSomeAnd, Result};
 ghost use Rattle.format_spec.specs.declared.limits.TheConstants.{MAX_PUBLISHED};
 ghost use Rattle.std.specs.List.{AllByRecursion};
+ghost use Rattle.format_spec.specs.Bytes.{Bytes};
+ghost use Rattle.state_spec.specs.Files.{memories_in};
+ghost use Rattle.sys_state.specs.System.{part_of};
+ghost use Rattle.store_spec.specs.Mark.{Mark};
+ghost use Rattle.page_file.specs.Files.{NumberedFile};
 ghost use Rattle.store_spec.specs.Image.{Published, StandsFor, Opens};
 ghost use Rattle.disk_model.specs.declared.name.Name.{Name};
 ghost use Rattle.disk_model.specs.Files.{Files};
@@ -11,9 +16,12 @@ ghost use Rattle.disk_model.specs.Call.{Call};
 ghost use Rattle.disk_model.specs.View.{DiskView, EachImage, LeavesOnly, Done, Failed};
 ghost use Rattle.disk_model.specs.Frame.{Spares, TouchesOnly};
 ghost use Rattle.disk_model.specs.Laws.{IsSound};
+ghost use Rattle.height_store.specs.declared.error.StoreError.{StoreError};
+ghost use Rattle.height_store.specs.Answers.{OpensAs, Purges, ReadsAs};
 ghost use Rattle.height_store.specs.Bad.{IsFirstBadMark, IsFirstBadPage};
+ghost use Rattle.height_store.specs.Errors.{IsAnswered};
 ghost use Rattle.height_store.specs.Kept.{IsReadable, ShowsHeights, KeepsHeights};
-ghost use Rattle.height_store.specs.Store.{StoredHeight, IsHeight, is_needed};
+ghost use Rattle.height_store.specs.Store.{Store, StoredHeight, IsHeight, Gains, IsNextFree, height_at, is_needed};
 
 /// Where a disk keeps heights, a crash leaves files that stand for them.
 /// It keeps those that its files show, where no rename or removal is pending and no file that they need is loose.
@@ -50,4 +58,21 @@ pub fn stores_open()
 pub fn bad_disks_do_not_open()
     ensures mark { (files : Files) (height : ℕ) → IsFirstBadMark files height → Opens files → ⊥ }
     ensures page { (files : Files) (number : ℕ) → IsFirstBadPage files number → Opens files → ⊥ }
+{}
+
+/// What the calls of a store say of their answers fixes these, but for faults and want of memory: the store that is opened over
+/// the same files, or why it isn't; the store after a height is published; the answer of a purge; the number that comes next;
+/// the bytes of a page of a height.
+pub fn store_calls_have_one_answer()
+    ensures opens { (files : Files) (one other : Result Store StoreError)
+        → OpensAs files one → OpensAs files other → IsAnswered one → IsAnswered other → one ≡ other }
+    ensures publishes { (old : Store) (m : Mark) (stacks : List (List NumberedFile)) (one other : Store)
+        → Gains old m stacks one → Gains old m stacks other → one ≡ other }
+    ensures purges { (hs : List StoredHeight) (height : ℕ) (one other : Result (Unit {0}) StoreError)
+        → Purges hs height one → Purges hs height other → IsAnswered one → IsAnswered other → one ≡ other }
+    ensures next { (named : List ℕ) (from one other : ℕ) → IsNextFree named from one → IsNextFree named from other → one ≡ other }
+    ensures reads { (files : Files) (hs : List StoredHeight) (height place page : ℕ) (h : StoredHeight) (one other : Bytes)
+        → IsReadable hs files → IsHeight h → height_at hs height ≡ Some h
+        → IsSomeAnd (slice_get (memories_in (part_of h.system)) place) (λ m. page < m.1)
+        → ReadsAs files hs height place page one → ReadsAs files hs height place page other → one ≡ other }
 {}

@@ -1,7 +1,8 @@
-//! The published heights of a disk: opened, published by one rename, purged, and read page by page.
+//! The published heights of a disk: opened, published by one rename, purged, and read: pages, ranges of bytes, memories.
 #![tactic(auto)]
 
 mod error;
+mod knowing;
 mod laws;
 mod limits;
 mod marks;
@@ -9,14 +10,18 @@ mod opening;
 mod pages;
 mod paging;
 mod publishing;
+mod reading;
 mod store;
 mod sweeping;
 
 pub use error::StoreError;
+pub use knowing::manifest_at;
 pub use laws::{
-    bad_disks_do_not_open, heights_kept_through_calls, kept_heights_stand, stores_open,
+    bad_disks_do_not_open, heights_kept_through_calls, kept_heights_stand,
+    store_calls_have_one_answer, stores_open,
 };
 pub use limits::MAX_GIVEN;
+pub use reading::{read_bytes, read_memories};
 pub use store::{HeightStore, PublishedHeight};
 
 #[cfg(test)]

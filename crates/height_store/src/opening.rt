@@ -15,7 +15,7 @@ ghost use Rattle.disk_model.specs.View.{EachImage, LeavesOnly};
 ghost use Rattle.height_store.specs.Bad.{IsFirstBadMark, IsFirstBadPage, marks_bytes};
 ghost use Rattle.height_store.specs.Errors.{HasCause, NoBadFile, NoBadHeight, IsBadFile};
 ghost use Rattle.height_store.specs.Found.{IsFound, is_stray};
-ghost use Rattle.height_store.specs.Kept.{IsOver, KeepsHeights, StandsForSome, StandsAsBefore};
+ghost use Rattle.height_store.specs.Kept.{IsReadable, IsOver, KeepsHeights, StandsForSome, StandsAsBefore};
 ghost use Rattle.height_store.specs.Opened.{ReadsAtMost};
 ghost use Rattle.height_store.specs.Store.{IsHeight, numbers_of, is_named, is_needed};
 
@@ -43,6 +43,8 @@ impl HeightStore {
     /// for the heights that the disk reads.
     pub fn open<D: Disk>(alloc: Global, disk: &mut D) -> Result<HeightStore, StoreError>
         ensures over { IsTrue D.tells → IfOk result (λ store. IsOver store (D.view disk.new).state.files) }
+        ensures good { IfOk result (λ store. AllByRecursion IsHeight store.heights) }
+        ensures found { IsTrue D.tells → IfOk result (λ store. IsReadable store.heights (D.view disk.old).state.files) }
         ensures settled { IsTrue D.tells → OnOk result (IsSettled (D.view disk.new).state) }
         ensures bad_mark { IsTrue D.tells → (height : ℕ) → IsErrOf result (StoreError.BadMark height) → IsFirstBadMark (D.view disk.old).state.files height }
         ensures bad_page { IsTrue D.tells → (number : ℕ) → IsErrOf result (StoreError.BadPage number) → IsFirstBadPage (D.view disk.old).state.files number }
@@ -60,6 +62,7 @@ impl HeightStore {
         ensures pages { IsTrue D.tells → IfOk result (λ store. (n : ℕ) → is_some ((D.view disk.new).state.files (name.Page n)) ≡ is_named store.heights n) }
         ensures no_stage { IsTrue D.tells → OnOk result ((n : ℕ) → (D.view disk.new).state.files (name.Stage n) ≡ None) }
         ensures named { IfOk result (λ store. (n : ℕ) → list_any (nat_eq n) store.named ≡ is_named store.heights n) }
+        ensures named_ascends { IfOk result (λ store. IsStrictlyIncreasing store.named) }
         ensures next { IfOk result (λ store. (store.given ≡ 0) × (store.next ≡ 0)) }
         ensures bad_mark_reads { IsTrue D.tells → (heights : List ℕ) → IsListing kind.Mark (D.view disk.old).state.files heights → (height : ℕ) → IsErrOf result (StoreError.BadMark height)
             → (D.view disk.new).bytes_read ≤ (D.view disk.old).bytes_read + marks_bytes (D.view disk.old).state.files heights }

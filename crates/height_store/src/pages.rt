@@ -6,7 +6,7 @@ ghost use Rattle.std.specs.List.Sorted.{IsStrictlyIncreasing, IsNonDecreasingBy}
 ghost use Rattle.format_spec.specs.declared.limits.TheConstants.{MAX_LAYERS};
 ghost use Rattle.state_spec.specs.Files.{memories_in};
 ghost use Rattle.sys_state.specs.System.{part_of};
-ghost use Rattle.store_spec.specs.PageFile.{index_length};
+ghost use Rattle.page_spec.specs.PageFile.{index_length};
 ghost use Rattle.disk_model.specs.Files.{Files};
 ghost use Rattle.disk_model.specs.Looking.{OnlyLooks};
 ghost use Rattle.page_file.specs.Files.{IsKept};

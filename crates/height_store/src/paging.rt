@@ -1,16 +1,14 @@
 //! Reading pages of published heights.
 
-ghost use Rattle.std.specs.Prelude.{◌≡◌, ◌↔◌, ◌<◌, List, Err, Some, reverse, slice_get, is_some, false, IsTrue, OnOk, IfSome, IsSomeAnd};
+ghost use Rattle.std.specs.Prelude.{◌≡◌, ◌↔◌, ◌<◌, Err, slice_get, is_some, false, IsTrue, OnOk, IfSome, IsSomeAnd};
 ghost use Rattle.format_spec.specs.declared.limits.TheConstants.{PAGE_SIZE};
 ghost use Rattle.state_spec.specs.Files.{memories_in};
 ghost use Rattle.sys_state.specs.System.{part_of};
-ghost use Rattle.store_spec.specs.Image.{Layer, page_from};
 ghost use Rattle.disk_model.specs.Looking.{OnlyLooks};
-ghost use Rattle.page_file.specs.Files.{NumberedFile};
-ghost use Rattle.layer_stack.specs.Stacks.{AreLayers};
+ghost use Rattle.height_store.specs.Answers.{ReadsAs};
 ghost use Rattle.height_store.specs.Errors.{HasCause, NoBadFile};
 ghost use Rattle.height_store.specs.Kept.{IsReadable};
-ghost use Rattle.height_store.specs.Store.{StoredHeight, height_at};
+ghost use Rattle.height_store.specs.Store.{height_at};
 
 use crate::error::StoreError;
 use crate::store::HeightStore;
@@ -37,10 +35,7 @@ impl HeightStore {
         requires within { IfSome (height_at self.now.heights height) (λ h. IsSomeAnd (slice_get (memories_in (part_of h.system)) file) (λ m. page < m.1)) }
 
         ensures no_height { (result ≡ Err StoreError.NoHeight) ↔ (is_some (height_at self.now.heights height) ≡ false) }
-        ensures page { IsTrue D.tells → (h : StoredHeight) (stack : List NumberedFile) (layers : List Layer)
-            → height_at self.now.heights height ≡ Some h → slice_get h.stacks file ≡ Some stack
-            → AreLayers (D.view disk.old).state.files stack layers
-            → OnOk result (into.new ≡ page_from (reverse layers) page) }
+        ensures page { IsTrue D.tells → OnOk result (ReadsAs (D.view disk.old).state.files self.now.heights height file page into.new) }
         ensures looks { IsTrue D.tells → OnlyLooks PAGE_SIZE (D.view disk.old) (D.view disk.new) }
         ensures cause { HasCause (D.faults disk.old) (D.faults disk.new) result }
         ensures no_bad_file { NoBadFile result }

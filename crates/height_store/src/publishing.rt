@@ -23,9 +23,8 @@ use crate::store::{HeightStore, PublishedHeight};
 use byte_codec::NoMemory;
 use disk_model::{Disk, DiskError, Name};
 use layer_stack::Stack;
-use mark_file::Mark;
+use mark_file::{Mark, MarkError};
 use std::alloc::Global;
-use sys_state::SysState;
 
 impl HeightStore {
     /// Publishes a height: writes its mark as a draft, seals it, and gives it the mark's name. The mark is one of a state,
@@ -70,7 +69,7 @@ impl HeightStore {
     {
         let height = mark.height;
         let text = mark.encode(alloc)?;
-        let published = published(alloc, mark, stacks)?;
+        let published = published(alloc, &mark, text.bytes(), stacks)?;
         self.heights.reserve(1)?;
         write_mark(alloc, disk, height, text.bytes())?;
         self.heights.push(published)?;
@@ -123,16 +122,23 @@ impl HeightStore {
     }
 }
 
-// A height with this mark and these page files, and what the system text of its mark spells. NoMemory where memory runs out.
-fn published(alloc: Global, mark: Mark, stacks: Vec<Stack>) -> Result<PublishedHeight, NoMemory>
-    requires { (s : SystemPart) × FitsMark mark s stacks.items }
-    ensures mark { IfOk result (λ h. h.mark ≡ mark) }
+// A height with this mark, whose bytes these are, what its system text spells, and these page files. NoMemory where memory runs out.
+fn published(
+    alloc: Global,
+    mark: &Mark,
+    text: &[u8],
+    stacks: Vec<Stack>,
+) -> Result<PublishedHeight, NoMemory>
+    requires text { text.now ≡ mark_text mark.now }
+    requires fits { (s : SystemPart) × FitsMark mark.now s stacks.items }
+    ensures mark { IfOk result (λ h. h.mark ≡ mark.now) }
     ensures stacks { IfOk result (λ h. h.stacks ≡ stacks.items) }
     ensures good { IfOk result IsHeight }
 {
-    match SysState::decode(alloc, mark.system.bytes(), mark.height) {
-        Ok(sys) => Ok(PublishedHeight { mark, sys, stacks }),
-        Err(_) => Err(NoMemory),
+    match Mark::decode_both(alloc, mark.height, text) {
+        Ok((mark, sys)) => Ok(PublishedHeight { mark, sys, stacks }),
+        Err(MarkError::BadMark(_)) => unreachable!(),
+        Err(MarkError::Memory) => Err(NoMemory),
     }
 }
 

@@ -1,12 +1,13 @@
 -- What is so of layers, by the definitions alone.
-use Rattle.std.specs.Prelude.{◌≡◌, List, [], ◌∷◌, refl}
-use Rattle.std.proofs.Common.{◌∙◌}
+use Rattle.std.specs.Prelude.{◌≡◌, ℕ, List, [], ◌∷◌, refl}
+use Rattle.std.proofs.Common.{◌∙◌, sym}
 use Rattle.std.specs.List.{AllByRecursion}
-use Rattle.store_spec.specs.Image.{Layer}
+use Rattle.format_spec.specs.Bytes.{Bytes}
+use Rattle.page_spec.specs.Layers.{Layer}
 use Rattle.disk_model.specs.declared.name.Name.TheVariants.{Page}
 use Rattle.disk_model.specs.Files.{Files}
 use Rattle.page_file.specs.Files.{NumberedFile, IsKept}
-use Rattle.layer_stack.specs.Stacks.{IsLayer, AreLayers}
+use Rattle.layer_stack.specs.Stacks.{IsLayer, AreLayers, ReadsAs}
 
 -- Layers depend on the page files that the stack names alone.
 pub layers_in_others : (f g : Files) (stack : List NumberedFile) (layers : List Layer) → AllByRecursion (λ file. g (Page file.number) ≡ f (Page file.number)) stack → AreLayers f stack layers → AreLayers g stack layers
@@ -32,3 +33,7 @@ pub layers_are_kept : (files : Files) (stack : List NumberedFile) (layers : List
 layers_are_kept files [] layers are = tt
 layers_are_kept files (file ∷ stack) [] are = absurd are
 layers_are_kept files (file ∷ stack) (l ∷ ls) are = ((l.pages, are.0.there), layers_are_kept files stack ls are.1)
+
+-- A page of kept files is read in one way.
+pub read_once : (files : Files) (stack : List NumberedFile) (page : ℕ) (one other : Bytes) → AllByRecursion (IsKept files) stack → ReadsAs files stack page one → ReadsAs files stack page other → one ≡ other
+read_once files stack page one other kept a b = let found = kept_have_layers files stack kept in a found.0 found.1 ∙ sym (b found.0 found.1)

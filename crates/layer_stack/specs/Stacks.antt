@@ -1,8 +1,9 @@
 -- Layers of one memory, each a page file.
-use Rattle.std.specs.Prelude.{◌≡◌, ℕ, ◌==◌, List, [], ◌∷◌, map, length, position, Option, None, option_map}
+use Rattle.std.specs.Prelude.{◌≡◌, ℕ, ◌==◌, List, [], ◌∷◌, map, length, reverse, position, Option, None, option_map}
 use Rattle.std.specs.List.{AllZip}
 use Rattle.std.specs.Option.{option_or}
-use Rattle.store_spec.specs.Image.{Layer}
+use Rattle.format_spec.specs.Bytes.{Bytes}
+use Rattle.page_spec.specs.Layers.{Layer, page_from}
 use Rattle.disk_model.specs.Files.{Files}
 use Rattle.page_file.specs.Files.{NumberedFile, HasPages}
 
@@ -34,3 +35,7 @@ pub record IsLayer (files : Files) (file : NumberedFile) (l : Layer) : Type 0 wh
 -- the page files are there, and these layers are what they have, one by one
 abbrev pub AreLayers : Files → List NumberedFile → List Layer → Type 0
 AreLayers files stack layers = AllZip (IsLayer files) stack layers
+
+-- these are the bytes of a page, that of the newest layer that has it, else zeros
+abbrev pub ReadsAs : Files → List NumberedFile → ℕ → Bytes → Type 0
+ReadsAs files stack page bytes = (layers : List Layer) → AreLayers files stack layers → bytes ≡ page_from (reverse layers) page

@@ -4,7 +4,7 @@
 mod laws;
 mod stack;
 
-pub use laws::{files_that_agree_have_the_same_layers, kept_files_are_layers};
+pub use laws::{a_page_reads_as_one, files_that_agree_have_the_same_layers, kept_files_are_layers};
 pub use stack::Stack;
 
 #[cfg(test)]

@@ -2,11 +2,10 @@
 ghost use Rattle.std.specs.Prelude.{◌≡◌, ◌<◌, ◌≤◌, ◌++◌, [], ◌∷◌, List, length, reverse, replicate, false, is_some, slice_index, IsTrue, OnOk, OnErr, IfOk};
 ghost use Rattle.std.specs.List.{AllByRecursion};
 ghost use Rattle.format_spec.specs.declared.limits.TheConstants.{PAGE_SIZE, MAX_LAYERS};
-ghost use Rattle.store_spec.specs.Image.{Layer, page_from};
 ghost use Rattle.disk_model.specs.Looking.{OnlyLooks};
 ghost use Rattle.page_file.specs.Errors.{HasCause, NoBadPage};
 ghost use Rattle.page_file.specs.Files.{IsKept};
-ghost use Rattle.layer_stack.specs.Stacks.{AreLayers, newest, numbers_of, sizes_of};
+ghost use Rattle.layer_stack.specs.Stacks.{ReadsAs, newest, numbers_of, sizes_of};
 ghost use Rattle.layer_stack.specs.Found.{FindsLayer};
 
 use byte_codec::NoMemory;
@@ -107,7 +106,7 @@ impl Stack {
     ) -> Result<bool, PageError>
         requires { IsTrue D.tells → AllByRecursion (IsKept (D.view disk.old).state.files) self.now }
 
-        ensures bytes { IsTrue D.tells → OnOk result ((layers : List Layer) → AreLayers (D.view disk.old).state.files self.now layers → into.new ≡ page_from (reverse layers) page) }
+        ensures bytes { IsTrue D.tells → OnOk result (ReadsAs (D.view disk.old).state.files self.now page into.new) }
         ensures found { IfOk result (λ found. found ≡ is_some (newest (reverse self.now) page)) }
         ensures zeros { IfOk result (λ found. found ≡ false → into.new ≡ replicate PAGE_SIZE 0) }
         ensures looks { IsTrue D.tells → OnlyLooks PAGE_SIZE (D.view disk.old) (D.view disk.new) }

@@ -21,10 +21,10 @@ Canisters = List (Bytes × Canister)
 abbrev pub memories_in : Canisters → List NamedMemory
 memories_in cs = flat_map canister_memories cs
 
-ids_total : IsTotalOrder bytes_cmp
+pub ids_total : IsTotalOrder bytes_cmp
 ids_total = nat_list_cmp_total
 
-ids_apart : IsAntisymmetric bytes_cmp
+pub ids_apart : IsAntisymmetric bytes_cmp
 ids_apart = slice_cmp-IsAntisymmetric nat_cmp-IsAntisymmetric
 
 equal : (o : Ordering) → is_eq o ≡ true → o ≡ Equal

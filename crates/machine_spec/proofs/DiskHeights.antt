@@ -1,24 +1,27 @@
--- The heights that files open at are heights at which a machine may begin.
-use Rattle.std.proofs.Common.{◌≡◌, ℕ, zero, suc, ◌+◌, ◌*◌, ◌<◌, ◌≤◌, ◌==◌, true, List, [], ◌∷◌, map, reverse, length, drop, zip, position, slice_index, Option, Some, None, option_map, refl, sym, ap, subst, arith, add-one, length-append, length-take, length-drop, is_lt}
+-- The heights that files of bytes open at are heights at which a machine may begin.
+use Rattle.std.proofs.Common.{◌≡◌, ℕ, zero, suc, ◌+◌, ◌*◌, ◌/◌, ◌<◌, ◌==◌, List, [], ◌∷◌, map, reverse, length, drop, zip, position, slice_index, Option, Some, None, option_map, unwrap_or, refl, sym, ap, subst, arith, add-one, length-append, length-take, length-drop}
 use Rattle.std.specs.List.{AllByRecursion, AllZip, flat_map, range_with_len}
 use Rattle.std.specs.List.Sorted.{IsStrictlyIncreasing}
-use Rattle.std.specs.FinMap.{is_sorted}
-use Rattle.std.specs.FinMap.Entries.{below_all}
-use Rattle.std.proofs.lemmas.List.{length-replicate, reverse-append}
+use Rattle.std.proofs.lemmas.List.{length-replicate}
 use Rattle.std.proofs.lemmas.List.Quantifiers.{position-Some}
-use Rattle.std.proofs.lemmas.Bool.{and_parts, and_from}
-use Rattle.format_spec.specs.Bytes.{Bytes, bytes_cmp}
+use Rattle.format_spec.specs.Bytes.{Bytes, IsBytes, page_at}
 use Rattle.format_spec.specs.declared.limits.TheConstants.{PAGE_SIZE}
-use Rattle.state_spec.specs.State.{SystemPart, CanisterPart, canisters_from, state_from}
+use Rattle.format_spec.proofs.Lists.{all_reversed}
+use Rattle.state_spec.specs.State.{CanisterPart, IsByteCanister, IsMemory, IsState, IsSystem, SystemPart, canisters_from, state_from, system_of}
+use Rattle.state_spec.specs.SystemText.{system_text}
 use Rattle.state_spec.specs.Files.{heap_name, stable_name}
-use Rattle.state_spec.specs.Memory.{page_at}
+use Rattle.disk_model.specs.declared.name.Name.TheVariants as name
 use Rattle.disk_model.specs.Files.{Files}
-use Rattle.store_spec.specs.Image.{Published, Layer, IsLayerOf, AreLayersOf, GivesHeight, OpensAt, GivesTrueHeight, StandsFor, heights_of, or_else, page_from, memory_from, memories_from}
+use Rattle.disk_model.specs.OfBytes.{AreOfBytes}
+use Rattle.store_spec.specs.Image.{Published, IsLayerOf, AreLayersOf, GivesHeight, OpensAt, GivesTrueHeight, StandsFor, heights_of, memories_from}
+use Rattle.page_spec.specs.Layers.{Layer, or_else, page_from, memory_from}
 use Rattle.store_spec.specs.Mark.{MarkMemory, FitsMemory}
-use Rattle.machine_spec.specs.Sound.{Ascend, AreHeights, IsPaged, MayBegin}
-use Rattle.machine_spec.proofs.Lists.{weaker, joined}
-use Rattle.machine_spec.proofs.Canisters.{memories_in}
-use Rattle.machine_spec.proofs.Opened.{no_rounds, opened_whole, begins_alike}
+use Rattle.machine_spec.specs.Sound.{Ascend, AreHeights, MayBegin}
+use Rattle.machine_spec.proofs.Lists.{weaker}
+use Rattle.machine_spec.proofs.Canisters.{Canisters}
+use Rattle.machine_spec.proofs.Opened.{same_valid}
+use Rattle.machine_spec.proofs.TextBytes.{HasBytes, file_bytes, mark_bytes, memory_bytes, system_bytes}
+use Rattle.machine_spec.proofs.Valid.{part}
 
 -- ---- numbers that ascend by places
 
@@ -56,13 +59,9 @@ pages_length : (ls : List Layer) → AllByRecursion IsGood ls → (a n : ℕ) �
 pages_length ls all a zero = refl
 pages_length ls all a (suc n) = omega (arith, length-append (page_from ls a) (flat_map (page_from ls) (range_with_len (a + 1) n)), page_length ls a all, pages_length ls all (a + 1) n)
 
-reversed : {X : Type 0} (P : X → Type 0) (xs : List X) → AllByRecursion P xs → AllByRecursion P (reverse xs)
-reversed P [] all = tt
-reversed P (x ∷ xs) all = subst (AllByRecursion P) (sym (reverse-append (x ∷ []) xs)) (joined P (reverse xs) (x ∷ []) (reversed P xs all.1) (all.0, tt))
-
 memory_length : (n : ℕ) (ls : List Layer) → AllByRecursion IsGood ls → length (memory_from n ls) ≡ n * PAGE_SIZE
 unfolding memory_from
-memory_length n ls all = pages_length (reverse ls) (reversed IsGood ls all) 0 n
+memory_length n ls all = pages_length (reverse ls) (all_reversed IsGood ls all) 0 n
 
 -- ---- the layers of a memory
 
@@ -72,11 +71,20 @@ seconds R P h [] (y ∷ ys) all = absurd all
 seconds R P h (x ∷ xs) [] all = absurd all
 seconds R P h (x ∷ xs) (y ∷ ys) all = (h x y all.0, seconds R P h xs ys all.1)
 
+-- the bytes of a layer that files have
+layer_bytes : (files : Files) → AreOfBytes files → (n number : ℕ) (l : Layer) → IsLayerOf files n number l → IsBytes l.pages
+layer_bytes files all n number l h = file_bytes h.text l.index l.pages h.good.spelled (subst (λ (o : Option Bytes). IsBytes (unwrap_or o [])) h.there (all (name.Page number)))
+
 -- a memory as its files give it
-one_memory : (files : Files) (numbers : List ℕ) (n : ℕ) (ls : List Layer) → AllZip (IsLayerOf files n) numbers ls → IsPaged (record { bytes = memory_from n ls; rounds = [] })
-one_memory files numbers n ls there =
-    let long : length (memory_from n ls) ≡ n * PAGE_SIZE = memory_length n ls (seconds (IsLayerOf files n) IsGood (λ _ l h. h.good.whole) numbers ls there) in
-    (record { whole_pages = omega (arith, long) }, no_rounds (memory_from n ls))
+record IsOf (pages : ℕ) (bytes : Bytes) : Type 0 where
+  long : length bytes ≡ pages * PAGE_SIZE
+  are : IsBytes bytes
+
+one_memory : (files : Files) → AreOfBytes files → (numbers : List ℕ) (n : ℕ) (ls : List Layer) → AllZip (IsLayerOf files n) numbers ls → IsOf n (memory_from n ls)
+one_memory files all numbers n ls there = record {
+  long = memory_length n ls (seconds (IsLayerOf files n) IsGood (λ _ l h. h.good.whole) numbers ls there);
+  are = memory_bytes n ls (seconds (IsLayerOf files n) (λ l. IsBytes l.pages) (layer_bytes files all n) numbers ls there);
+}
 
 -- ---- all memories
 
@@ -89,50 +97,73 @@ parts_of cs = flat_map (λ c. (heap_name c.0, c.1.heap) ∷ (stable_name c.0, c.
 abbrev bytes_of : Parts → List (List Layer) → List Bytes
 bytes_of cs ls = map (λ e. memory_from e.0.1 e.1) (zip (parts_of cs) ls)
 
-record Built (h : ℕ) (cs : Parts) (ls : List (List Layer)) : Type 0 where
-  below : (k : Bytes) → below_all bytes_cmp k cs ≡ true → below_all bytes_cmp k (canisters_from h cs (bytes_of cs ls)) ≡ true
-  sorted : is_sorted bytes_cmp cs ≡ true → is_sorted bytes_cmp (canisters_from h cs (bytes_of cs ls)) ≡ true
-  good : AllByRecursion (λ n. IsPaged n.memory) (memories_in (canisters_from h cs (bytes_of cs ls)))
+abbrev built_of : ℕ → Parts → List (List Layer) → Canisters
+built_of h cs ls = canisters_from h cs (bytes_of cs ls)
 
-built : (files : Files) (h : ℕ) (cs : Parts) (ms : List MarkMemory) (ls : List (List Layer)) → AllZip FitsMemory ms (parts_of cs) → AllZip (AreLayersOf files) (zip ms (parts_of cs)) ls → Built h cs ls
-built files h [] [] [] fits there = record { below = λ k e. refl; sorted = λ e. refl; good = tt }
-built files h [] [] (l ∷ ls) fits there = absurd there
-built files h [] (m ∷ ms) ls fits there = absurd fits
-built files h (c ∷ cs) [] ls fits there = absurd fits
-built files h (c ∷ cs) (a ∷ []) ls fits there = absurd fits.1
-built files h (c ∷ cs) (a ∷ b ∷ ms) [] fits there = absurd there
-built files h (c ∷ cs) (a ∷ b ∷ ms) (x ∷ []) fits there = absurd there.1
-built files h (c ∷ cs) (a ∷ b ∷ ms) (x ∷ y ∷ ls) fits there =
-    let rest = built files h cs ms ls fits.1.1 there.1.1 in
+record Built (h : ℕ) (cs : Parts) (ls : List (List Layer)) : Type 0 where
+  same : map part (built_of h cs ls) ≡ cs
+  whole : AllByRecursion (λ c. IsMemory c.1.heap × IsMemory c.1.stable) (built_of h cs ls)
+  bytes : AllByRecursion IsByteCanister (built_of h cs ls)
+
+whole_pages : (n : ℕ) (bytes : Bytes) → IsOf n bytes → IsMemory (record { bytes = bytes; rounds = [] })
+whole_pages n bytes is = record { whole_pages = omega (arith, is.long) }
+
+as_many : (n : ℕ) (bytes : Bytes) → IsOf n bytes → length bytes / PAGE_SIZE ≡ n
+as_many n bytes is = omega (arith, is.long)
+
+built : (files : Files) → AreOfBytes files → (h : ℕ) (cs : Parts) (ms : List MarkMemory) (ls : List (List Layer)) → AllByRecursion HasBytes cs → AllZip FitsMemory ms (parts_of cs) → AllZip (AreLayersOf files) (zip ms (parts_of cs)) ls
+    → Built h cs ls
+built files all h [] [] [] strings fits there = record { same = refl; whole = tt; bytes = tt }
+built files all h [] [] (l ∷ ls) strings fits there = absurd there
+built files all h [] (m ∷ ms) ls strings fits there = absurd fits
+built files all h (c ∷ cs) [] ls strings fits there = absurd fits
+built files all h (c ∷ cs) (a ∷ []) ls strings fits there = absurd fits.1
+built files all h (c ∷ cs) (a ∷ b ∷ ms) [] strings fits there = absurd there
+built files all h (c ∷ cs) (a ∷ b ∷ ms) (x ∷ []) strings fits there = absurd there.1
+built files all h (c ∷ cs) (a ∷ b ∷ ms) (x ∷ y ∷ ls) strings fits there =
+    let rest = built files all h cs ms ls strings.1 fits.1.1 there.1.1 in
+    let heap = one_memory files all a.layers c.1.heap x there.0 in
+    let stable = one_memory files all b.layers c.1.stable y there.1.0 in
+    let heap_pages = as_many c.1.heap (memory_from c.1.heap x) heap in
+    let stable_pages = as_many c.1.stable (memory_from c.1.stable y) stable in
     record {
-      below = λ k e. let p = and_parts (is_lt (bytes_cmp k c.0)) (below_all bytes_cmp k cs) e in and_from (is_lt (bytes_cmp k c.0)) (below_all bytes_cmp k (canisters_from h cs (bytes_of cs ls))) p.0 (rest.below k p.1);
-      sorted = λ e. let p = and_parts (below_all bytes_cmp c.0 cs) (is_sorted bytes_cmp cs) e in and_from (below_all bytes_cmp c.0 (canisters_from h cs (bytes_of cs ls))) (is_sorted bytes_cmp (canisters_from h cs (bytes_of cs ls))) (rest.below c.0 p.0) (rest.sorted p.1);
-      good = (one_memory files a.layers c.1.heap x there.0, (one_memory files b.layers c.1.stable y there.1.0, rest.good));
+      same = λ i. (c.0, record { wasm = c.1.wasm; certified = c.1.certified; heap = heap_pages i; stable = stable_pages i }) ∷ rest.same i;
+      whole = ((whole_pages c.1.heap (memory_from c.1.heap x) heap, whole_pages c.1.stable (memory_from c.1.stable y) stable), rest.whole);
+      bytes = (record { id = strings.0.id; wasm = strings.0.wasm; certified = strings.0.certified; heap = heap.are; stable = stable.are }, rest.bytes);
     }
 
 -- ---- a height
 
-given_may : (files : Files) (h version : ℕ) (s : SystemPart) (ms : List MarkMemory) (ls : List (List Layer)) → 1 ≤ h → version ≡ 1 → is_sorted bytes_cmp s.canisters ≡ true
-    → AllZip FitsMemory ms (parts_of s.canisters) → AllZip (AreLayersOf files) (zip ms (parts_of s.canisters)) ls
-    → MayBegin (record { height = h; state = state_from version h s (memories_from s ls); layers = map (map (λ l. l.index.numbers)) ls })
-unfolding state_from
-given_may files h version s ms ls from_one is sorted fits there =
-    let b = built files h s.canisters ms ls fits there in
-    let p : Published = record { height = h; state = state_from version h s (memories_from s ls); layers = map (map (λ l. l.index.numbers)) ls } in
-    record { from_one = from_one; whole = opened_whole p (record { version = is; sorted = b.sorted sorted; memories = b.good }) }
+made_valid : (files : Files) → AreOfBytes files → (h version : ℕ) (s : SystemPart) (ms : List MarkMemory) (ls : List (List Layer)) → version ≡ 1 → IsSystem version s → IsBytes (system_text s)
+    → AllZip FitsMemory ms (parts_of s.canisters) → AllZip (AreLayersOf files) (zip ms (parts_of s.canisters)) ls → IsState (state_from version h s (memories_from s ls))
+unfolding state_from system_of
+made_valid files all h version s ms ls is good text fits there =
+    let strings = system_bytes s text in
+    let b = built files all h s.canisters ms ls strings.0 fits there in
+    let same : system_of (state_from version h s (memories_from s ls)) ≡ s = λ i. record { time = s.time; canisters = b.same i; entries = s.entries } in
+    record {
+      version = is;
+      system = subst (IsSystem version) (sym same) good;
+      memories = b.whole;
+      bytes = record { canisters = b.bytes; entries = strings.1 };
+    }
 
-given_begins : (files : Files) (p : Published) → GivesHeight files p → MayBegin p
-given_begins files p g =
-    begins_alike (record { height = p.height; state = state_from g.mark.version p.height g.system (memories_from g.system g.layers); layers = map (map (λ l. l.index.numbers)) g.layers }) p
-    (record { height = refl; state = sym g.same_state; layers = sym g.same_layers })
-    (given_may files p.height g.mark.version g.system g.mark.memories g.layers (omega (arith, g.spelled.good.from_one, g.spelled.of_height)) g.spelled.good.version g.spelled.good.system_good.ids_ascend g.spelled.good.memories_fit g.layers_there)
+given_begins : (files : Files) → AreOfBytes files → (p : Published) → GivesHeight files p → MayBegin p
+given_begins files all p g =
+    let text : IsBytes g.text = subst (λ (o : Option Bytes). IsBytes (unwrap_or o [])) g.there (all (name.Mark p.height)) in
+    let system : IsBytes (system_text g.system) = subst IsBytes g.spelled.good.system_spelled (mark_bytes g.mark (subst IsBytes g.spelled.spelled text)) in
+    record {
+      from_one = omega (arith, g.spelled.good.from_one, g.spelled.of_height);
+      valid = same_valid (state_from g.mark.version p.height g.system (memories_from g.system g.layers)) p.state (sym g.same_state)
+          (made_valid files all p.height g.mark.version g.system g.mark.memories g.layers g.spelled.good.version g.spelled.good.system_good system g.spelled.good.memories_fit g.layers_there);
+    }
 
-pub opened_heights : (files : Files) (ps : List Published) → OpensAt files ps → AreHeights ps
-opened_heights files ps o = record {
+pub opened_heights : (files : Files) (ps : List Published) → AreOfBytes files → OpensAt files ps → AreHeights ps
+opened_heights files ps all o = record {
   ascend = ascend_of (heights_of ps) o.marks.ascending;
   few = o.few;
-  each = weaker (GivesHeight files) MayBegin (given_begins files) ps o.each;
+  each = weaker (GivesHeight files) MayBegin (given_begins files all) ps o.each;
 }
 
-pub standing_heights : (files : Files) (ps : List Published) → StandsFor files ps → AreHeights ps
-standing_heights files ps h = opened_heights files ps (record { marks = h.marks; few = h.few; each = weaker (GivesTrueHeight files) (GivesHeight files) (λ p t. t.0) ps h.each })
+pub standing_heights : (files : Files) (ps : List Published) → AreOfBytes files → StandsFor files ps → AreHeights ps
+standing_heights files ps all h = opened_heights files ps all (record { marks = h.marks; few = h.few; each = weaker (GivesTrueHeight files) (GivesHeight files) (λ p t. t.0) ps h.each })

@@ -5,7 +5,7 @@ use Rattle.std.proofs.lemmas.Bool.{leb-false}
 use Rattle.format_spec.specs.declared.limits.TheConstants.{MAX_HEIGHT, MAX_HEIGHTS, MAX_PUBLISHED}
 use Rattle.state_spec.specs.State.{State}
 use Rattle.state_spec.specs.Root.{root_of}
-use Rattle.store_spec.specs.Image.{Published, heights_of, without_published}
+use Rattle.store_spec.specs.Image.{Published, heights_of, without_published, whole_layers}
 use Rattle.script_text.specs.declared.command.HeightOrLive.{HeightOrLive}
 use Rattle.script_text.specs.declared.reply.Reply.{Reply}
 use Rattle.script_text.specs.declared.reply.Reply.TheVariants as replies
@@ -13,11 +13,10 @@ use Rattle.script_text.specs.declared.reply.Refusal.TheVariants.{ManyHeights, He
 use Rattle.machine_spec.specs.Machine.{Machine, answered, unless, unless_none, kept_at, without_height, state_at, newest, published_at, resumed_at}
 use Rattle.machine_spec.specs.States.{memories_of}
 use Rattle.machine_spec.specs.HeightSteps.{round_step, forget_step, tree_root}
-use Rattle.machine_spec.specs.StoreSteps.{is_low, is_newest, whole_layers, checkpoint_step, purge_step, reset_step}
+use Rattle.machine_spec.specs.StoreSteps.{is_low, is_newest, checkpoint_step, purge_step, reset_step}
 use Rattle.machine_spec.specs.Sound.{IsSound, IsWholeState, IsWithin, IsBornBy, EachLater, Ascend, MayBegin}
 use Rattle.machine_spec.proofs.Lists.{weaker, joined, parts, kept, before_one, later_one, later_kept, of_map, to_map, later_of_map, later_to_map, last_holds}
 use Rattle.machine_spec.proofs.LiveKept.{if_not_refused, if_some, live_within}
-use Rattle.machine_spec.proofs.Opened.{opened_whole}
 use Rattle.machine_spec.proofs.StartKept.{resumed_is_sound}
 
 abbrev Kept : Type 0
@@ -132,7 +131,7 @@ checkpoint_sound m k s last high few =
       published = record {
         ascend = subst Ascend (sym (map_longer (λ (p : Published). p.height) m.published p)) (later_one Below (heights_of m.published) k.0 s.published.ascend (to_map (λ p. p.height) (λ x. x < k.0) m.published over));
         few = omega (arith, few, length-append m.published (p ∷ []));
-        each = joined MayBegin m.published (p ∷ []) s.published.each (record { from_one = positive; whole = opened_whole p whole }, tt);
+        each = joined MayBegin m.published (p ∷ []) s.published.each (record { from_one = positive; valid = whole.valid }, tt);
       };
       above = joined (λ p. p.height < m.height) m.published (p ∷ []) s.above (under, tt);
       few_in_memory = s.few_in_memory;

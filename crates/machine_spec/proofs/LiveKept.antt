@@ -2,21 +2,26 @@
 use Rattle.std.proofs.Common.{◌≡◌, ℕ, ◌+◌, ◌-◌, ◌*◌, ◌≤◌, Bool, true, false, ◌&&◌, not, List, [], ◌∷◌, length, Option, Some, None, is_some, refl, sym, subst, arith, nat_le, nat_lt}
 use Rattle.std.specs.List.{AllByRecursion}
 use Rattle.std.specs.FinMap.{find, put}
-use Rattle.format_spec.specs.Bytes.{Bytes, path_cmp}
-use Rattle.format_spec.specs.declared.limits.TheConstants.{PAGE_SIZE, MAX_CANISTERS, MAX_ENTRIES}
-use Rattle.state_spec.specs.State.{State, Canister, Memory, pages_of, memory_limit, state_limit, is_reserved, has_conflict, without}
+use Rattle.std.proofs.lemmas.Bool.{leb-false, ltb-false}
+use Rattle.format_spec.specs.Bytes.{Bytes, bytes_cmp, path_cmp}
+use Rattle.format_spec.specs.declared.limits.TheConstants.{PAGE_SIZE, MAX_CANISTERS, MAX_ENTRIES, MAX_MEMORY_PAGES, MAX_STATE_PAGES}
+use Rattle.state_spec.specs.State.{State, Canister, Memory, IsState, HasPageRounds, pages_in, pages_of, part_of, memory_limit, state_limit, is_reserved, has_conflict, without}
 use Rattle.state_spec.specs.Memory.{grow, write, no_memory}
-use Rattle.state_spec.proofs.Memories.{grow_good, grow_keeps_rounds, grow_rounds, write_good, write_keeps_rounds}
+use Rattle.state_spec.proofs.Memories.{grow_bytes, grow_good, grow_keeps_rounds, grow_pages, grow_rounds, write_IsBytes, write_good, write_keeps_rounds}
 use Rattle.sys_state.specs.declared.mem.Mem.{Mem}
+use Rattle.script_text.specs.Commands.{IsCommand}
+use Rattle.script_text.specs.declared.command.Command.TheVariants as commands
 use Rattle.script_text.specs.declared.reply.Refusal.{Refusal}
 use Rattle.script_text.specs.declared.reply.Refusal.TheVariants.{Exists, ManyCanisters, NoCanister, MemoryFull, StateFull}
 use Rattle.script_text.specs.declared.reply.Refusal.TheVariants.{Reserved, PathConflict, TreeFull, NoPath}
 use Rattle.machine_spec.specs.Machine.{Machine, Outcome, now_live, refused_if, unless, unless_none}
 use Rattle.machine_spec.specs.States.{NamedMemory, canister_memories, memories_of, canister_in, with_canister, without_canister, newborn, memory_of, with_memory, pages_with, state_pages}
 use Rattle.machine_spec.specs.LiveSteps.{canister_step, drop_step, grow_step, write_step, module_step, certify_step, time_step, put_step, del_step}
-use Rattle.machine_spec.specs.Sound.{IsSound, IsPaged, IsWholeState, IsWithin, IsBornBy}
+use Rattle.machine_spec.specs.Sound.{IsSound, IsWholeState, IsWithin, IsBornBy}
 use Rattle.machine_spec.proofs.Lists.{joined, parts}
-use Rattle.machine_spec.proofs.Canisters.{of_found, with_one, without_one, with_other, sorted_with, sorted_without}
+use Rattle.machine_spec.proofs.Canisters.{Canisters, of_found, with_one, without_one, with_other}
+use Rattle.machine_spec.proofs.Valid.{AreEntries, AreGood, IsGood, canisters_of, changed, created, entries_of, removed, time_of, valid_from}
+use Rattle.machine_spec.proofs.ValidSteps.{Follows, all_pages_are, entry_gone, entry_set, new_pages, newborn_good, with_certified, with_new, with_wasm, written_few, written_pages}
 use Rattle.machine_spec.proofs.WrittenRounds.{write_each_round}
 
 -- ---- refusals change nothing
@@ -60,90 +65,114 @@ with_memories m t s whole all = with_live m t s whole (all (IsBornBy m.height) (
 
 -- ---- the steps that leave memories as they are
 
-pub time_kept : (m : Machine) (n : ℕ) → IsSound m → IsSound (time_step m n).after
-time_kept m n s =
-    with_memories m (record m.live { time = n }) s (record { version = s.live.version; sorted = s.live.sorted; memories = s.live.memories }) (λ P all. all)
+pub time_kept : (m : Machine) (n : ℕ) → IsCommand (commands.Time n) → IsSound m → IsSound (time_step m n).after
+time_kept m n c s =
+    let old : IsState m.live = s.live.valid in
+    with_memories m (record m.live { time = n }) s
+    (record { valid = valid_from (record m.live { time = n }) old.version c.types (canisters_of m.live old) (entries_of m.live old); rounds = s.live.rounds }) (λ P all. all)
 
-entries_kept : (m : Machine) (es : List (List Bytes × Bytes)) → IsSound m → IsSound (record m { live = record m.live { entries = es } })
-entries_kept m es s =
-    with_memories m (record m.live { entries = es }) s (record { version = s.live.version; sorted = s.live.sorted; memories = s.live.memories }) (λ P all. all)
+entries_kept : (m : Machine) (es : List (List Bytes × Bytes)) → AreEntries es → IsSound m → IsSound (record m { live = record m.live { entries = es } })
+entries_kept m es good s =
+    let old : IsState m.live = s.live.valid in
+    with_memories m (record m.live { entries = es }) s
+    (record { valid = valid_from (record m.live { entries = es }) old.version (time_of m.live old) (canisters_of m.live old) good; rounds = s.live.rounds }) (λ P all. all)
 
-pub put_kept : (m : Machine) (path : List Bytes) (value : Bytes) → IsSound m → IsSound (put_step m path value).after
-put_kept m path value s =
+pub put_kept : (m : Machine) (path : List Bytes) (value : Bytes) → IsCommand (commands.Put path value) → IsSound m → IsSound (put_step m path value).after
+put_kept m path value c s =
     if_not_refused IsSound (
     (is_reserved path, Reserved)
     ∷ (has_conflict m.live.entries path, PathConflict)
     ∷ (not (is_some (find path_cmp path m.live.entries)) && nat_le MAX_ENTRIES (length m.live.entries), TreeFull)
     ∷ []
-    ) m (λ m. now_live m (record m.live { entries = put path_cmp path value m.live.entries })) s (λ _. entries_kept m (put path_cmp path value m.live.entries) s)
+    ) m (λ m. now_live m (record m.live { entries = put path_cmp path value m.live.entries })) s (λ none.
+    entries_kept m (put path_cmp path value m.live.entries)
+    (entry_set m.live.entries (entries_of m.live s.live.valid) path value none.0 none.1.0 none.1.1.0 c.types.0 c.types.1 c.types.2 c.form) s)
 
 pub del_kept : (m : Machine) (path : List Bytes) → IsSound m → IsSound (del_step m path).after
 del_kept m path s =
     if_not_refused IsSound (
     (not (is_some (find path_cmp path m.live.entries)), NoPath)
     ∷ []
-    ) m (λ m. now_live m (record m.live { entries = without path_cmp path m.live.entries })) s (λ _. entries_kept m (without path_cmp path m.live.entries) s)
+    ) m (λ m. now_live m (record m.live { entries = without path_cmp path m.live.entries })) s (λ none.
+    entries_kept m (without path_cmp path m.live.entries) (gone (find path_cmp path m.live.entries) refl none.0) s)
+  where
+    gone : (o : Option Bytes) → find path_cmp path m.live.entries ≡ o → not (is_some o) ≡ false → AreEntries (without path_cmp path m.live.entries)
+    gone (Some value) e there = entry_gone m.live.entries (entries_of m.live s.live.valid) path value e
+    gone None e there = absurd cc
 
 -- ---- a canister
 
+-- other canisters
+with_canisters : (m : Machine) (cs : Canisters) → IsSound m → AreGood cs → IsState (record m.live { canisters = cs })
+with_canisters m cs s good =
+    let old : IsState m.live = s.live.valid in
+    valid_from (record m.live { canisters = cs }) old.version (time_of m.live old) good (entries_of m.live old)
+
 -- a canister of the same memories
 same_memories : (m : Machine) (id : Bytes) (c d : Canister) → canister_in m.live id ≡ Some c → IsSound m
+    → (IsGood (id, c) → IsGood (id, d)) → pages_in (part_of d) ≡ pages_in (part_of c)
     → ((P : NamedMemory → Type 0) → AllByRecursion P (canister_memories (id, c)) → AllByRecursion P (canister_memories (id, d))) → IsSound (record m { live = with_canister m.live id d })
-same_memories m id c d found s same =
+same_memories m id c d found s step size same =
+    let good : AreGood m.live.canisters = canisters_of m.live s.live.valid in
     let all : (P : NamedMemory → Type 0) → AllByRecursion P (memories_of m.live) → AllByRecursion P (memories_of (with_canister m.live id d)) =
     λ P h. with_one P id d m.live.canisters h (same P (of_found P id c m.live.canisters found h)) in
     with_memories m (with_canister m.live id d) s (record {
-      version = s.live.version;
-      sorted = sorted_with id d m.live.canisters s.live.sorted;
-      memories = all (λ n. IsPaged n.memory) s.live.memories;
+      valid = with_canisters m (put bytes_cmp id d m.live.canisters) s (changed id c d m.live.canisters good found step (omega (arith, good.room, size)));
+      rounds = all (λ n. HasPageRounds n.memory) s.live.rounds;
     }) all
 
-pub module_kept : (m : Machine) (id : Bytes) (wasm : Option Bytes) → IsSound m → IsSound (module_step m id wasm).after
-module_kept m id wasm s = if_some IsSound (canister_in m.live id) NoCanister m (λ c. now_live m (with_canister m.live id (record c { wasm = wasm }))) s (λ c found. same_memories m id c (record c { wasm = wasm }) found s (λ P all. all))
+installed : (id : Bytes) (c : Canister) (wasm : Option Bytes) → IsCommand (commands.Module id wasm) → IsGood (id, c) → IsGood (id, record c { wasm = wasm })
+installed id c None fits g = with_wasm id c None tt tt g
+installed id c (Some wasm) fits g = with_wasm id c (Some wasm) fits.form fits.types g
 
-pub certify_kept : (m : Machine) (id bytes : Bytes) → IsSound m → IsSound (certify_step m id bytes).after
-certify_kept m id bytes s = if_some IsSound (canister_in m.live id) NoCanister m (λ c. now_live m (with_canister m.live id (record c { certified = bytes }))) s (λ c found. same_memories m id c (record c { certified = bytes }) found s (λ P all. all))
+pub module_kept : (m : Machine) (id : Bytes) (wasm : Option Bytes) → IsCommand (commands.Module id wasm) → IsSound m → IsSound (module_step m id wasm).after
+module_kept m id wasm fits s = if_some IsSound (canister_in m.live id) NoCanister m (λ c. now_live m (with_canister m.live id (record c { wasm = wasm }))) s (λ c found.
+    same_memories m id c (record c { wasm = wasm }) found s (installed id c wasm fits) refl (λ P all. all))
+
+pub certify_kept : (m : Machine) (id bytes : Bytes) → IsCommand (commands.Certify id bytes) → IsSound m → IsSound (certify_step m id bytes).after
+certify_kept m id bytes fits s = if_some IsSound (canister_in m.live id) NoCanister m (λ c. now_live m (with_canister m.live id (record c { certified = bytes }))) s (λ c found.
+    same_memories m id c (record c { certified = bytes }) found s (with_certified id c bytes fits.form fits.types) refl (λ P all. all))
 
 pub drop_kept : (m : Machine) (id : Bytes) → IsSound m → IsSound (drop_step m id).after
 drop_kept m id s = if_some IsSound (canister_in m.live id) NoCanister m (λ c. now_live m (without_canister m.live id)) s (λ c found.
     let all : (P : NamedMemory → Type 0) → AllByRecursion P (memories_of m.live) → AllByRecursion P (memories_of (without_canister m.live id)) = λ P h. without_one P id m.live.canisters h in
     with_memories m (without_canister m.live id) s (record {
-      version = s.live.version;
-      sorted = sorted_without id m.live.canisters s.live.sorted;
-      memories = all (λ n. IsPaged n.memory) s.live.memories;
+      valid = with_canisters m (without bytes_cmp id m.live.canisters) s (removed id m.live.canisters (canisters_of m.live s.live.valid));
+      rounds = all (λ n. HasPageRounds n.memory) s.live.rounds;
     }) all)
 
 -- a new canister has no page
-no_memory_good : IsPaged no_memory
-no_memory_good = (record { whole_pages = refl }, record { rounds_ascend = refl; rounds_within = tt })
+no_rounds : HasPageRounds no_memory
+no_rounds = record { rounds_ascend = refl; rounds_within = tt }
 
-pub canister_kept : (m : Machine) (id : Bytes) → IsSound m → IsSound (canister_step m id).after
-canister_kept m id s =
-    if_not_refused IsSound ((is_some (canister_in m.live id), Exists) ∷ (nat_le MAX_CANISTERS (length m.live.canisters), ManyCanisters) ∷ []) m (λ m. now_live m (with_canister m.live id (newborn m.height))) s (λ _.
+pub canister_kept : (m : Machine) (id : Bytes) → IsCommand (commands.Canister id) → IsSound m → IsSound (canister_step m id).after
+canister_kept m id fits s =
+    if_not_refused IsSound ((is_some (canister_in m.live id), Exists) ∷ (nat_le MAX_CANISTERS (length m.live.canisters), ManyCanisters) ∷ []) m (λ m. now_live m (with_canister m.live id (newborn m.height))) s (λ none.
     let c = newborn m.height in
     let cs = m.live.canisters in
     with_live m (with_canister m.live id c) s (record {
-      version = s.live.version;
-      sorted = sorted_with id c cs s.live.sorted;
-      memories = with_one (λ n. IsPaged n.memory) id c cs s.live.memories (no_memory_good, (no_memory_good, tt));
+      valid = with_canisters m (put bytes_cmp id c cs) s
+          (created id c cs (canisters_of m.live s.live.valid) (newborn_good id m.height fits.types.0 fits.types.1) refl (leb-false MAX_CANISTERS (length cs) none.1.0));
+      rounds = with_one (λ n. HasPageRounds n.memory) id c cs s.live.rounds (no_rounds, (no_rounds, tt));
     }) (with_one (IsBornBy m.height) id c cs (live_within m s) (record { birth = omega arith; rounds = tt }, (record { birth = omega arith; rounds = tt }, tt))))
 
 -- ---- one memory changes in the round of the live height
 
 changed_kept : (m : Machine) (id : Bytes) (mem : Mem) (c : Canister) (new : Memory) → canister_in m.live id ≡ Some c → IsSound m
-    → (IsPaged (memory_of c mem) → IsPaged new)
+    → Follows (memory_of c mem) new → state_pages m.live + pages_of new ≤ MAX_STATE_PAGES + pages_of (memory_of c mem)
+    → (HasPageRounds (memory_of c mem) → HasPageRounds new)
     → (AllByRecursion (λ r. r.1 ≤ m.height) (memory_of c mem).rounds → AllByRecursion (λ r. r.1 ≤ m.height) new.rounds)
     → IsSound (record m { live = with_canister m.live id (with_memory c mem new) })
-changed_kept m id mem c new found s good low =
+changed_kept m id mem c new found s follows sum rounds low =
     let cs = m.live.canisters in
     let d = with_memory c mem new in
     let one : (P : NamedMemory → Type 0) → AllByRecursion P (memories_of m.live) → (P (record { id = id; mem = mem; birth = c.birth; memory = memory_of c mem }) → P (record { id = id; mem = mem; birth = c.birth; memory = new }))
     → AllByRecursion P (memories_of (with_canister m.live id d)) =
     λ P h f. with_one P id d cs h (with_other P id c mem new (of_found P id c cs found h) f) in
     with_live m (with_canister m.live id d) s (record {
-      version = s.live.version;
-      sorted = sorted_with id d cs s.live.sorted;
-      memories = one (λ n. IsPaged n.memory) s.live.memories good;
+      valid = with_canisters m (put bytes_cmp id d cs) s
+          (changed id c d cs (canisters_of m.live s.live.valid) found (with_new id c mem new follows) (omega (arith, sum, all_pages_are m.live, new_pages c mem new)));
+      rounds = one (λ n. HasPageRounds n.memory) s.live.rounds rounds;
     }) (one (IsBornBy m.height) (live_within m s) (λ born. record { birth = born.birth; rounds = low born.rounds }))
 
 pub grow_kept : (m : Machine) (id : Bytes) (mem : Mem) (n : ℕ) → IsSound m → IsSound (grow_step m id mem n).after
@@ -157,12 +186,17 @@ grow_kept m id mem n s =
     (nat_lt (memory_limit m.live.version) (pages_of (memory_of c mem) + n), MemoryFull)
     ∷ (nat_lt (state_limit m.live.version) (state_pages m.live + n), StateFull)
     ∷ []
-    ) m (λ m. now_live m (with_canister m.live id (with_memory c mem (grow (memory_of c mem) n)))) s (λ _.
-    changed_kept m id mem c (grow (memory_of c mem) n) found s (λ h. (grow_good (memory_of c mem) n h.0, grow_keeps_rounds (memory_of c mem) n h.1))
+    ) m (λ m. now_live m (with_canister m.live id (with_memory c mem (grow (memory_of c mem) n)))) s (λ none.
+    let old : Memory = memory_of c mem in
+    let few : pages_of old + n ≤ MAX_MEMORY_PAGES = ltb-false MAX_MEMORY_PAGES (pages_of old + n) none.0 in
+    let sum : state_pages m.live + n ≤ MAX_STATE_PAGES = ltb-false MAX_STATE_PAGES (state_pages m.live + n) none.1.0 in
+    changed_kept m id mem c (grow old n) found s
+    (record { whole = grow_good old n; bytes = grow_bytes old n; few = λ _. omega (arith, few, grow_pages old n) })
+    (omega (arith, sum, grow_pages old n)) (grow_keeps_rounds old n)
     (λ all. subst (AllByRecursion (λ r. r.1 ≤ m.height)) (sym (grow_rounds (memory_of c mem) n)) all)))
 
-pub write_kept : (m : Machine) (id : Bytes) (mem : Mem) (at : ℕ) (bytes : Bytes) → IsSound m → IsSound (write_step m id mem at bytes).after
-write_kept m id mem at bytes s =
+pub write_kept : (m : Machine) (id : Bytes) (mem : Mem) (at : ℕ) (bytes : Bytes) → IsCommand (commands.Write id mem at bytes) → IsSound m → IsSound (write_step m id mem at bytes).after
+write_kept m id mem at bytes fits s =
     if_some IsSound (canister_in m.live id) NoCanister m (λ c. unless (
     (nat_lt (memory_limit m.live.version * PAGE_SIZE) (at + length bytes), MemoryFull)
     ∷ (nat_lt (state_limit m.live.version) (state_pages m.live + (pages_with (memory_of c mem) at (length bytes) - pages_of (memory_of c mem))), StateFull)
@@ -172,6 +206,17 @@ write_kept m id mem at bytes s =
     (nat_lt (memory_limit m.live.version * PAGE_SIZE) (at + length bytes), MemoryFull)
     ∷ (nat_lt (state_limit m.live.version) (state_pages m.live + (pages_with (memory_of c mem) at (length bytes) - pages_of (memory_of c mem))), StateFull)
     ∷ []
-    ) m (λ m. now_live m (with_canister m.live id (with_memory c mem (write m.height (memory_of c mem) at bytes)))) s (λ _.
-    changed_kept m id mem c (write m.height (memory_of c mem) at bytes) found s (λ h. (write_good m.height (memory_of c mem) at bytes h.0, write_keeps_rounds m.height (memory_of c mem) at bytes h.1))
+    ) m (λ m. now_live m (with_canister m.live id (with_memory c mem (write m.height (memory_of c mem) at bytes)))) s (λ none.
+    let old : Memory = memory_of c mem in
+    let size : ℕ = pages_with old at (length bytes) in
+    let within : at + length bytes ≤ MAX_MEMORY_PAGES * PAGE_SIZE = ltb-false (MAX_MEMORY_PAGES * PAGE_SIZE) (at + length bytes) none.0 in
+    let sum : state_pages m.live + (size - pages_of old) ≤ MAX_STATE_PAGES = ltb-false MAX_STATE_PAGES (state_pages m.live + (size - pages_of old)) none.1.0 in
+    let now : pages_of (write m.height old at bytes) ≡ size = written_pages m.height old at bytes in
+    changed_kept m id mem c (write m.height old at bytes) found s
+    (record {
+      whole = write_good m.height old at bytes;
+      bytes = λ were. write_IsBytes m.height old at bytes were fits.types;
+      few = λ few. subst (λ (n : ℕ). n ≤ MAX_MEMORY_PAGES) (sym now) (written_few old at (length bytes) within few);
+    })
+    (omega (arith, sum, now, all_pages_are m.live, (canisters_of m.live s.live.valid).room)) (write_keeps_rounds m.height old at bytes)
     (write_each_round (λ r. r.1 ≤ m.height) m.height (memory_of c mem) at bytes (λ p. omega arith))))

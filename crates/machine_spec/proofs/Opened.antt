@@ -1,14 +1,12 @@
 -- The live state of a store that opens at a height.
-use Rattle.std.proofs.Common.{◌≡◌, ℕ, ◌≤◌, Bool, ◌&&◌, List, [], ◌∷◌, map, refl, sym, ap, ap₂, ◌∙◌, subst, is_lt}
+use Rattle.std.proofs.Common.{◌≡◌, ℕ, ◌≤◌, List, [], ◌∷◌, map, refl, sym, ap, ap₂, ◌∙◌, subst}
 use Rattle.std.specs.List.{AllByRecursion, flat_map}
-use Rattle.std.specs.FinMap.{is_sorted}
-use Rattle.std.specs.FinMap.Entries.{below_all}
-use Rattle.format_spec.specs.Bytes.{Bytes, bytes_cmp}
-use Rattle.state_spec.specs.State.{State, Canister, CanisterPart, HasPageRounds, part_of, canister_from, canisters_from, state_from, system_of, memory_bytes, without_history, canister_without_history}
-use Rattle.store_spec.specs.Image.{Published, SamePublished}
-use Rattle.machine_spec.specs.Machine.{opened}
-use Rattle.machine_spec.specs.Sound.{IsPaged, IsWholeState, IsWithin, IsBornBy, MayBegin}
+use Rattle.format_spec.specs.Bytes.{Bytes}
+use Rattle.state_spec.specs.State.{State, Canister, CanisterPart, HasPageRounds, IsState, SameState, part_of, canister_from, canisters_from, state_from, system_of, memory_bytes, without_history, canister_without_history}
+use Rattle.store_spec.specs.Image.{Published, SamePublished, opened}
+use Rattle.machine_spec.specs.Sound.{IsWholeState, IsWithin, IsBornBy, MayBegin}
 use Rattle.machine_spec.proofs.Canisters.{Canisters, memories_in}
+use Rattle.machine_spec.proofs.Valid.{IsGood, Named, back_good, canisters_of, entries_of, over_good, time_of, valid_from}
 
 born_from : (h k : ℕ) → h ≤ k → (cs : List (Bytes × CanisterPart)) (ms : List Bytes) → AllByRecursion (IsBornBy k) (memories_in (canisters_from h cs ms))
 born_from h k le [] ms = tt
@@ -31,39 +29,34 @@ pub opened_canisters : (p : Published) → (opened p).canisters ≡ map (fresh p
 unfolding opened state_from system_of
 opened_canisters p = each_fresh p.height p.state.canisters
 
-pub opened_version : (p : Published) → (opened p).version ≡ p.state.version
-unfolding opened state_from
-opened_version p = refl
-
-fresh_below : (h : ℕ) (k : Bytes) (cs : Canisters) → below_all bytes_cmp k (map (fresh h) cs) ≡ below_all bytes_cmp k cs
-fresh_below h k [] = refl
-fresh_below h k (c ∷ cs) = ap (λ (b : Bool). is_lt (bytes_cmp k c.0) && b) (fresh_below h k cs)
-
-fresh_sorted : (h : ℕ) (cs : Canisters) → is_sorted bytes_cmp (map (fresh h) cs) ≡ is_sorted bytes_cmp cs
-fresh_sorted h [] = refl
-fresh_sorted h (c ∷ cs) =
-    ap (λ (b : Bool). b && is_sorted bytes_cmp (map (fresh h) cs)) (fresh_below h c.0 cs) ∙ ap (λ (b : Bool). below_all bytes_cmp c.0 cs && b) (fresh_sorted h cs)
+opened_is : (p : Published) → opened p ≡ record p.state { canisters = map (fresh p.height) p.state.canisters }
+unfolding opened state_from system_of
+opened_is p = ap (λ (cs : Canisters). record p.state { canisters = cs }) (each_fresh p.height p.state.canisters)
 
 pub no_rounds : (bytes : Bytes) → HasPageRounds (record { bytes = bytes; rounds = [] })
 no_rounds bytes = record { rounds_ascend = refl; rounds_within = tt }
 
-fresh_good : (h : ℕ) (cs : Canisters) → AllByRecursion (λ n. IsPaged n.memory) (memories_in cs) → AllByRecursion (λ n. IsPaged n.memory) (memories_in (map (fresh h) cs))
-fresh_good h [] all = tt
-fresh_good h (c ∷ cs) all =
-    ((record { whole_pages = all.0.0.whole_pages }, no_rounds c.1.heap.bytes), ((record { whole_pages = all.1.0.0.whole_pages }, no_rounds c.1.stable.bytes), fresh_good h cs all.1.1))
+fresh_rounds : (h : ℕ) (cs : Canisters) → AllByRecursion (λ n. HasPageRounds n.memory) (memories_in (map (fresh h) cs))
+fresh_rounds h [] = tt
+fresh_rounds h (c ∷ cs) = (no_rounds c.1.heap.bytes, (no_rounds c.1.stable.bytes, fresh_rounds h cs))
 
-pub opened_whole : (p : Published) → IsWholeState p.state → IsWholeState (opened p)
-opened_whole p w = record {
-  version = opened_version p ∙ w.version;
-  sorted = ap (is_sorted bytes_cmp) (opened_canisters p) ∙ fresh_sorted p.height p.state.canisters ∙ w.sorted;
-  memories = subst (λ (cs : Canisters). AllByRecursion (λ n. IsPaged n.memory) (memories_in cs)) (sym (opened_canisters p)) (fresh_good p.height p.state.canisters w.memories);
+fresh_good : (h : ℕ) (c : Named) → IsGood c → IsGood (fresh h c)
+fresh_good h c g = record {
+  fits = g.fits;
+  heap = record { whole_pages = g.heap.whole_pages };
+  stable = record { whole_pages = g.stable.whole_pages };
+  bytes = record { id = g.bytes.id; wasm = g.bytes.wasm; certified = g.bytes.certified; heap = g.bytes.heap; stable = g.bytes.stable };
 }
 
--- ---- heights that differ in births and rounds alone open alike
+pub opened_whole : (p : Published) → IsState p.state → IsWholeState (opened p)
+opened_whole p valid =
+    let good = over_good (λ c. canister_from p.height (part_of c) c.heap.bytes c.stable.bytes) (λ c. refl) (fresh_good p.height) p.state.canisters (canisters_of p.state valid) in
+    subst IsWholeState (sym (opened_is p)) (record {
+      valid = valid_from (record p.state { canisters = map (fresh p.height) p.state.canisters }) valid.version (time_of p.state valid) good (entries_of p.state valid);
+      rounds = fresh_rounds p.height p.state.canisters;
+    })
 
-opened_is : (p : Published) → opened p ≡ record p.state { canisters = map (fresh p.height) p.state.canisters }
-unfolding opened state_from system_of
-opened_is p = ap (λ (cs : Canisters). record p.state { canisters = cs }) (each_fresh p.height p.state.canisters)
+-- ---- heights that differ in births and rounds alone open alike
 
 fresh_anyway : (h : ℕ) (cs : Canisters) → map (fresh h) cs ≡ map (fresh h) (map (λ c. (c.0, canister_without_history c.1)) cs)
 fresh_anyway h [] = refl
@@ -78,8 +71,38 @@ opens_alike p q same =
     ∙ ap₂ (λ (h : ℕ) (s : State). record s { canisters = map (fresh h) s.canisters }) same.height same.state
     ∙ sym (born_anyway q.height q.state) ∙ sym (opened_is q)
 
+-- ---- and are valid alike
+
+bare_good : (c : Named) → IsGood c → IsGood (c.0, canister_without_history c.1)
+bare_good c g = record {
+  fits = g.fits;
+  heap = record { whole_pages = g.heap.whole_pages };
+  stable = record { whole_pages = g.stable.whole_pages };
+  bytes = record { id = g.bytes.id; wasm = g.bytes.wasm; certified = g.bytes.certified; heap = g.bytes.heap; stable = g.bytes.stable };
+}
+
+good_again : (c : Named) → IsGood (c.0, canister_without_history c.1) → IsGood c
+good_again c g = record {
+  fits = g.fits;
+  heap = record { whole_pages = g.heap.whole_pages };
+  stable = record { whole_pages = g.stable.whole_pages };
+  bytes = record { id = g.bytes.id; wasm = g.bytes.wasm; certified = g.bytes.certified; heap = g.bytes.heap; stable = g.bytes.stable };
+}
+
+bare_valid : (s : State) → IsState s → IsState (without_history s)
+bare_valid s valid =
+    valid_from (without_history s) valid.version (time_of s valid) (over_good canister_without_history (λ c. refl) bare_good s.canisters (canisters_of s valid)) (entries_of s valid)
+
+valid_again : (s : State) → IsState (without_history s) → IsState s
+valid_again s valid =
+    let t : State = without_history s in
+    valid_from s valid.version (time_of t valid) (back_good canister_without_history (λ c. refl) good_again s.canisters (canisters_of t valid)) (entries_of t valid)
+
+pub same_valid : (s t : State) → SameState s t → IsState s → IsState t
+same_valid s t same valid = valid_again t (subst IsState same (bare_valid s valid))
+
 pub begins_alike : (p q : Published) → SamePublished p q → MayBegin p → MayBegin q
 begins_alike p q same may = record {
   from_one = subst (λ (h : ℕ). 1 ≤ h) same.height may.from_one;
-  whole = subst IsWholeState (opens_alike p q same) may.whole;
+  valid = same_valid p.state q.state same.state may.valid;
 }

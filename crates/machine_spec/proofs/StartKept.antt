@@ -1,11 +1,14 @@
 -- The machine of a store that opens at published heights is sound, and so is one that begins again at the newest of them.
 use Rattle.std.proofs.Common.{◌≡◌, ℕ, ◌+◌, ◌<◌, List, [], ◌∷◌, Option, Some, None, refl, arith}
 use Rattle.std.specs.List.{AllByRecursion, last_or}
+use Rattle.state_spec.specs.State.{IsState}
 use Rattle.store_spec.specs.Image.{Published, heights_of}
 use Rattle.machine_spec.specs.Machine.{Machine, anew, newest, resumed, resumed_at}
 use Rattle.machine_spec.specs.Sound.{IsSound, AreHeights, MayBegin, EachLater, StartIsSound}
 use Rattle.machine_spec.proofs.Lists.{last_holds}
-use Rattle.machine_spec.proofs.Opened.{opened_within}
+use Rattle.machine_spec.specs.States.{empty_state}
+use Rattle.machine_spec.proofs.Opened.{opened_whole, opened_within}
+use Rattle.machine_spec.proofs.Valid.{valid_from}
 
 -- the newest is the highest
 up_to_newest : (ps : List Published) (p : Published) → EachLater (λ (a b : ℕ). a < b) (heights_of ps) → last_or None ps ≡ Some p → AllByRecursion (λ q. q.height < p.height + 1) ps
@@ -19,7 +22,7 @@ resumed_sound : (m : Machine) (p : Published) → AreHeights m.published → new
 resumed_sound m p h e =
     let may : MayBegin p = last_holds MayBegin None m.published p tt h.each e in
     record {
-      live = may.whole;
+      live = opened_whole p may.valid;
       memory = tt;
       within = (opened_within p (p.height + 1) (omega arith), tt);
       ascends = ((omega arith, tt), (tt, tt));
@@ -35,6 +38,24 @@ resumed_is_sound m s = by (newest m.published) refl
     by None e = s
     by (Some p) e = resumed_sound m p s.published e
 
+empty_valid : IsState empty_state
+empty_valid = valid_from empty_state refl (omega arith) (record { few = omega arith; sorted = refl; each = tt; room = omega arith })
+    (record {
+      system = record {
+        time = omega arith;
+        few_canisters = omega arith;
+        ids_ascend = refl;
+        canisters_fit = tt;
+        pages_fit = omega arith;
+        few_entries = omega arith;
+        paths_ascend = refl;
+        paths_apart = refl;
+        entries_fit = tt;
+      };
+      canisters = tt;
+      entries = tt;
+    })
+
 -- nothing is published where there is no newest height
 none_above : (ps : List Published) → newest ps ≡ None → AllByRecursion (λ p. p.height < 1) ps
 none_above [] e = tt
@@ -49,7 +70,7 @@ start_is_sound ps h = by (newest ps) refl
   where
     by : (o : Option Published) → newest ps ≡ o → IsSound (resumed_at o (anew ps))
     by None e = record {
-      live = record { version = refl; sorted = refl; memories = tt };
+      live = record { valid = empty_valid; rounds = tt };
       memory = tt;
       within = (tt, tt);
       ascends = ((omega arith, tt), (tt, tt));

@@ -1,5 +1,5 @@
 -- How many bytes a line appends to the disk, and how many it reads at most.
-use Rattle.std.specs.Prelude.{ℕ, ◌+◌, ◌-◌, ◌*◌, ◌/◌, ◌==◌, ◌||◌, if◌then◌else◌, nat_le, length, is_some, Bool, false, Option, Some, None}
+use Rattle.std.specs.Prelude.{ℕ, ◌+◌, ◌-◌, ◌*◌, ◌/◌, ◌==◌, ◌||◌, if◌then◌else◌, nat_le, length, sum_by, Option, None}
 use Rattle.std.specs.List.{last_or}
 use Rattle.std.specs.Option.{option_map_or}
 use Rattle.format_spec.specs.declared.limits.TheConstants.{PAGE_SIZE, MAX_PUBLISHED}
@@ -11,6 +11,9 @@ use Rattle.script_text.specs.declared.command.Command.{Command}
 use Rattle.script_text.specs.declared.command.Command.TheVariants.{Read, Checkpoint, Reset, Scratch}
 use Rattle.script_text.specs.declared.command.HeightOrLive.{HeightOrLive}
 use Rattle.script_text.specs.declared.command.HeightOrLive.TheVariants.{Live, Height}
+use Rattle.script_text.specs.declared.reply.Reply.{Reply}
+use Rattle.script_text.specs.declared.reply.Reply.TheVariants.{Bytes}
+use Rattle.machine_spec.specs.LiveSteps.{read_reply}
 use Rattle.machine_spec.specs.Machine.{Machine, published_at}
 use Rattle.machine_spec.specs.StoreSteps.{is_low, is_newest}
 
@@ -33,15 +36,25 @@ appends m command = 0
 abbrev pub pages_holding : ℕ → ℕ → ℕ
 pages_holding offset len = if len == 0 then 0 else pages_for (offset + len) - offset / PAGE_SIZE
 
--- the height is published, so that its bytes are on the disk
-abbrev pub is_published : Machine → HeightOrLive → Bool
-is_published m Live = false
-is_published m (Height h) = is_some (published_at h m.published)
+-- the state that a line asks about, where its height is published: its bytes are on the disk then
+abbrev pub on_disk : Machine → HeightOrLive → Option State
+on_disk m Live = None
+on_disk m (Height h) = published_at h m.published
 
--- The bytes that a line reads at most, none for no bound: of a published height `read` reads the pages that it needs,
--- `scratch` all, and `reset` all of the newest.
-abbrev pub reads : Machine → Command → Option ℕ
-reads m (Read at id mem offset len) = Some (if is_published m at then PAGE_SIZE * pages_holding offset len else 0)
-reads m (Scratch at) = if is_published m at then None else Some 0
-reads m (Reset height) = if is_newest height m.published then None else Some 0
-reads m command = Some 0
+-- the bytes of all memories
+abbrev pub all_bytes : State → ℕ
+all_bytes s = sum_by (λ bytes. length bytes) (memory_bytes s)
+
+-- the pages that hold the bytes that a reply tells, and none where it tells none
+abbrev pub pages_told : Reply → ℕ → ℕ → ℕ
+pages_told (Bytes bytes) offset len = pages_holding offset len
+pages_told reply offset len = 0
+
+-- The bytes that a line reads at most: of a published height `read` reads the pages with the bytes that it tells, `scratch` all, and
+-- `reset` all of the newest. No other line reads, and none that is refused.
+abbrev pub reads : Machine → Command → ℕ
+reads m (Read at id mem offset len) =
+    option_map_or (λ s. PAGE_SIZE * pages_told (read_reply s id mem offset len) offset len) (on_disk m at) 0
+reads m (Scratch at) = option_map_or all_bytes (on_disk m at) 0
+reads m (Reset height) = if is_newest height m.published then option_map_or all_bytes (published_at height m.published) 0 else 0
+reads m command = 0

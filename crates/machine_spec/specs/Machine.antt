@@ -4,7 +4,7 @@ use Rattle.std.specs.List.{last_or}
 use Rattle.std.specs.Option.{option_map, option_or}
 use Rattle.format_spec.specs.Bytes.{Bytes}
 use Rattle.state_spec.specs.State.{State, Canister, system_of, memory_bytes, state_from}
-use Rattle.store_spec.specs.Image.{Published}
+use Rattle.store_spec.specs.Image.{Published, opened}
 use Rattle.script_text.specs.declared.command.HeightOrLive.{HeightOrLive}
 use Rattle.script_text.specs.declared.command.HeightOrLive.TheVariants.{Live, Height}
 use Rattle.script_text.specs.declared.reply.Reply.{Reply}
@@ -23,10 +23,6 @@ pub record Machine : Type 0 where
 -- the newest of published heights
 abbrev pub newest : List Published → Option Published
 newest ps = last_or None ps
-
--- the live state of a store that opens at a height: each birth is the height, and no page has a round
-unfoldable pub opened : Published → State
-opened p = state_from p.state.version p.height (system_of p.state) (memory_bytes p.state)
 
 -- the machine of a store with these heights, where nothing is there yet to go on from
 abbrev pub anew : List Published → Machine

@@ -1,25 +1,19 @@
 -- What is so of every machine that a script leads to.
-use Rattle.std.specs.Prelude.{◌≡◌, ℕ, ◌≤◌, ◌<◌, IsTrue, List, [], ◌∷◌, ◌++◌, length, map}
-use Rattle.std.specs.FinMap.{is_sorted}
+use Rattle.std.specs.Prelude.{ℕ, ◌≤◌, ◌<◌, List, [], ◌∷◌, ◌++◌, length, map}
 use Rattle.std.specs.List.{AllByRecursion}
-use Rattle.format_spec.specs.Bytes.{bytes_cmp}
 use Rattle.format_spec.specs.declared.limits.TheConstants.{MAX_HEIGHTS, MAX_PUBLISHED}
-use Rattle.state_spec.specs.State.{State, Memory, IsMemory, HasPageRounds}
+use Rattle.state_spec.specs.State.{State, IsState, HasPageRounds}
 use Rattle.store_spec.specs.Image.{Published, heights_of}
+use Rattle.script_text.specs.Commands.{IsCommand}
 use Rattle.script_text.specs.declared.command.Command.{Command}
-use Rattle.machine_spec.specs.Machine.{Machine, start, opened}
+use Rattle.machine_spec.specs.Machine.{Machine, start}
 use Rattle.machine_spec.specs.States.{NamedMemory, memories_of}
 use Rattle.machine_spec.specs.Step.{step}
 
--- whole pages, and rounds of pages that are there
-abbrev pub IsPaged : Memory → Type 0
-IsPaged m = IsMemory m × HasPageRounds m
-
--- a state of version 1 in order of ids, with such memories
+-- a valid state, with rounds of pages that are there
 pub record IsWholeState (s : State) : Type 0 where
-  pub version : s.version ≡ 1
-  pub sorted : IsTrue (is_sorted bytes_cmp s.canisters)
-  pub memories : AllByRecursion (λ n. IsPaged n.memory) (memories_of s)
+  pub valid : IsState s
+  pub rounds : AllByRecursion (λ n. HasPageRounds n.memory) (memories_of s)
 
 -- a canister is born, and its pages are written, at this height or before
 pub record IsBornBy (height : ℕ) (n : NamedMemory) : Type 0 where
@@ -42,7 +36,7 @@ Ascend ns = EachLater (λ (a : ℕ) (b : ℕ). a < b) ns
 -- a published height at which a machine may begin
 pub record MayBegin (p : Published) : Type 0 where
   pub from_one : 1 ≤ p.height
-  pub whole : IsWholeState (opened p)
+  pub valid : IsState p.state
 
 pub record AreHeights (ps : List Published) : Type 0 where
   pub ascend : Ascend (heights_of ps)
@@ -59,9 +53,9 @@ pub record IsSound (m : Machine) : Type 0 where
   pub above : AllByRecursion (λ p. p.height < m.height) m.published
   pub few_in_memory : length m.memory ≤ MAX_HEIGHTS
 
--- a step keeps it
+-- the step of a command that a line may spell keeps it
 abbrev pub StepKeeps : Machine → Command → Type 0
-StepKeeps m command = IsSound m → IsSound (step m command).after
+StepKeeps m command = IsCommand command → IsSound m → IsSound (step m command).after
 
 -- a machine that begins at published heights has it
 abbrev pub StartIsSound : List Published → Type 0

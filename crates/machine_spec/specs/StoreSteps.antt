@@ -6,7 +6,7 @@ use Rattle.std.specs.Option.{option_map_or}
 use Rattle.format_spec.specs.declared.limits.TheConstants.{PAGE_SIZE, MAX_PUBLISHED}
 use Rattle.state_spec.specs.State.{State, memory_bytes}
 use Rattle.state_spec.specs.Root.{root_of}
-use Rattle.store_spec.specs.Image.{Published, without_published}
+use Rattle.store_spec.specs.Image.{Published, without_published, whole_layers}
 use Rattle.script_text.specs.declared.command.HeightOrLive.{HeightOrLive}
 use Rattle.script_text.specs.declared.reply.Reply.TheVariants as replies
 use Rattle.script_text.specs.declared.reply.Refusal.TheVariants.{NoHeight, HeightLow, ManyMarks, LastHeight}
@@ -19,14 +19,6 @@ is_low h ps = option_map_or (λ p. nat_le h p.height) (newest ps) false
 -- this is the newest published height
 abbrev pub is_newest : ℕ → List Published → Bool
 is_newest h ps = option_map_or (λ p. p.height == h) (newest ps) false
-
--- one layer with all of so many pages, and none for no pages
-abbrev pub whole_layer : ℕ → List (List ℕ)
-whole_layer pages = if pages == 0 then [] else range_with_len 0 pages ∷ []
-
--- the layers of a state whose memories are written whole, in the order of the memories
-abbrev pub whole_layers : State → List (List (List ℕ))
-whole_layers s = map (λ bytes. whole_layer (length bytes / PAGE_SIZE)) (memory_bytes s)
 
 -- `checkpoint` publishes the newest height in memory, which stays there
 abbrev pub checkpoint_step : Machine → Outcome

@@ -13,7 +13,8 @@ ghost use Rattle.script_text.specs.declared.reply.Refusal.TheVariants.{HeightLim
 ghost use Rattle.script_text.specs.declared.reply.Reply.TheVariants as replies;
 ghost use Rattle.machine_spec.specs.Costs.{appends, reads};
 ghost use Rattle.machine_spec.specs.HeightSteps.{counts_of, tree_root};
-ghost use Rattle.machine_spec.specs.Machine.{opened, start, state_at};
+ghost use Rattle.machine_spec.specs.Machine.{start, state_at};
+ghost use Rattle.store_spec.specs.Image.{opened};
 ghost use Rattle.machine_spec.specs.Script.{output_of, output_by, machine_after, after_script};
 ghost use Rattle.machine_spec.specs.States.{empty_state};
 ghost use Rattle.machine_spec.specs.Step.{step};
@@ -93,8 +94,13 @@ pub fn questions()
 pub fn bytes_of_lines()
     ensures appended { appends (machine_after (codes "canister 00\ngrow 00 heap 1\nround")) Checkpoint ≡ 4340 }
     ensures refused { appends (machine_after (codes "round\ncheckpoint")) Checkpoint ≡ 0 }
-    ensures pages { reads (start (one_height ∷ [])) (commands.Read (Height 1) (0 ∷ []) Heap 4095 2) ≡ Some 8192 }
-    ensures none { reads (start (one_height ∷ [])) (commands.Read Live (0 ∷ []) Heap 4095 2) ≡ Some 0 }
+    ensures page { reads (start (one_height ∷ [])) (commands.Read (Height 1) (0 ∷ []) Heap 4094 2) ≡ 4096 }
+    ensures pages { reads (machine_after (codes "canister 00\ngrow 00 heap 2\nround\ncheckpoint")) (commands.Read (Height 1) (0 ∷ []) Heap 4095 2) ≡ 8192 }
+    ensures past_end { reads (start (one_height ∷ [])) (commands.Read (Height 1) (0 ∷ []) Heap 4095 2) ≡ 0 }
+    ensures live { reads (start (one_height ∷ [])) (commands.Read Live (0 ∷ []) Heap 4094 2) ≡ 0 }
+    ensures all { reads (start (one_height ∷ [])) (Scratch (Height 1)) ≡ 4096 }
+    ensures again { reads (start (one_height ∷ [])) (commands.Reset 1) ≡ 4096 }
+    ensures nowhere { reads (start (one_height ∷ [])) (commands.Reset 2) ≡ 0 }
 {}
 
 /// Lines on published heights where there are none.

@@ -8,6 +8,7 @@ use Rattle.hex.proofs.HexLemmas.{length-encode_with}
 use Rattle.format_spec.specs.Bytes.{Bytes, part_count, parts}
 use Rattle.format_spec.specs.Hashes.{ChunkSum, chunk_hash}
 use Rattle.format_spec.specs.declared.limits.TheConstants.{CHUNK_SIZE, PAGE_SIZE}
+use Rattle.format_spec.proofs.Lists.{all_join}
 use Rattle.state_spec.specs.State.{SystemPart, CanisterPart, IsSystem, FitsCanister}
 use Rattle.state_spec.specs.SystemText.{system_text}
 use Rattle.state_spec.specs.Files.{file_name, heap_name, stable_name, memories_in, system_name}
@@ -75,10 +76,6 @@ small_memories (c ∷ cs) (a ∷ b ∷ ls) fit e =
     )
 
 -- ---- all files
-
-all_join : {X : Type 0} (P : X → Type 0) (xs ys : List X) → AllByRecursion P xs → AllByRecursion P ys → AllByRecursion P (xs ++ ys)
-all_join P [] ys p q = q
-all_join P (x ∷ xs) ys p q = (p.0, all_join P xs ys p.1 q)
 
 rows_few : (n : ℕ) (fs : List FileSums) → AllByRecursion Small fs → length (chunk_rows n fs) ≤ 256 * length fs
 rows_few n [] small = omega arith

@@ -12,6 +12,7 @@ use Rattle.format_spec.proofs.Cuts.{Are32}
 use Rattle.format_spec.specs.Bytes.{Bytes, be32, be64, short_string, part_count, parts}
 use Rattle.format_spec.specs.Hashes.{ChunkSum, chunk_sum_text, chunk_hash, file_hash}
 use Rattle.format_spec.specs.declared.limits.TheConstants.{CHUNK_SIZE, PAGE_SIZE, PIECE_SIZE, FILE_ROW}
+use Rattle.format_spec.proofs.Lists.{all_join}
 use Rattle.state_spec.specs.State.{State, SystemPart, CanisterPart, IsSystem, FitsCanister, system_of, memory_bytes}
 use Rattle.state_spec.specs.SystemText.{system_text}
 use Rattle.state_spec.specs.Files.{file_name, heap_name, stable_name, memories_in, system_name}
@@ -86,10 +87,6 @@ rows_count n (f ∷ fs) = omega (arith, own_count n f, rows_count (suc n) fs, le
 all_text : (rs : List ChunkRow) → AllByRecursion (λ r. length r.sum.hash ≡ 32) rs → length (flat_map chunk_row_text rs) ≡ 48 * length rs
 all_text [] h = refl
 all_text (r ∷ rs) h = omega (arith, chunk_text r h.0, all_text rs h.1, length-append (chunk_row_text r) (flat_map chunk_row_text rs))
-
-all_join : {X : Type 0} (P : X → Type 0) (xs ys : List X) → AllByRecursion P xs → AllByRecursion P ys → AllByRecursion P (xs ++ ys)
-all_join P [] ys p q = q
-all_join P (x ∷ xs) ys p q = (p.0, all_join P xs ys p.1 q)
 
 abbrev Long : ChunkRow → Type 0
 Long r = length r.sum.hash ≡ 32

@@ -12,9 +12,6 @@ CountsFirst n = (x : ℕ) → 0 < x → part_count n x ≡ suc (part_count n (x 
 pub counts_pieces : CountsFirst 4096
 counts_pieces x some = omega arith
 
-pub counts_chunks : CountsFirst 1048576
-counts_chunks x some = omega arith
-
 shifted : {X : Type 0} (f g : ℕ → X) → ((i : ℕ) → f (i + 1) ≡ g i) → (k a : ℕ) → map f (range_with_len (a + 1) k) ≡ map g (range_with_len a k)
 shifted f g same zero a = refl
 shifted f g same (suc k) a = let h = same a in let t = shifted f g same k (a + 1) in rw (h, t) refl

@@ -7,6 +7,7 @@ use Rattle.std.proofs.lemmas.List.Sums.{sum_by-append}
 use Rattle.format_spec.specs.Bytes.{Bytes, same_bytes}
 use Rattle.format_spec.specs.Fields.{Reading, Cursor, each}
 use Rattle.format_spec.proofs.Each.{each_more, each_ends}
+use Rattle.format_spec.proofs.Lists.{all_push}
 use Rattle.state_spec.specs.Files.{system_name}
 use Rattle.state_spec.specs.Manifest.{FileRow}
 use Rattle.state_spec.specs.ManifestText.{file_after, id_in, last_id, all_sizes, is_next_heap, is_its_stable, is_memory_size, is_system_size}
@@ -61,10 +62,6 @@ pub sizes_more : (before : List FileRow) (r : FileRow) → all_sizes (before ++ 
 sizes_more before r =
     let one : 0 + r.size ≡ r.size = omega arith in
     sum_by-append (λ (x : FileRow). x.size) before (r ∷ []) ∙ ap (λ (n : ℕ). all_sizes before + n) one
-
-pub all_push : {X : Type 0} (P : X → Type 0) (xs : List X) (x : X) → AllByRecursion P xs → P x → AllByRecursion P (xs ++ x ∷ [])
-all_push P [] x all here = (here, tt)
-all_push P (y ∷ xs) x all here = (all.0, all_push P xs x all.1 here)
 
 abbrev pub Short : FileRow → Type 0
 Short row = length row.name < 256
@@ -148,6 +145,3 @@ module _ (count pairs : ℕ) (files : List FileRow) (last : Option Bytes) (total
       let len = read.length_is in
       sym read.so_far ∙ each_more (file_after 1 count) count (2 * pairs) files now system end (omega arith) (system_next (Ok (system, end)) e)
       ∙ each_ends (file_after 1 count) count (2 * pairs + 1) (files ++ system ∷ []) end (omega arith)
-
-  pub count_read : (system : FileRow) → length (files ++ system ∷ []) ≡ count
-  count_read system = let len = read.length_is in omega (arith, length-append files (system ∷ []))

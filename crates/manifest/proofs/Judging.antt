@@ -103,9 +103,6 @@ pub record Judged (files : List FileRow) (chunks : List ChunkRow) (n at begin : 
   pub at_small : at ≤ 12 + 300 * n
   pub within : begin ≤ length chunks
 
-pub judged_none : (files : List FileRow) (chunks : List ChunkRow) → map slot_of chunks ≡ slots 0 files → Judged files chunks 0 12 0
-judged_none files chunks e = record { so_far = refl; rest = e; before = tt; at_small = omega arith; within = omega arith }
-
 module _ (files : List FileRow) (chunks : List ChunkRow) (n at begin : ℕ) (judged : Judged files chunks n at begin) (row : FileRow) (more : n < length files) (here : row ≡ get_or files n row) where
   left_is : drop n files ≡ row ∷ drop (n + 1) files
   left_is = drop_more files n row more ∙ ap (λ (r : FileRow). r ∷ drop (n + 1) files) (sym here)

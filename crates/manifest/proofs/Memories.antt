@@ -6,6 +6,7 @@ use Rattle.std.proofs.lemmas.List.{append-nil, length-map, length-append, length
 use Rattle.std.proofs.lemmas.Option.{slice_get_within, get_or_from_slice_get}
 use Rattle.format_spec.specs.Bytes.{Bytes, part_count}
 use Rattle.format_spec.specs.declared.limits.TheConstants.{CHUNK_SIZE, PAGE_SIZE}
+use Rattle.format_spec.proofs.Cuts.{heads}
 use Rattle.state_spec.specs.Files.{heap_name, stable_name}
 use Rattle.state_spec.specs.State.{CanisterPart}
 use Rattle.state_spec.specs.Manifest.{Manifest, FileSums, memory_sums, manifest_from, file_row}
@@ -13,9 +14,6 @@ use Rattle.sys_state.specs.declared.record.CanisterRecord.{CanisterRecord}
 use Rattle.sys_state.specs.System.{part_of_record}
 use Rattle.manifest.specs.Adding.{Adds, canister_sums}
 use Rattle.manifest.proofs.Growing.{added}
-
-pub heads : {X : Type 0} (x y : X) (xs ys : List X) → x ∷ xs ≡ y ∷ ys → (x ≡ y) × (xs ≡ ys)
-heads x y xs ys e = (cc, cc)
 
 -- ---- a canister's memories
 
@@ -48,9 +46,6 @@ pub record Half (m : Manifest) (cs : List (Bytes × CanisterRecord)) (ls : List 
   pub count : length done ≡ 2 * i
   pub whole : done ++ memory_sums (named (drop i cs)) (drop (2 * i) ls) ≡ memory_sums (named cs) ls
   pub fit : lengths (drop (2 * i) ls) ≡ counts (named (drop i cs))
-
-pub half_none : (m : Manifest) (cs : List (Bytes × CanisterRecord)) (ls : List (List Bytes)) → m ≡ manifest_from 1 [] → lengths ls ≡ counts (named cs) → Half m cs ls 0
-half_none m cs ls is fit = record { done = []; m_is = is; count = refl; whole = refl; fit = fit }
 
 pub drop_get : {X : Type 0} (xs : List X) (i : ℕ) (x : X) → slice_get xs i ≡ Some x → drop i xs ≡ x ∷ drop (i + 1) xs
 drop_get {X = X} xs i x e = drop_more xs i x (slice_get_within xs i x e) ∙ ap (λ (y : X). y ∷ drop (i + 1) xs) (get_or_from_slice_get xs i x x e)
@@ -115,12 +110,6 @@ module _ (m : Manifest) (cs : List (Bytes × CanisterRecord)) (ls : List (List B
             ∙ half.whole;
         fit = two.behind;
       }
-
--- all canisters
-pub half_all : (m : Manifest) (cs : List (Bytes × CanisterRecord)) (ls : List (List Bytes)) (i : ℕ) → Half m cs ls i → length cs ≤ i → m ≡ manifest_from 1 (memory_sums (named cs) ls)
-half_all m cs ls i half le =
-    let none = drop_all i cs le in
-    half.m_is ∙ ap (manifest_from 1) (sym (append-nil half.done) ∙ ap (λ (x : List (Bytes × CanisterRecord)). half.done ++ memory_sums (named x) (drop (2 * i) ls)) (sym none) ∙ half.whole)
 
 pub half_files : (m : Manifest) (cs : List (Bytes × CanisterRecord)) (ls : List (List Bytes)) (i : ℕ) → Half m cs ls i → length m.files ≡ 2 * i
 unfolding manifest_from

@@ -1,19 +1,13 @@
 -- The slots of chunks, one after another.
-use Rattle.std.proofs.Common.{◌≡◌, ℕ, zero, suc, ◌+◌, ◌-◌, ◌*◌, min, List, [], ◌∷◌, ◌++◌, map, sym, ap, ◌∙◌, append_assoc, arith}
+use Rattle.std.proofs.Common.{◌≡◌, ℕ, ◌+◌, ◌-◌, ◌*◌, min, List, [], ◌∷◌, ◌++◌, map, sym, ap, ◌∙◌, append_assoc, arith}
 use Rattle.std.specs.List.{range_with_len}
 use Rattle.std.proofs.lemmas.List.{map_push}
 use Rattle.state_spec.specs.Manifest.{chunk_size_at, chunk_offset}
 use Rattle.state_spec.specs.ManifestText.{Slot}
+use Rattle.hash_lanes.proofs.Counting.{range_push}
 
 abbrev pub slot_at : ℕ → ℕ → ℕ → Slot
 slot_at file size i = record { file = file; size = chunk_size_at size i; offset = chunk_offset i }
-
-range_push : (k a : ℕ) → range_with_len a (k + 1) ≡ range_with_len a k ++ (a + k) ∷ []
-range_push zero a = ap (λ (n : ℕ). n ∷ []) (omega arith)
-range_push (suc k) a =
-    let more : suc k + 1 ≡ suc (k + 1) = omega arith in
-    let last : a + 1 + k ≡ a + suc k = omega arith in
-    ap (range_with_len a) more ∙ ap (λ (rest : List ℕ). a ∷ rest) (range_push k (a + 1) ∙ ap (λ (n : ℕ). range_with_len (a + 1) k ++ n ∷ []) last)
 
 -- one slot more of a file
 pub slots_more : (file size i least : ℕ) (front before new : List Slot) → least ≡ min (size - i * 1048576) 1048576

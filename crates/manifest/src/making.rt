@@ -8,11 +8,11 @@ ghost use Rattle.sys_state.specs.System.{part_of, kept_of};
 ghost use Rattle.manifest.specs.Fits.{FitsText, FitSums, FitMemories};
 
 use crate::names::SYSTEM;
-use crate::parts::chunk_hashes;
 use crate::rows::Manifest;
 use byte_codec::{Blob, NoMemory};
 use format_spec::VERSION;
 use hash_domain::Hash32;
+use hash_lanes::chunk_hashes;
 use std::alloc::Global;
 use sys_state::SysState;
 

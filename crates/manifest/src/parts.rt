@@ -1,25 +1,13 @@
-//! Bytes cut into parts of one size, each hashed by one call over all of it.
+//! The text of a manifest cut into pieces, each hashed by one call over all of it.
 
 ghost use Rattle.std.specs.Prelude.{◌≡◌, IfOk, map};
 ghost use Rattle.format_spec.specs.Bytes.{parts};
 ghost use Rattle.format_spec.specs.Hashes.{piece_hash as hash_of_piece};
-ghost use Rattle.state_spec.specs.Manifest.{chunk_hashes as hashes_of_chunks};
 
 use byte_codec::NoMemory;
-use format_spec::{CHUNK_SIZE, PIECE_SIZE};
-use hash_domain::{Hash32, chunk_hash, piece_hash};
+use format_spec::PIECE_SIZE;
+use hash_domain::{Hash32, piece_hash};
 use std::alloc::Global;
-
-/// The hashes of the chunks of a file.
-pub(crate) fn chunk_hashes(alloc: Global, bytes: &[u8]) -> Result<Vec<Hash32>, NoMemory>
-    ensures { IfOk result (λ hashes. hashes.items ≡ hashes_of_chunks bytes.now) }
-{
-    let mut hashes = Vec::with_capacity(alloc, bytes.len().div_ceil(CHUNK_SIZE))?;
-    for chunk in bytes.chunks(CHUNK_SIZE) {
-        hashes.push(chunk_hash(chunk))?;
-    }
-    Ok(hashes)
-}
 
 /// The hashes of the pieces of a manifest's text.
 pub(crate) fn piece_hashes(alloc: Global, text: &[u8]) -> Result<Vec<Hash32>, NoMemory>

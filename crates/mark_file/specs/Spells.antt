@@ -34,6 +34,11 @@ DecodesBoth height text (Ok both) = SpellsBoth height text both
 DecodesBoth height text (Err (errors.BadMark h)) = (h ≡ height) × ((m : Mark) → Spells height text m → ⊥)
 DecodesBoth height text (Err errors.Memory) = Unit {0}
 
+-- want of memory didn't end the call
+abbrev pub IsAnswered : {T : Type 0} → Result T MarkError → Type 0
+IsAnswered (Err errors.Memory) = ⊥
+IsAnswered result = Unit {0}
+
 -- ---- on the way
 
 -- something with this property, or there is no mark with that one

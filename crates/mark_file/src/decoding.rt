@@ -5,13 +5,14 @@ ghost use Rattle.format_spec.specs.declared.limits.TheConstants.{MAX_HEIGHT as m
 ghost use Rattle.mark_file.specs.Fits.{FitsText};
 ghost use Rattle.mark_file.specs.Spells.{Spells, SpellsBoth, Decodes, DecodesBoth, Reads, SpellsBody, IsBothBody};
 
-use crate::ending::{chunk_hashes, ending, root_hash};
+use crate::ending::{ending, root_hash};
 use crate::error::{MarkError, Stop};
 use crate::fields::{hashed_body, read_head, read_parts};
 use crate::mark::Mark;
 use crate::memories::{pages_of_memories, read_mems};
 use byte_codec::{Blob, Reader, is_same};
 use format_spec::{MAX_HEIGHT, VERSION};
+use hash_lanes::chunk_hashes;
 use std::alloc::Global;
 use sys_state::SysState;
 

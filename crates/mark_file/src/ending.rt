@@ -3,7 +3,6 @@
 
 ghost use Rattle.std.specs.Prelude.{◌≡◌, ◌++◌, map, IfOk};
 ghost use Rattle.state_spec.specs.SystemText.{system_text};
-ghost use Rattle.state_spec.specs.Manifest.{chunk_hashes as hashes_of_chunks};
 ghost use Rattle.store_spec.specs.Mark.{hashes_text};
 ghost use Rattle.sys_state.specs.System.{part_of};
 ghost use Rattle.manifest.specs.Fits.{FitSums};
@@ -12,22 +11,10 @@ ghost use Rattle.mark_file.specs.Spells.{root_from};
 use crate::encoding::put_hashes;
 use crate::mark::MarkMem;
 use byte_codec::NoMemory;
-use format_spec::CHUNK_SIZE;
-use hash_domain::{Hash32, chunk_hash};
+use hash_domain::Hash32;
 use manifest::Manifest;
 use std::alloc::Global;
 use sys_state::SysState;
-
-/// The hashes of the chunks of these bytes, each hashed by one call over all of it.
-pub(crate) fn chunk_hashes(alloc: Global, bytes: &[u8]) -> Result<Vec<Hash32>, NoMemory>
-    ensures { IfOk result (λ hashes. hashes.items ≡ hashes_of_chunks bytes.now) }
-{
-    let mut hashes = Vec::with_capacity(alloc, bytes.len().div_ceil(CHUNK_SIZE))?;
-    for chunk in bytes.chunks(CHUNK_SIZE) {
-        hashes.push(chunk_hash(chunk))?;
-    }
-    Ok(hashes)
-}
 
 /// The root hash of the manifest of these parts, where the chunks of the memories have the hashes in these lists.
 pub(crate) fn root_hash(

@@ -13,5 +13,5 @@ mod memories;
 mod tests;
 
 pub use error::MarkError;
-pub use laws::marks_can_be_written;
+pub use laws::{decode_has_one_answer, marks_can_be_written};
 pub use mark::{Mark, MarkMem};

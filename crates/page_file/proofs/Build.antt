@@ -1,5 +1,5 @@
 -- Ranges that grow by a page at their end.
-use Rattle.std.proofs.Common.{◌≡◌, ℕ, zero, suc, ◌+◌, ◌-◌, take, ◌<◌, ◌≤◌, true, List, [], ◌∷◌, ◌++◌, length, get_or, refl, sym, ◌∙◌, ap, subst, arith, append_assoc}
+use Rattle.std.proofs.Common.{◌≡◌, ℕ, zero, suc, ◌+◌, ◌-◌, take, ◌<◌, ◌≤◌, true, List, [], ◌∷◌, ◌++◌, length, get_or, sym, ◌∙◌, ap, subst, arith, append_assoc}
 use Rattle.std.proofs.lemmas.List.{append-nil, take_more}
 use Rattle.std.specs.List.{range_with_len, AllByRecursion}
 use Rattle.std.specs.Ordering.{nat_cmp}
@@ -65,15 +65,6 @@ pub record Has (m : ℕ) (ns : List ℕ) (i : ℕ) (rs : List Range) (x : Range)
   pub numbers : numbers_in (rs ++ x ∷ []) ≡ take i ns
   pub ascend : AreRanges m 0 0 (rs ++ x ∷ [])
   pub end : x.first + x.length ≡ get_or ns (i - 1) 0 + 1
-
-pub has_one : (m : ℕ) (ns : List ℕ) (x : Range) → 1 ≤ length ns → AllByRecursion (λ n. n < m) ns → x ≡ record { first = get_or ns 0 0; length = 1; place = 0 } → Has m ns 1 [] x
-has_one m [] x some within is = absurd (omega arith)
-has_one m (n ∷ ns) x some within is = subst (Has m (n ∷ ns) 1 []) (sym is) (record {
-  some = omega arith;
-  numbers = refl;
-  ascend = (omega arith, omega arith, omega (arith, within.0), refl, tt);
-  end = refl;
-})
 
 pub has_wider : (m : ℕ) (ns : List ℕ) (i : ℕ) (rs : List Range) (x : Range) (page : ℕ) → Has m ns i rs x → AllByRecursion (λ n. n < m) ns → i < length ns → page ≡ get_or ns i 0 → page ≡ x.first + x.length → Has m ns (i + 1) rs (wider x)
 has_wider m ns i rs x page has within lt is at = let below = page_below m ns i 0 within lt in record {

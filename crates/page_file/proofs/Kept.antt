@@ -2,7 +2,7 @@
 use Rattle.std.proofs.Common.{◌≡◌, ℕ, ◌+◌, ◌*◌, ◌≤◌, ◌==◌, inl, inr, List, [], ◌∷◌, ◌++◌, length, sym, ◌∙◌, ap, subst, arith}
 use Rattle.std.proofs.lemmas.Bool.{cases_Bool}
 use Rattle.format_spec.specs.Bytes.{Bytes}
-use Rattle.store_spec.specs.PageFile.{PageIndex, IsIndex, runs_of, before_runs, index_text, index_length, ranges_text}
+use Rattle.page_spec.specs.PageFile.{PageIndex, IsIndex, runs_of, before_runs, index_text, index_length, ranges_text}
 use Rattle.page_file.specs.declared.index.FileIndex.TheInside.{Inside}
 use Rattle.page_file.specs.Ranges.{AreRanges, text_of}
 use Rattle.page_file.specs.Index.{index_of, IsFileIndex, header_text}

@@ -3,9 +3,8 @@ use Rattle.std.proofs.Common.{◌≡◌, ℕ, ◌+◌, ◌*◌, ◌<◌, ◌≤�
 use Rattle.std.specs.Option.{option_map}
 use Rattle.std.proofs.lemmas.List.{drop-drop, drop_at, take_at, take-append-drop, length-take, length-drop}
 use Rattle.std.proofs.lemmas.Bool.Decides.{nat_tests}
-use Rattle.format_spec.specs.Bytes.{Bytes}
-use Rattle.state_spec.specs.Memory.{page_at}
-use Rattle.store_spec.specs.PageFile.{PageIndex, IsPageFile, index_text, index_length, runs_of, ranges_text}
+use Rattle.format_spec.specs.Bytes.{Bytes, page_at}
+use Rattle.page_spec.specs.PageFile.{PageIndex, IsPageFile, index_text, index_length, runs_of, ranges_text}
 use Rattle.disk_model.specs.declared.name.Name.TheVariants.{Page}
 use Rattle.disk_model.specs.Files.{Files}
 use Rattle.disk_model.specs.View.{DiskView}

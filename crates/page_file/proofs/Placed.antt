@@ -5,18 +5,14 @@ use Rattle.std.specs.Ordering.{nat_cmp, is_lt}
 use Rattle.std.proofs.lemmas.Bool.{and_parts, cases_Bool, eqb-true, eqb-false}
 use Rattle.std.proofs.lemmas.Bool.Decides.{nat_tests}
 use Rattle.format_spec.specs.Bytes.{ascending}
-use Rattle.store_spec.specs.PageFile.{runs_of, before_runs}
+use Rattle.page_spec.specs.PageFile.{runs_of, before_runs}
 use Rattle.page_file.specs.declared.range.Range.{Range}
-use Rattle.page_file.specs.Ranges.{numbers_in, runs_in, AreRanges}
+use Rattle.page_file.specs.Ranges.{numbers_in, AreRanges}
 
 -- the ranges of these runs, with so many pages before them
 abbrev pub placed : ℕ → List (ℕ × ℕ) → List Range
 placed p [] = []
 placed p (r ∷ rs) = record { first = r.0; length = r.1; place = p } ∷ placed (p + r.1) rs
-
-pub runs_in_placed : (p : ℕ) (rs : List (ℕ × ℕ)) → runs_in (placed p rs) ≡ rs
-runs_in_placed p [] = refl
-runs_in_placed p (r ∷ rs) = ap (λ (l : List (ℕ × ℕ)). r ∷ l) (runs_in_placed (p + r.1) rs)
 
 pub length_placed : (p : ℕ) (rs : List (ℕ × ℕ)) → length (placed p rs) ≡ length rs
 length_placed p [] = refl

@@ -6,7 +6,7 @@ use Rattle.std.proofs.lemmas.Bool.{and_parts, and_from, leb-true, le-leb, eqb-tr
 use Rattle.std.proofs.lemmas.Bool.Decides.{nat_tests}
 use Rattle.std.proofs.lemmas.List.FromFn.{length-range_with_len}
 use Rattle.format_spec.specs.Bytes.{ascending}
-use Rattle.store_spec.specs.PageFile.{runs_of, before_runs}
+use Rattle.page_spec.specs.PageFile.{runs_of, before_runs}
 use Rattle.page_file.specs.declared.range.Range.{Range}
 use Rattle.page_file.specs.Ranges.{numbers_in, runs_in, are_ranges, AreRanges}
 

@@ -5,7 +5,7 @@ use Rattle.std.specs.Option.{option_eq}
 use Rattle.std.proofs.lemmas.Nat.{from_be_bytes-to_be_bytes_4}
 use Rattle.std.proofs.lemmas.Bool.{cases_Bool, eqb-true, eq-eqb, false≢true, not-false}
 use Rattle.format_spec.specs.Bytes.{Bytes, be32}
-use Rattle.store_spec.specs.PageFile.{PageIndex, ranges_text, runs_of}
+use Rattle.page_spec.specs.PageFile.{PageIndex, ranges_text, runs_of}
 use Rattle.page_file.specs.declared.range.Range.{Range}
 use Rattle.page_file.specs.Ranges.{numbers_in, are_ranges, AreRanges, text_of, ranges_from}
 use Rattle.page_file.specs.declared.index.FileIndex.TheInside.{Inside}

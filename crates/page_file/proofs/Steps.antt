@@ -1,5 +1,5 @@
 -- One range more.
-use Rattle.std.proofs.Common.{◌≡◌, ℕ, ◌+◌, ◌-◌, ◌≤◌, ◌<◌, Bool, true, false, ◌&&◌, List, [], ◌∷◌, ◌++◌, length, take, get_or, sym, ◌∙◌, ap, arith, length-append, append_assoc}
+use Rattle.std.proofs.Common.{◌≡◌, ℕ, ◌+◌, ◌-◌, ◌≤◌, ◌<◌, Bool, true, ◌&&◌, List, [], ◌∷◌, ◌++◌, length, take, get_or, sym, ◌∙◌, ap, arith, length-append, append_assoc}
 use Rattle.std.specs.List.{range_with_len}
 use Rattle.std.proofs.lemmas.List.{append-nil, take_more}
 use Rattle.std.proofs.lemmas.List.FromFn.{length-range_with_len}
@@ -11,9 +11,6 @@ use Rattle.page_file.specs.Ranges.{numbers_in, stands, are_ranges, range_text, t
 
 pub stands_then : (m l p : ℕ) (r : Range) (rest xs : List Range) (b : Bool) → xs ≡ r ∷ rest → stands m l p r ≡ true → are_ranges m l p xs ≡ b → are_ranges m (r.first + r.length + 1) (p + r.length) rest ≡ b
 stands_then m l p r rest xs b is h was = sym (ap (λ (t : Bool). t && are_ranges m (r.first + r.length + 1) (p + r.length) rest) h) ∙ sym (ap (are_ranges m l p) is) ∙ was
-
-pub stands_not : (m l p : ℕ) (r : Range) (rest xs : List Range) (b : Bool) → xs ≡ r ∷ rest → stands m l p r ≡ false → are_ranges m l p xs ≡ b → b ≡ false
-stands_not m l p r rest xs b is h was = sym was ∙ ap (are_ranges m l p) is ∙ ap (λ (t : Bool). t && are_ranges m (r.first + r.length + 1) (p + r.length) rest) h
 
 pub count_then : (p n : ℕ) (r : Range) (rest xs : List Range) → xs ≡ r ∷ rest → p + length (numbers_in xs) ≡ n → p + r.length + length (numbers_in rest) ≡ n
 count_then p n r rest xs is was = omega (arith, was, ap (λ (l : List Range). length (numbers_in l)) is, length-append (range_with_len r.first r.length) (numbers_in rest), length-range_with_len r.first r.length)

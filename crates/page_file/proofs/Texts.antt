@@ -6,7 +6,7 @@ use Rattle.std.proofs.lemmas.Bool.{and_from, eq-eqb, false≢true}
 use Rattle.std.proofs.lemmas.Bool.Decides.{nat_tests}
 use Rattle.std.proofs.lemmas.Slice.Eq.{bytes_eq-Decides}
 use Rattle.format_spec.specs.Bytes.{Bytes, be32, be64}
-use Rattle.store_spec.specs.PageFile.{PageIndex, ranges_text, runs_of, index_text, index_length}
+use Rattle.page_spec.specs.PageFile.{PageIndex, ranges_text, runs_of, index_text, index_length}
 use Rattle.page_file.specs.declared.range.Range.{Range}
 use Rattle.page_file.specs.Ranges.{runs_in, AreRanges, text_of}
 use Rattle.page_file.specs.Index.{header_text, length_of, are_counts, IsHeader}

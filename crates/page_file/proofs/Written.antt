@@ -1,24 +1,68 @@
 -- What the calls of a writer leave.
-use Rattle.std.proofs.Common.{◌≡◌, ℕ, ◌+◌, ◌*◌, ◌++◌, length, false, Result, refl, sym, ◌∙◌, ap, subst, arith}
+use Rattle.std.proofs.Common.{◌≡◌, ℕ, ◌+◌, ◌*◌, ◌≤◌, ◌==◌, false, [], ◌∷◌, ◌++◌, length, unwrap_or, Some, Result, inl, inr, refl, sym, ◌∙◌, ap, subst, arith, length-append, append_assoc}
+use Rattle.std.proofs.lemmas.Bool.{cases_Bool, eqb-true, ne_eqb}
 use Rattle.format_spec.specs.Bytes.{Bytes}
-use Rattle.store_spec.specs.PageFile.{PageIndex, IsIndex, index_text, index_length}
+use Rattle.page_spec.specs.PageFile.{IsIndex, index_text}
 use Rattle.disk_model.specs.declared.disk.DiskError.{DiskError}
 use Rattle.disk_model.specs.declared.name.Name.TheVariants.{Page}
 use Rattle.disk_model.specs.Files.{same_name}
-use Rattle.disk_model.specs.State.{DiskState, IsFirm}
-use Rattle.disk_model.specs.Call.{Call, append, create, seal, is_given}
+use Rattle.disk_model.specs.State.{DiskState, IsLoose, IsFirm}
+use Rattle.disk_model.specs.Call.{Call, append, seal, is_given}
 use Rattle.disk_model.specs.View.{DiskView, Done, Does}
-use Rattle.disk_model.specs.Laws.{IsSound, sealed_firm}
+use Rattle.disk_model.specs.Laws.{IsSound, appended_loose, sealed_firm, same_name_refl}
 use Rattle.disk_model.specs.Frame.{TouchesOnly, touches_call}
-use Rattle.page_file.specs.Files.{NumberedFile, UnfinishedFile, IsWriting, IsFinished}
+use Rattle.page_file.specs.Files.{NumberedFile, UnfinishedFile, IsWriting, IsFinished, text_written, text_added, length_added}
 use Rattle.page_file.proofs.Texts.{length-index_text}
 
 -- a call on one page file touches that file alone
 pub touches_page : {T : Type 0} (call : Call) (result : Result T DiskError) (old new : DiskView) (n m : ℕ) → n ≡ m → ((q : _) → same_name (Page n) q ≡ false → is_given call q ≡ false) → IsSound old.state → Does call result old new → TouchesOnly (same_name (Page m)) old new
 touches_page call result old new n m is apart sound does = subst (λ k. TouchesOnly (same_name (Page k)) old new) is (touches_call call result old new (same_name (Page n)) apart sound does)
 
-pub appended_index : (old mid new : DiskView) (n : ℕ) (bytes text : Bytes) (i : PageIndex) → Done (create (Page n)) old mid → Done (append (Page n) bytes) mid new → bytes ≡ text → text ≡ index_text i → new.appended ≡ old.appended + index_length i
-appended_index old mid new n bytes text i first second is spelled = omega (arith, first.appended, second.appended, ap length (is ∙ spelled), length-index_text i)
+-- ---- a page more
+
+pub appends_next : {T : Type 0} (inside writer : UnfinishedFile) (page bytes : Bytes) (result : Result T DiskError) (old new : DiskView) → inside ≡ writer → bytes ≡ text_added inside page → Does (append (Page inside.number) bytes) result old new
+    → Does (append (Page writer.number) (text_added writer page)) result old new
+appends_next inside writer page bytes result old new same is does =
+    subst (λ (w : UnfinishedFile). Does (append (Page w.number) (text_added w page)) result old new) same (subst (λ (b : Bytes). Does (append (Page inside.number) b) result old new) is does)
+
+-- the first page goes out behind the index, and each later one alone
+pub first_added : (writer : UnfinishedFile) (page bytes : Bytes) → writer.added ≡ 0 → bytes ≡ index_text writer.index ++ page → bytes ≡ text_added writer page
+first_added writer page bytes none is = is ∙ sym (rw none refl)
+
+pub later_added : (writer : UnfinishedFile) (page : Bytes) → 1 ≤ writer.added → page ≡ text_added writer page
+later_added writer page some = let ne : (writer.added == 0) ≡ false = ne_eqb writer.added 0 (λ e. omega (arith, e, some)) in sym (rw ne refl)
+
+pub length-text_added : (writer : UnfinishedFile) (page : Bytes) → length page ≡ 4096 → length (text_added writer page) ≡ length_added writer
+length-text_added writer page long = elim (cases_Bool (writer.added == 0)) [
+  | inl first ↦ rw first (omega (arith, length-append (index_text writer.index) page, length-index_text writer.index, long))
+  | inr later ↦ rw later long
+]
+
+none_yet : (pages : Bytes) → length pages ≡ 0 → pages ≡ []
+none_yet [] none = refl
+none_yet (b ∷ pages) none = absurd (omega (arith, none))
+
+text_more : (writer : UnfinishedFile) (pages page : Bytes) → length pages ≡ 4096 * writer.added → text_written writer pages ++ text_added writer page ≡ index_text writer.index ++ (pages ++ page)
+text_more writer pages page count = elim (cases_Bool (writer.added == 0)) [
+  | inl first ↦
+      let none : pages ≡ [] = none_yet pages (omega (arith, count, eqb-true writer.added 0 first)) in
+      rw first (ap (λ (l : Bytes). index_text writer.index ++ (l ++ page)) (sym none))
+  | inr later ↦ rw later (append_assoc (index_text writer.index) pages page)
+]
+
+all_text : (writer : UnfinishedFile) (pages : Bytes) → 1 ≤ writer.added → text_written writer pages ≡ index_text writer.index ++ pages
+all_text writer pages some = let ne : (writer.added == 0) ≡ false = ne_eqb writer.added 0 (λ e. omega (arith, e, some)) in rw ne refl
+
+pub page_added : (writer next : UnfinishedFile) (pages page : Bytes) (old new : DiskView) → next ≡ record writer { added = writer.added + 1 } → length page ≡ 4096
+    → Done (append (Page writer.number) (text_added writer page)) old new → IsWriting writer pages old.state → IsWriting next (pages ++ page) new.state
+page_added writer next pages page old new is long does was = subst (λ (w : UnfinishedFile). IsWriting w (pages ++ page) new.state) (sym is) (record {
+  loose = subst (λ s. IsLoose s (Page writer.number)) (sym does.state) (appended_loose old.state (Page writer.number) (text_added writer page));
+  file = ap (λ (s : DiskState). s.files (Page writer.number)) does.state ∙ rw (same_name_refl (Page writer.number)) (ap (λ o. Some (unwrap_or o [] ++ text_added writer page)) was.file)
+      ∙ ap Some (text_more writer pages page was.count ∙ sym (all_text (record writer { added = writer.added + 1 }) (pages ++ page) (omega arith)));
+  count = omega (arith, length-append pages page, was.count, long);
+})
+
+-- ---- the seal
 
 sealed_here : (writer : UnfinishedFile) (file : NumberedFile) (pages : Bytes) (old new : DiskView) → Done (seal (Page writer.number)) old new → IsIndex writer.index → writer.added ≡ length writer.index.numbers
     → file ≡ record { number = writer.number; index = writer.index } → IsWriting writer pages old.state → IsFinished file pages new.state
@@ -26,7 +70,7 @@ sealed_here writer file pages old new does good all is was = subst (λ file. IsF
   firm = subst (λ s. IsFirm s (Page writer.number)) (sym does.state) (sealed_firm old.state (Page writer.number) was.loose);
   there = record {
     text = index_text writer.index ++ pages;
-    there = ap (λ (s : DiskState). s.files (Page writer.number)) does.state ∙ was.file;
+    there = ap (λ (s : DiskState). s.files (Page writer.number)) does.state ∙ was.file ∙ ap Some (all_text writer pages (omega (arith, all, good.some_page)));
     good = record { good = good; spelled = refl; whole = was.count ∙ ap (λ n. 4096 * n) all };
   };
 })

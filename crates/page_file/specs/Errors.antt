@@ -1,5 +1,5 @@
 -- Why a call on a page file failed.
-use Rattle.std.specs.Prelude.{ℕ, ◌≤◌, Result, IsErrOf}
+use Rattle.std.specs.Prelude.{ℕ, ◌≤◌, Result, Err, IsErrOf}
 use Rattle.disk_model.specs.declared.disk.DiskError.{DiskError}
 use Rattle.disk_model.specs.declared.disk.DiskError.TheVariants as disk
 use Rattle.disk_model.specs.Call.{counted}
@@ -14,6 +14,12 @@ page_error disk.Memory = Memory
 pub record HasCause {T : Type 0} (old new : ℕ) (result : Result T PageError) : Type 0 where
   pub never_falls : old ≤ new
   pub fault : IsErrOf result Fault → counted old 1 ≤ new
+
+-- neither a fault nor want of memory ended the call
+abbrev pub IsAnswered : {T : Type 0} → Result T PageError → Type 0
+IsAnswered (Err Fault) = ⊥
+IsAnswered (Err Memory) = ⊥
+IsAnswered result = Unit {0}
 
 -- the error is no bad page
 abbrev pub NoBadPage : {T : Type 0} → Result T PageError → Type 0

@@ -1,14 +1,15 @@
 -- Page files on a disk.
-use Rattle.std.specs.Prelude.{◌≡◌, ℕ, ◌*◌, ◌++◌, Option, Some, None, Result, Ok, Err, length, take}
-use Rattle.format_spec.specs.Bytes.{Bytes}
-use Rattle.format_spec.specs.declared.limits.TheConstants.{PAGE_SIZE}
-use Rattle.store_spec.specs.PageFile.{PageIndex, IsPageFile, index_text}
+use Rattle.std.specs.Prelude.{◌≡◌, ℕ, ◌+◌, ◌*◌, ◌==◌, if◌then◌else◌, [], ◌++◌, Option, Some, None, Result, Ok, Err, IfOk, IsErrOf, length, take}
+use Rattle.format_spec.specs.Bytes.{Bytes, page_at}
+use Rattle.format_spec.specs.declared.limits.TheConstants.{PAGE_SIZE, INDEX_HEAD}
+use Rattle.page_spec.specs.PageFile.{PageIndex, IsPageFile, index_text, index_length}
 use Rattle.disk_model.specs.declared.name.Name.TheVariants.{Page}
 use Rattle.disk_model.specs.Files.{Files}
 use Rattle.disk_model.specs.State.{DiskState, IsLoose, IsFirm}
 use Rattle.page_file.specs.declared.format.Header.{Header}
 use Rattle.page_file.specs.Index.{IsHeader}
 use Rattle.page_file.specs.declared.error.PageError.{PageError}
+use Rattle.page_file.specs.declared.error.PageError.TheVariants.{BadPage}
 
 -- a page file by its number and its index
 pub record NumberedFile : Type 0 where
@@ -35,10 +36,32 @@ IsKept files file = (pages : Bytes) × HasPages files file.number file.index pag
 abbrev pub IsBadPage : Files → ℕ → Type 0
 IsBadPage files number = (i : PageIndex) (pages : Bytes) → HasPages files number i pages → ⊥
 
--- these bytes of pages are written so far, and the file is loose
+-- what opening the page file of this number gives: it is there as the value has it, or it is bad
+pub record Opens (files : Files) (n : ℕ) (result : Result NumberedFile PageError) : Type 0 where
+  pub opened : IfOk result (λ file. IsKept files file)
+  pub same_number : IfOk result (λ file. file.number ≡ n)
+  pub bad : (m : ℕ) → IsErrOf result (BadPage m) → IsBadPage files n
+  pub named : (m : ℕ) → IsErrOf result (BadPage m) → m ≡ n
+
+-- these are the bytes of the page at this place in the file
+abbrev pub ReadsAs : Files → NumberedFile → ℕ → Bytes → Type 0
+ReadsAs files file place bytes = (pages : Bytes) → HasPages files file.number file.index pages → bytes ≡ page_at pages place
+
+-- what is written once these pages are added: nothing before the first one, with which the index goes out
+abbrev pub text_written : UnfinishedFile → Bytes → Bytes
+text_written writer pages = if writer.added == 0 then [] else index_text writer.index ++ pages
+
+-- what the next page adds to the file, and how many bytes that is
+abbrev pub text_added : UnfinishedFile → Bytes → Bytes
+text_added writer page = if writer.added == 0 then index_text writer.index ++ page else page
+
+abbrev pub length_added : UnfinishedFile → ℕ
+length_added writer = if writer.added == 0 then index_length writer.index + PAGE_SIZE else PAGE_SIZE
+
+-- these bytes of pages are added so far, and the file is loose
 pub record IsWriting (writer : UnfinishedFile) (pages : Bytes) (s : DiskState) : Type 0 where
   pub loose : IsLoose s (Page writer.number)
-  pub file : s.files (Page writer.number) ≡ Some (index_text writer.index ++ pages)
+  pub file : s.files (Page writer.number) ≡ Some (text_written writer pages)
   pub count : length pages ≡ PAGE_SIZE * writer.added
 
 -- the file is on the disk with these bytes of pages
@@ -50,7 +73,7 @@ pub record IsFinished (file : NumberedFile) (pages : Bytes) (s : DiskState) : Ty
 pub record HasHeader (files : Files) (number : ℕ) (h : Header) : Type 0 where
   pub text : Bytes
   pub there : files (Page number) ≡ Some text
-  pub header : IsHeader h.memory h.ranges h.pages (take 32 text) (length text)
+  pub header : IsHeader h.memory h.ranges h.pages (take INDEX_HEAD text) (length text)
 
 -- the header that the page file has, and none where it is no page file
 abbrev pub FindsHeader : Files → ℕ → Result (Option Header) PageError → Type 0

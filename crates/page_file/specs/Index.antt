@@ -1,10 +1,9 @@
 -- The index of a page file as it is kept in memory, and its text.
-use Rattle.std.specs.Prelude.{◌≡◌, ℕ, ◌+◌, ◌*◌, ◌≤◌, ◌==◌, ◌&&◌, nat_le, Bool, IsTrue, ◌++◌, length, codes}
-use Rattle.std.specs.Prelude.{if◌then◌else◌, Option, Some, None, Result, Ok, Err}
+use Rattle.std.specs.Prelude.{◌≡◌, ℕ, ◌+◌, ◌*◌, ◌≤◌, ◌==◌, ◌&&◌, nat_le, Bool, IsTrue, ◌++◌, length, codes, if◌then◌else◌, Option, Some, None, Result, Ok, Err}
 use Rattle.format_spec.specs.Bytes.{Bytes, be32, be64}
-use Rattle.format_spec.specs.declared.limits.TheConstants.{PAGE_SIZE, MAX_MEMORY_PAGES}
+use Rattle.format_spec.specs.declared.limits.TheConstants.{PAGE_SIZE, MAX_MEMORY_PAGES, INDEX_HEAD, INDEX_RANGE}
 use Rattle.byte_codec.specs.declared.error.NoMemory.{NoMemory}
-use Rattle.store_spec.specs.PageFile.{PageIndex, IsIndex, runs_of, ranges_text}
+use Rattle.page_spec.specs.PageFile.{PageIndex, IsIndex, runs_of, ranges_text}
 use Rattle.page_file.specs.declared.format.Header.{Header}
 use Rattle.page_file.specs.declared.index.FileIndex.TheInside.{Inside}
 use Rattle.page_file.specs.Ranges.{numbers_in, AreRanges}
@@ -22,7 +21,7 @@ pub record IsFileIndex (a : Inside) : Type 0 where
 
 -- the length of a whole file with so many ranges and pages
 abbrev pub length_of : ℕ → ℕ → ℕ
-length_of ranges pages = 32 + 12 * ranges + PAGE_SIZE * pages
+length_of ranges pages = INDEX_HEAD + INDEX_RANGE * ranges + PAGE_SIZE * pages
 
 unfoldable pub header_text : ℕ → ℕ → ℕ → Bytes
 header_text memory ranges pages = codes "ICPF" ++ be32 1 ++ be32 (if pages == memory then 1 else 0) ++ be32 memory

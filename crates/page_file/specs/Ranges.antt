@@ -3,6 +3,7 @@ use Rattle.std.specs.Prelude.{◌≡◌, ℕ, zero, suc, take, drop, ◌+◌, �
 use Rattle.std.specs.List.{range_with_len}
 use Rattle.std.specs.Int.{w32, from_be_bytes}
 use Rattle.format_spec.specs.Bytes.{Bytes, be32}
+use Rattle.format_spec.specs.declared.limits.TheConstants.{INDEX_RANGE}
 use Rattle.page_file.specs.declared.range.Range.{Range}
 
 -- the pages of these ranges
@@ -32,7 +33,7 @@ AreRanges memory least place (r ∷ rs) =
     (least ≤ r.first) × (1 ≤ r.length) × (r.first + r.length ≤ memory) × (r.place ≡ place)
     × AreRanges memory (r.first + r.length + 1) (place + r.length) rs
 
--- a range in twelve bytes
+-- a range in its bytes
 abbrev pub range_text : Range → Bytes
 range_text r = be32 r.first ++ be32 r.length ++ be32 r.place
 
@@ -46,7 +47,7 @@ range_from s = record {
 
 abbrev pub ranges_from : ℕ → Bytes → List Range
 ranges_from zero s = []
-ranges_from (suc n) s = range_from s ∷ ranges_from n (drop 12 s)
+ranges_from (suc n) s = range_from s ∷ ranges_from n (drop INDEX_RANGE s)
 
 abbrev pub text_of : List Range → Bytes
 text_of [] = []

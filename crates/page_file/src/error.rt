@@ -5,7 +5,7 @@ ghost use Rattle.page_file.specs.Errors.{page_error};
 
 use byte_codec::NoMemory;
 use disk_model::DiskError;
-use std::alloc::AllocError;
+use std::alloc::{AllocError, AllocFailed};
 use thiserror::Error;
 
 /// Why a call on a page file failed.
@@ -45,6 +45,14 @@ impl From<AllocError> for PageError {
     ghost from_gives = { λ _ made. made ≡ Memory };
 
     fn from(_error: AllocError) -> PageError {
+        PageError::Memory
+    }
+}
+
+impl<T: Drop> From<AllocFailed<T>> for PageError {
+    ghost from_gives = { λ _ made. made ≡ Memory };
+
+    fn from(_error: AllocFailed<T>) -> PageError {
         PageError::Memory
     }
 }

@@ -1,26 +1,28 @@
 //! Reading a page file.
 ghost use Rattle.std.specs.Prelude.{◌≡◌, ◌+◌, ◌*◌, ◌<◌, ℕ, length, IsTrue, OnOk, IfOk, IfSome, IsErrOf};
-ghost use Rattle.format_spec.specs.declared.limits.TheConstants.{PAGE_SIZE, MAX_MEMORY_PAGES};
+ghost use Rattle.format_spec.specs.declared.limits.TheConstants.{PAGE_SIZE, MAX_MEMORY_PAGES, INDEX_HEAD, INDEX_RANGE};
 ghost use Rattle.format_spec.specs.Bytes.{Bytes};
-ghost use Rattle.state_spec.specs.Memory.{page_at};
-ghost use Rattle.store_spec.specs.PageFile.{PageIndex, index_length};
+ghost use Rattle.page_spec.specs.PageFile.{PageIndex, index_length};
 ghost use Rattle.disk_model.specs.Looking.{OnlyLooks};
 ghost use Rattle.page_file.specs.Errors.{HasCause, NoBadPage};
 ghost use Rattle.page_file.specs.Index.{are_counts};
-ghost use Rattle.page_file.specs.Files.{IsKept, IsBadPage, HasPages, HasHeader, FindsHeader, FindsIndex};
+ghost use Rattle.page_file.specs.Files.{IsKept, Opens, ReadsAs, HasPages, HasHeader, FindsHeader, FindsIndex};
 
-use crate::format::{HEADER_SIZE, Header, RANGE_SIZE};
+use crate::format::Header;
 use crate::{FileIndex, PageBytes, PageError};
 use byte_codec::NoMemory;
 use disk_model::{Disk, Name};
+use format_spec::{INDEX_HEAD, INDEX_RANGE};
 use std::alloc::Global;
 use std::marker::Model;
+use std::rc::Rc;
 
 /// A page file on the disk, whose index is kept in memory.
 #[derive(Debug, Drop)]
 pub struct PageFile {
     number: u64,
-    index: FileIndex,
+    // Copies share it.
+    index: Rc<FileIndex>,
 }
 
 // Contracts see its number and its index.
@@ -29,13 +31,13 @@ impl Model for PageFile {
 
     ghost Value = { NumberedFile };
 
-    ghost view = { λ file. record { number = file.number; index = file.index } };
+    ghost view = { λ file. record { number = file.number; index = file.index.value } };
 }
 
 impl PageFile {
     /// The page file of this number with this index.
-    pub(crate) fn new(number: u64, index: FileIndex) -> PageFile
-        ensures { result ≡ record { number = number; index = index } }
+    pub(crate) fn new(number: u64, index: Rc<FileIndex>) -> PageFile
+        ensures { result ≡ record { number = number; index = index.value } }
     {
         PageFile { number, index }
     }
@@ -43,17 +45,16 @@ impl PageFile {
     /// Opens the page file of this number: reads its index and none of its pages.
     /// BadPage exactly where the file is absent or its bytes are no page file, Fault where the disk failed, Memory where memory ran out.
     pub fn open<D: Disk>(alloc: Global, disk: &mut D, number: u64) -> Result<PageFile, PageError>
-        ensures opened { IsTrue D.tells → IfOk result (λ file. IsKept (D.view disk.old).state.files file) }
+        ensures opens { IsTrue D.tells → Opens (D.view disk.old).state.files number result }
         ensures only { IsTrue D.tells → IfOk result (λ file. (i : PageIndex) (pages : Bytes) → HasPages (D.view disk.old).state.files number i pages → i ≡ file.index) }
-        ensures bad { IsTrue D.tells → (n : ℕ) → IsErrOf result (PageError.BadPage n) → IsBadPage (D.view disk.old).state.files number }
         ensures numbers { (n : ℕ) → IsErrOf result (PageError.BadPage n) → n ≡ number }
         ensures number { IfOk result (λ file. file.number ≡ number) }
         ensures looks { IsTrue D.tells → IfOk result (λ file. OnlyLooks (index_length file.index) (D.view disk.old) (D.view disk.new)) }
-        ensures looks_at_most { IsTrue D.tells → OnlyLooks (32 + 12 * MAX_MEMORY_PAGES) (D.view disk.old) (D.view disk.new) }
+        ensures looks_at_most { IsTrue D.tells → OnlyLooks (INDEX_HEAD + INDEX_RANGE * MAX_MEMORY_PAGES) (D.view disk.old) (D.view disk.new) }
         ensures cause { HasCause (D.faults disk.old) (D.faults disk.new) result }
     {
         match read_index(alloc, disk, number)? {
-            Some(index) => Ok(PageFile { number, index }),
+            Some(index) => Ok(PageFile::new(number, index.shared(alloc)?)),
             None => Err(PageError::BadPage(number)),
         }
     }
@@ -72,13 +73,13 @@ impl PageFile {
         &self.index
     }
 
-    /// The same page file. NoMemory where memory runs out.
-    pub fn copy(&self, alloc: Global) -> Result<PageFile, NoMemory>
+    /// The same page file, whose index is shared and not copied. NoMemory where no more copies can be counted.
+    pub fn copy(&self, _alloc: Global) -> Result<PageFile, NoMemory>
         ensures { IfOk result (λ file. file ≡ self.now) }
     {
         Ok(PageFile {
             number: self.number,
-            index: self.index.copy(alloc)?,
+            index: self.index.clone()?,
         })
     }
 
@@ -94,7 +95,7 @@ impl PageFile {
         requires place { place < length self.now.index.numbers }
         requires kept { IsTrue D.tells → IsKept (D.view disk.old).state.files self.now }
 
-        ensures page { IsTrue D.tells → OnOk result ((pages : Bytes) → HasPages (D.view disk.old).state.files self.now.number self.now.index pages → into.new ≡ page_at pages place) }
+        ensures page { IsTrue D.tells → OnOk result (ReadsAs (D.view disk.old).state.files self.now place into.new) }
         ensures looks { IsTrue D.tells → OnlyLooks PAGE_SIZE (D.view disk.old) (D.view disk.new) }
         ensures cause { HasCause (D.faults disk.old) (D.faults disk.new) result }
         ensures no_bad_page { NoBadPage result }
@@ -117,7 +118,7 @@ fn read_index<D: Disk>(
 ) -> Result<Option<FileIndex>, PageError>
     ensures found { IsTrue D.tells → FindsIndex (D.view disk.old).state.files number result }
     ensures looks { IsTrue D.tells → IfOk result (λ found. IfSome found (λ i. OnlyLooks (index_length i) (D.view disk.old) (D.view disk.new))) }
-    ensures looks_at_most { IsTrue D.tells → OnlyLooks (32 + 12 * MAX_MEMORY_PAGES) (D.view disk.old) (D.view disk.new) }
+    ensures looks_at_most { IsTrue D.tells → OnlyLooks (INDEX_HEAD + INDEX_RANGE * MAX_MEMORY_PAGES) (D.view disk.old) (D.view disk.new) }
     ensures cause { HasCause (D.faults disk.old) (D.faults disk.new) result }
     ensures no_bad_page { NoBadPage result }
 {
@@ -135,14 +136,14 @@ fn read_header<D: Disk>(
 ) -> Result<Option<Header>, PageError>
     ensures found { IsTrue D.tells → FindsHeader (D.view disk.old).state.files number result }
     ensures possible { IfOk result (λ found. IfSome found (λ h. IsTrue (are_counts h.memory h.ranges h.pages))) }
-    ensures looks { IsTrue D.tells → OnlyLooks 32 (D.view disk.old) (D.view disk.new) }
+    ensures looks { IsTrue D.tells → OnlyLooks INDEX_HEAD (D.view disk.old) (D.view disk.new) }
     ensures cause { HasCause (D.faults disk.old) (D.faults disk.new) result }
     ensures no_bad_page { NoBadPage result }
 {
     let name = Name::Page(number);
     match disk.size(alloc, name)? {
-        Some(size) if size >= HEADER_SIZE as u64 => {
-            let mut bytes = [0; HEADER_SIZE];
+        Some(size) if size >= INDEX_HEAD as u64 => {
+            let mut bytes = [0; INDEX_HEAD];
             disk.read(alloc, name, 0, &mut bytes)?;
             Ok(Header::read(alloc, &bytes, size)?)
         }
@@ -160,12 +161,12 @@ fn read_ranges<D: Disk>(
     requires possible { IsTrue (are_counts header.memory header.ranges header.pages) }
     requires header { IsTrue D.tells → HasHeader (D.view disk.old).state.files number header }
     ensures found { IsTrue D.tells → FindsIndex (D.view disk.old).state.files number result }
-    ensures length { IsTrue D.tells → IfOk result (λ found. IfSome found (λ i. index_length i ≡ 32 + 12 * header.ranges)) }
-    ensures looks { IsTrue D.tells → OnlyLooks (12 * header.ranges) (D.view disk.old) (D.view disk.new) }
+    ensures length { IsTrue D.tells → IfOk result (λ found. IfSome found (λ i. index_length i ≡ INDEX_HEAD + INDEX_RANGE * header.ranges)) }
+    ensures looks { IsTrue D.tells → OnlyLooks (INDEX_RANGE * header.ranges) (D.view disk.old) (D.view disk.new) }
     ensures cause { HasCause (D.faults disk.old) (D.faults disk.new) result }
     ensures no_bad_page { NoBadPage result }
 {
-    let mut bytes = vec![in alloc; 0; RANGE_SIZE * header.ranges as usize]?;
-    disk.read(alloc, Name::Page(number), HEADER_SIZE as u64, &mut bytes)?;
+    let mut bytes = vec![in alloc; 0; INDEX_RANGE * header.ranges as usize]?;
+    disk.read(alloc, Name::Page(number), INDEX_HEAD as u64, &mut bytes)?;
     Ok(FileIndex::read(alloc, header, &bytes)?)
 }

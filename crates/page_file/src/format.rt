@@ -1,19 +1,15 @@
 //! The front of a page file.
 ghost use Rattle.std.specs.Prelude.{◌≡◌, ◌==◌, ◌&&◌, ◌++◌, length, OnOk, if◌then◌else◌};
+ghost use Rattle.format_spec.specs.declared.limits.TheConstants.{INDEX_HEAD};
 ghost use Rattle.page_file.specs.Index.{length_of, header_text, are_counts, ReadsHeader};
 
 use crate::range::number_at;
 use byte_codec::{NoMemory, Writer};
-use format_spec::{MAX_MEMORY_PAGES, PAGE_SIZE};
+use format_spec::{INDEX_HEAD, INDEX_RANGE, MAX_MEMORY_PAGES, PAGE_SIZE};
 use std::alloc::Global;
 
 /// The bytes of a page.
 pub type PageBytes = [u8; PAGE_SIZE];
-
-/// Bytes in the header of a page file.
-pub const HEADER_SIZE: usize = 32;
-/// Bytes that a range has there.
-pub const RANGE_SIZE: usize = 12;
 
 /// What the header of a page file says: the pages of the memory, and how many ranges and pages the file has.
 #[derive(Clone, Copy, Debug, PartialEq, Eq)]
@@ -28,8 +24,8 @@ impl Header {
     pub fn file_length(&self) -> u64
         ensures { result ≡ length_of self.now.ranges self.now.pages }
     {
-        HEADER_SIZE as u64
-            + RANGE_SIZE as u64 * self.ranges as u64
+        INDEX_HEAD as u64
+            + INDEX_RANGE as u64 * self.ranges as u64
             + PAGE_SIZE as u64 * self.pages as u64
     }
 
@@ -67,7 +63,7 @@ impl Header {
 
     /// The header of a file of this length, from its bytes. `None` where they are no such header.
     pub fn read(alloc: Global, bytes: &[u8], size: u64) -> Result<Option<Header>, NoMemory>
-        requires { length bytes.now ≡ 32 }
+        requires { length bytes.now ≡ INDEX_HEAD }
         ensures { ReadsHeader bytes.now size result }
     {
         let header = Header {
@@ -78,7 +74,7 @@ impl Header {
         if !header.may_begin(size) {
             return Ok(None);
         }
-        let mut text = Writer::with_capacity(alloc, HEADER_SIZE)?;
+        let mut text = Writer::with_capacity(alloc, INDEX_HEAD)?;
         header.write(&mut text)?;
         let is_written_so = text.into_blob().bytes() == bytes;
         Ok(if is_written_so { Some(header) } else { None })

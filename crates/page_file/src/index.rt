@@ -1,15 +1,16 @@
 //! The index of a page file.
-ghost use Rattle.std.specs.Prelude.{◌≡◌, ◌==◌, ◌+◌, ◌*◌, length, IfOk, OnOk, IsTrue, position};
-ghost use Rattle.format_spec.specs.declared.limits.TheConstants.{PAGE_SIZE};
-ghost use Rattle.store_spec.specs.PageFile.{IsIndex, index_text, index_length};
+ghost use Rattle.std.specs.Prelude.{◌≡◌, ◌==◌, ◌+◌, ◌*◌, ◌++◌, length, IfOk, IsTrue, position};
+ghost use Rattle.format_spec.specs.declared.limits.TheConstants.{PAGE_SIZE, INDEX_RANGE};
+ghost use Rattle.page_spec.specs.PageFile.{IsIndex, index_text, index_length};
 ghost use Rattle.page_file.specs.Index.{are_counts, ReadsIndex};
 
-use crate::format::{HEADER_SIZE, Header, RANGE_SIZE};
+use crate::format::{Header, PageBytes};
 use crate::range::{Range, begun_by, pages_in, push_pages, read_ranges, write_ranges};
 use byte_codec::{Blob, NoMemory, Writer};
-use format_spec::PAGE_SIZE;
-use std::alloc::Global;
+use format_spec::{INDEX_HEAD, INDEX_RANGE, PAGE_SIZE};
+use std::alloc::{AllocFailed, Global};
 use std::marker::Model;
+use std::rc::Rc;
 
 /// Which pages of a memory a file has, in which order.
 #[derive(Debug, Drop)]
@@ -21,7 +22,7 @@ pub struct FileIndex {
 
 // Contracts see the pages of the memory and the numbers of those in the file.
 impl Model for FileIndex {
-    ghost use Rattle.store_spec.specs.PageFile.{PageIndex};
+    ghost use Rattle.page_spec.specs.PageFile.{PageIndex};
 
     ghost Value = { PageIndex };
 
@@ -109,39 +110,39 @@ impl FileIndex {
         Ok(pages)
     }
 
-    /// The same index. NoMemory where memory runs out.
-    pub fn copy(&self, alloc: Global) -> Result<FileIndex, NoMemory>
-        ensures { IfOk result (λ index. index ≡ self.now) }
+    // The index, to be shared.
+    pub(crate) fn shared(self, alloc: Global) -> Result<Rc<FileIndex>, AllocFailed<FileIndex>>
+        ensures value { IfOk result (λ index. index.value ≡ self) }
+        ensures index { IsIndex self }
     {
-        Ok(FileIndex {
-            ranges: Vec::from_slice(alloc, &self.ranges)?,
-            memory: self.memory,
-            count: self.count,
-        })
+        let _ = &self.count;
+        Rc::new(alloc, self)
     }
 
     /// Where the page at this place begins in the file.
     pub(crate) fn offset(&self, place: u32) -> u64
         ensures { result ≡ index_length self.now + PAGE_SIZE * place }
     {
-        HEADER_SIZE as u64
-            + RANGE_SIZE as u64 * self.ranges.len() as u64
+        INDEX_HEAD as u64
+            + INDEX_RANGE as u64 * self.ranges.len() as u64
             + PAGE_SIZE as u64 * place as u64
     }
 
-    /// What stands before the pages.
-    pub(crate) fn text(&self, alloc: Global) -> Result<Blob, NoMemory>
-        ensures text { IfOk result (λ text. text ≡ index_text self.now) }
-        ensures index { OnOk result (IsIndex self.now) }
+    /// What stands before the pages, and the first of them behind it.
+    pub(crate) fn text_with(&self, alloc: Global, page: &PageBytes) -> Result<Blob, NoMemory>
+        ensures { IfOk result (λ text. text ≡ index_text self.now ++ page.now) }
     {
+        let ranges = self.ranges.len();
         let header = Header {
             memory: self.memory,
-            ranges: self.ranges.len() as u32,
+            ranges: ranges as u32,
             pages: self.count,
         };
-        let mut text = Writer::with_capacity(alloc, HEADER_SIZE + RANGE_SIZE * self.ranges.len())?;
+        let size = INDEX_HEAD + INDEX_RANGE * ranges + PAGE_SIZE;
+        let mut text = Writer::with_capacity(alloc, size)?;
         header.write(&mut text)?;
         write_ranges(&mut text, &self.ranges)?;
+        text.bytes(page)?;
         Ok(text.into_blob())
     }
 
@@ -151,7 +152,7 @@ impl FileIndex {
         header: Header,
         bytes: &[u8],
     ) -> Result<Option<FileIndex>, NoMemory>
-        requires size { length bytes.now ≡ 12 * header.ranges }
+        requires size { length bytes.now ≡ INDEX_RANGE * header.ranges }
         requires possible { IsTrue (are_counts header.memory header.ranges header.pages) }
         ensures { ReadsIndex header.memory header.pages bytes.now result }
     {

@@ -1,14 +1,20 @@
-//! What is so of page files, by the definitions alone.
-ghost use Rattle.std.specs.Prelude.{◌≡◌, ◌++◌, length};
-ghost use Rattle.format_spec.specs.Bytes.{Bytes};
-ghost use Rattle.store_spec.specs.PageFile.{PageIndex, IsIndex, IsPageFile, index_text, file_length};
+//! That a contract fixes its answer.
 
-/// A text is a page file with one index and one list of pages only.
-pub fn page_files_are_unique()
-    ensures { (text : Bytes) (i j : PageIndex) (p q : Bytes) → IsPageFile text i p → IsPageFile text j q → (i ≡ j) × (p ≡ q) }
+ghost use Rattle.std.specs.Prelude.{◌≡◌, ℕ, Result};
+ghost use Rattle.format_spec.specs.Bytes.{Bytes};
+ghost use Rattle.disk_model.specs.Files.{Files};
+ghost use Rattle.page_file.specs.declared.error.PageError.{PageError};
+ghost use Rattle.page_file.specs.Errors.{IsAnswered};
+ghost use Rattle.page_file.specs.Files.{NumberedFile, IsKept, Opens, ReadsAs};
+
+/// Over the same files `PageFile::open` has one answer, but for faults and want of memory.
+pub fn open_has_one_answer()
+    ensures { (files : Files) (number : ℕ) (one other : Result NumberedFile PageError)
+        → Opens files number one → Opens files number other → IsAnswered one → IsAnswered other → one ≡ other }
 {}
 
-/// A text that begins with an index and has the length which that says is a page file, and the rest are its pages. So its pages need not be read.
-pub fn page_files_begin_with_their_index()
-    ensures { (text rest : Bytes) (i : PageIndex) → IsIndex i → text ≡ index_text i ++ rest → length text ≡ file_length i → IsPageFile text i rest }
+/// Over the same files `PageFile::read_page` fills the page in one way.
+pub fn a_page_reads_as_one()
+    ensures { (files : Files) (file : NumberedFile) (place : ℕ) (one other : Bytes)
+        → IsKept files file → ReadsAs files file place one → ReadsAs files file place other → one ≡ other }
 {}

@@ -13,7 +13,7 @@ pub use error::PageError;
 pub use file::PageFile;
 pub use format::PageBytes;
 pub use index::FileIndex;
-pub use laws::{page_files_are_unique, page_files_begin_with_their_index};
+pub use laws::{a_page_reads_as_one, open_has_one_answer};
 pub use writer::PageWriter;
 
 #[cfg(test)]

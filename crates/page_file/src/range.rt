@@ -2,10 +2,11 @@
 ghost use Rattle.std.specs.Prelude.{ℕ, ◌≡◌, ◌≤◌, ◌<◌, ◌^◌, slice_index_or, ◌+◌, ◌*◌, ◌++◌, length, take, drop, IfOk, OnOk, Some, None, if◌then◌else◌};
 ghost use Rattle.std.specs.List.{range_with_len};
 ghost use Rattle.std.specs.Int.{w32, to_be_bytes, from_be_bytes};
-ghost use Rattle.format_spec.specs.declared.limits.TheConstants.{MAX_MEMORY_PAGES};
+ghost use Rattle.format_spec.specs.declared.limits.TheConstants.{INDEX_RANGE, MAX_MEMORY_PAGES};
 ghost use Rattle.page_file.specs.Ranges.{numbers_in, stands, are_ranges, range_text, range_from, ranges_from, text_of};
 
 use byte_codec::{NoMemory, Writer};
+use format_spec::INDEX_RANGE;
 use std::alloc::{AllocError, Global};
 
 /// Pages that follow each other: the first, how many, and how many pages stand before them in the file.
@@ -46,11 +47,11 @@ pub fn write_ranges(out: &mut Writer, ranges: &[Range]) -> Result<(), NoMemory>
     Ok(())
 }
 
-// The range in the twelve bytes from an offset on.
+// The range in the bytes from an offset on.
 fn range_at(bytes: &[u8], at: usize) -> Range
-    requires { at + 12 ≤ length bytes.now }
+    requires { at + INDEX_RANGE ≤ length bytes.now }
     ensures value { result ≡ range_from (drop at bytes.now) }
-    ensures text { range_text result ≡ take 12 (drop at bytes.now) }
+    ensures text { range_text result ≡ take INDEX_RANGE (drop at bytes.now) }
 {
     Range {
         first: number_at(bytes, at),
@@ -61,13 +62,13 @@ fn range_at(bytes: &[u8], at: usize) -> Range
 
 /// The ranges that a text of so many has.
 pub fn read_ranges(alloc: Global, bytes: &[u8], count: usize) -> Result<Vec<Range>, AllocError>
-    requires { length bytes.now ≡ 12 * count }
+    requires { length bytes.now ≡ INDEX_RANGE * count }
     ensures value { IfOk result (λ ranges. ranges.items ≡ ranges_from count bytes.now) }
     ensures text { IfOk result (λ ranges. text_of ranges.items ≡ bytes.now) }
 {
     let mut ranges = Vec::with_capacity(alloc, count)?;
     for i in 0..count {
-        ranges.push(range_at(bytes, 12 * i))?;
+        ranges.push(range_at(bytes, INDEX_RANGE * i))?;
     }
     Ok(ranges)
 }

@@ -1,46 +1,46 @@
 //! Writing a page file.
-ghost use Rattle.std.specs.Prelude.{◌≡◌, ◌⊎◌, ◌+◌, ◌<◌, ◌++◌, [], true, length, IsTrue, OnOk, IfOk, IsErr, IsErrOf};
-ghost use Rattle.format_spec.specs.declared.limits.TheConstants.{PAGE_SIZE};
+ghost use Rattle.std.specs.Prelude.{◌≡◌, ◌+◌, ◌<◌, ◌++◌, [], true, length, IsTrue, OnOk, IfOk, IsErr, IsErrOf};
 ghost use Rattle.format_spec.specs.Bytes.{Bytes};
-ghost use Rattle.store_spec.specs.PageFile.{index_length};
 ghost use Rattle.disk_model.specs.declared.name.Name.TheVariants.{Page};
 ghost use Rattle.disk_model.specs.Files.{same_name};
 ghost use Rattle.disk_model.specs.State.{IsAbsent, IsLoose, IsSettled};
-ghost use Rattle.disk_model.specs.Call.{create};
-ghost use Rattle.disk_model.specs.View.{Done};
+ghost use Rattle.disk_model.specs.Call.{append};
+ghost use Rattle.disk_model.specs.View.{Does, HasCause as DiskCause};
 ghost use Rattle.disk_model.specs.Frame.{TouchesOnly};
 ghost use Rattle.page_file.specs.Errors.{HasCause, NoBadPage};
-ghost use Rattle.page_file.specs.Files.{IsWriting, IsFinished};
+ghost use Rattle.page_file.specs.Files.{IsWriting, IsFinished, text_added, length_added};
 
 use crate::{FileIndex, PageBytes, PageError, PageFile};
-use disk_model::{Disk, Name};
+use byte_codec::NoMemory;
+use disk_model::{Disk, DiskError, Name};
 use std::alloc::Global;
 use std::marker::Model;
+use std::rc::Rc;
 
 /// A page file that is being written. After Fault or Memory it is given up, and its file stays loose.
 #[derive(Drop)]
 pub struct PageWriter {
     number: u64,
-    index: FileIndex,
+    index: Rc<FileIndex>,
     added: u32,
 }
 
 // Contracts see its number, its index and how many pages were added.
 impl Model for PageWriter {
-    ghost use Rattle.store_spec.specs.PageFile.{IsIndex};
+    ghost use Rattle.page_spec.specs.PageFile.{IsIndex};
     ghost use Rattle.page_file.specs.Files.{UnfinishedFile};
 
     ghost Value = { UnfinishedFile };
 
-    ghost view = { λ writer. record { number = writer.number; index = writer.index; added = writer.added } };
+    ghost view = { λ writer. record { number = writer.number; index = writer.index.value; added = writer.added } };
 
-    ghost invariant = { λ writer. IsIndex writer.index };
+    ghost invariant = { λ writer. IsIndex writer.index.value };
 }
 
 impl PageWriter {
-    /// Begins a page file: creates it and appends what stands before the pages. There is no file of this number yet.
-    /// Fault where the disk failed: then there is no such file, or it is loose. Memory where memory ran out: then the disk is as before, or has the
-    /// file, empty and loose.
+    /// Begins a page file: creates it, still empty, since the index is written with the first page. There is no file of this number
+    /// yet. Fault where the disk failed: then there is no such file, or it is loose. Memory where memory ran out: then the disk is
+    /// as before.
     pub fn begin<D: Disk>(
         alloc: Global,
         disk: &mut D,
@@ -52,18 +52,16 @@ impl PageWriter {
         ensures writer { IfOk result (λ writer. writer ≡ record { number = number; index = index; added = 0 }) }
         ensures begun { IsTrue D.tells → IfOk result (λ writer. IsWriting writer [] (D.view disk.new).state) }
         ensures loose { IsTrue D.tells → IsErrOf result PageError.Fault → (D.view disk.new).state.loose (Page number) ≡ true }
-        ensures memory { IsTrue D.tells → IsErrOf result PageError.Memory → (D.view disk.new ≡ D.view disk.old) ⊎ Done (create (Page number)) (D.view disk.old) (D.view disk.new) }
-        ensures appended { IsTrue D.tells → OnOk result ((D.view disk.new).appended ≡ (D.view disk.old).appended + index_length index) }
+        ensures memory { IsTrue D.tells → IsErrOf result PageError.Memory → D.view disk.new ≡ D.view disk.old }
+        ensures appended { IsTrue D.tells → OnOk result ((D.view disk.new).appended ≡ (D.view disk.old).appended) }
         ensures read { IsTrue D.tells → (D.view disk.new).bytes_read ≡ (D.view disk.old).bytes_read }
         ensures touches { IsTrue D.tells → TouchesOnly (same_name (Page number)) (D.view disk.old) (D.view disk.new) }
         ensures settled { IsTrue D.tells → OnOk result (IsSettled (D.view disk.old).state → IsSettled (D.view disk.new).state) }
         ensures cause { HasCause (D.faults disk.old) (D.faults disk.new) result }
         ensures no_bad_page { NoBadPage result }
     {
-        let name = Name::Page(number);
-        let text = index.text(alloc)?;
-        disk.create(alloc, name)?;
-        disk.append(alloc, name, text.bytes())?;
+        let index = index.shared(alloc)?;
+        disk.create(alloc, Name::Page(number))?;
         Ok(PageWriter {
             number,
             index,
@@ -71,7 +69,8 @@ impl PageWriter {
         })
     }
 
-    /// Adds the bytes of the next page of the index. Fewer than all were added, and the file is as this writer left it.
+    /// Adds the bytes of the next page of the index, and the index before those of the first one, in one call of the disk.
+    /// Fewer than all were added, and the file is as this writer left it.
     /// Fault where the disk failed, Memory where memory ran out: then the disk is as before.
     pub fn add<D: Disk>(
         &mut self,
@@ -87,14 +86,14 @@ impl PageWriter {
         ensures there { IsTrue D.tells → OnOk result (IsLoose (D.view disk.new).state (Page self.old.number)) }
         ensures loose { IsTrue D.tells → (D.view disk.new).state.loose (Page self.old.number) ≡ true }
         ensures memory { IsTrue D.tells → IsErrOf result PageError.Memory → D.view disk.new ≡ D.view disk.old }
-        ensures appended { IsTrue D.tells → OnOk result ((D.view disk.new).appended ≡ (D.view disk.old).appended + PAGE_SIZE) }
+        ensures appended { IsTrue D.tells → OnOk result ((D.view disk.new).appended ≡ (D.view disk.old).appended + length_added self.old) }
         ensures read { IsTrue D.tells → (D.view disk.new).bytes_read ≡ (D.view disk.old).bytes_read }
         ensures touches { IsTrue D.tells → TouchesOnly (same_name (Page self.old.number)) (D.view disk.old) (D.view disk.new) }
         ensures settled { IsTrue D.tells → OnOk result (IsSettled (D.view disk.old).state → IsSettled (D.view disk.new).state) }
         ensures cause { HasCause (D.faults disk.old) (D.faults disk.new) result }
         ensures no_bad_page { NoBadPage result }
     {
-        disk.append(alloc, Name::Page(self.number), page)?;
+        self.append_next(alloc, disk, page)?;
         self.added += 1;
         Ok(())
     }
@@ -117,5 +116,26 @@ impl PageWriter {
     {
         disk.seal(alloc, Name::Page(self.number))?;
         Ok(PageFile::new(self.number, self.index))
+    }
+
+    // Appends the next page, and the index before the first one.
+    fn append_next<D: Disk>(
+        &self,
+        alloc: Global,
+        disk: &mut D,
+        page: &PageBytes,
+    ) -> Result<(), DiskError>
+        requires { IsTrue D.tells → IsLoose (D.view disk.old).state (Page self.now.number) }
+        ensures does { IsTrue D.tells → Does (append (Page self.now.number) (text_added self.now page.now)) result (D.view disk.old) (D.view disk.new) }
+        ensures cause { DiskCause (D.faults disk.old) (D.faults disk.new) result }
+    {
+        let name = Name::Page(self.number);
+        if self.added > 0 {
+            return disk.append(alloc, name, page);
+        }
+        match self.index.text_with(alloc, page) {
+            Ok(text) => disk.append(alloc, name, text.bytes()),
+            Err(NoMemory) => Err(DiskError::Memory),
+        }
     }
 }

@@ -6,3 +6,4 @@ pub mod Lines
 pub mod Numerals
 pub mod OtherWords
 pub mod PathCounts
+pub mod Spelled

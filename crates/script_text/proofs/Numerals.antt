@@ -62,10 +62,6 @@ number_is (c ∷ cs) (Err e) h p =
     not_below : (a b : ℕ) → (a < b → ⊥) → b ≤ a
     not_below a b h = omega (arith, h)
 
--- a word that is no decimal digits is no number
-pub no_number : (word : List ℕ) → is_number word ≡ false → None ≡ number_of word
-no_number word h = rw h refl
-
 -- text is read of bytes that are text
 pub text_read : {S E : Type 0} (now : S → List ℕ) (word : List ℕ) (Valid : E → Type 0) (r : Result S E) (text : S)
     → MatchResult r (λ s. (now s ≡ word) × IsUtf8 word) (λ e. (IsUtf8 word → ⊥) × Valid e) → result_ok r ≡ Some text → now text ≡ word

@@ -4,17 +4,15 @@ use Rattle.std.proofs.lemmas.Bool.{leb-true}
 use Rattle.std.proofs.lemmas.List.{length-map}
 use Rattle.std.specs.Option.{IfSome, option_and_then}
 use Rattle.std.specs.Prelude.{if◌then◌else◌}
+use Rattle.std.proofs.lemmas.Option.{same_Some}
 use Rattle.format_spec.specs.Bytes.{Bytes}
 use Rattle.format_spec.specs.declared.limits.TheConstants.{MAX_PATHS}
 use Rattle.script_text.specs.Words.{each_of, onto, path_of, is_path_count, paths_of, such_that}
 
-some_is : {A : Type 0} (x y : A) → Some x ≡ Some y → x ≡ y
-some_is x y e = cc e
-
 length-onto : {A : Type 0} (x : A) (rest : Option (List A)) (n : ℕ) → ((xs : List A) → rest ≡ Some xs → length xs ≡ n)
     → (xs : List A) → onto x rest ≡ Some xs → length xs ≡ suc n
 length-onto x None n h xs e = absurd (cc e)
-length-onto x (Some more) n h xs e = ap length (sym (some_is (x ∷ more) xs e)) ∙ ap suc (h more refl)
+length-onto x (Some more) n h xs e = ap length (sym (same_Some (x ∷ more) xs e)) ∙ ap suc (h more refl)
 
 length-then : {A : Type 0} (first : Option A) (rest : Option (List A)) (n : ℕ) → ((xs : List A) → rest ≡ Some xs → length xs ≡ n)
     → (xs : List A) → option_and_then (λ x. onto x rest) first ≡ Some xs → length xs ≡ suc n
@@ -23,7 +21,7 @@ length-then (Some x) rest n h xs e = length-onto x rest n h xs e
 
 -- as many as there are words
 length-each : {A : Type 0} (read : Bytes → Option A) (ws : List Bytes) (xs : List A) → each_of read ws ≡ Some xs → length xs ≡ length ws
-length-each read [] xs e = ap length (sym (some_is [] xs e))
+length-each read [] xs e = ap length (sym (same_Some [] xs e))
 length-each read (w ∷ ws) xs e = length-then (read w) (each_of read ws) (length ws) (λ more k. length-each read ws more k) xs e
 
 pub path_count : (n : ℕ) → is_path_count n ≡ true → (1 ≤ n) × (n ≤ MAX_PATHS)

@@ -1,9 +1,11 @@
 -- The command that a line spells.
-use Rattle.std.specs.Prelude.{◌≤◌, if◌then◌else◌, List, [], ◌∷◌, length, Option, Some, None, codes}
+use Rattle.std.specs.Prelude.{◌≤◌, ◌<◌, ◌^◌, IsTrue, if◌then◌else◌, List, [], ◌∷◌, length, Option, Some, None, codes}
 use Rattle.std.specs.Option.{IfSome, option_map, option_and_then}
 use Rattle.std.specs.Str.{bytes_eq}
-use Rattle.format_spec.specs.Bytes.{Bytes}
+use Rattle.format_spec.specs.Bytes.{Bytes, IsBytes, AreByteStrings}
 use Rattle.format_spec.specs.declared.limits.TheConstants.{MAX_MODULE, MAX_CERTIFIED, MAX_VALUE, MAX_READ, MAX_PATHS}
+use Rattle.state_spec.specs.State.{is_path}
+use Rattle.sys_state.specs.Id.{IsId}
 use Rattle.script_text.specs.declared.command.Command.{Command}
 use Rattle.script_text.specs.declared.command.Command.TheVariants as commands
 use Rattle.script_text.specs.declared.parsing.Parsed.{Parsed}
@@ -198,3 +200,29 @@ FoundFits found = IfSome found FitsForm
 abbrev pub ParsedFits : Parsed → Type 0
 ParsedFits (Line command) = FitsForm command
 ParsedFits _ = Unit {0}
+
+-- ---- types
+
+-- what the types of a command say of the fields that a state takes: an id is one, a path is one, and strings are of bytes
+abbrev pub FitsTypes : Command → Type 0
+FitsTypes (commands.Canister id) = IsId id × IsBytes id
+FitsTypes (commands.Write id mem offset bytes) = IsBytes bytes
+FitsTypes (commands.Module id (Some wasm)) = IsBytes wasm
+FitsTypes (commands.Certify id bytes) = IsBytes bytes
+FitsTypes (commands.Time time) = time < 2 ^ 64
+FitsTypes (commands.Put path value) = IsTrue (is_path path) × AreByteStrings path × IsBytes value
+FitsTypes _ = Unit {0}
+
+-- a command that a line may spell
+pub record IsCommand (command : Command) : Type 0 where
+  pub form : FitsForm command
+  pub types : FitsTypes command
+
+-- the same, where there is one
+abbrev pub FoundSpells : Option Command → Type 0
+FoundSpells found = IfSome found IsCommand
+
+-- a line that is a command spells such a one
+abbrev pub SpellsCommand : Parsed → Type 0
+SpellsCommand (Line command) = IsCommand command
+SpellsCommand _ = Unit {0}

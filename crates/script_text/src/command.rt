@@ -1,5 +1,7 @@
 //! What lines ask for.
 
+ghost use Rattle.script_text.specs.Commands.{FitsTypes};
+
 use crate::path_list::Paths;
 use byte_codec::Blob;
 use hash_domain::Hash32;
@@ -114,4 +116,33 @@ pub enum Command {
         bytes: Blob,
         path: Path,
     },
+}
+
+impl Command {
+    /// Its fields are what their types hold, which its contract says and nothing looks at.
+    pub fn types(&self)
+        ensures { FitsTypes self.now }
+    {
+        match self {
+            Command::Canister { id } => {
+                let _bytes = id.bytes();
+            }
+            Command::Write { bytes, .. }
+            | Command::Module {
+                module: Some(bytes),
+                ..
+            }
+            | Command::Certify { bytes, .. } => {
+                let _bytes = bytes.bytes();
+            }
+            Command::Time { time } => {
+                let _time = *time;
+            }
+            Command::Put { path, value } => {
+                let _labels = path.labels();
+                let _bytes = value.bytes();
+            }
+            _ => {}
+        }
+    }
 }

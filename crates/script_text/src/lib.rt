@@ -4,6 +4,7 @@
 mod command;
 mod ending;
 mod forms;
+mod laws;
 mod numbers;
 mod options;
 mod parsing;

@@ -16,8 +16,9 @@ use Rattle.state_spec.specs.Root.{meta_of, pieces_of, hashed}
 use Rattle.soundness.proofs.Texts.{File}
 use Rattle.state_spec.proofs.SystemSizes.{id_size, label_size}
 use Rattle.soundness.proofs.StatePieces.{name_length}
-use Rattle.soundness.proofs.StateManifests.{all_append, named, numbered, sum_at}
+use Rattle.soundness.proofs.StateManifests.{named, numbered, sum_at}
 use Rattle.format_spec.proofs.ByteStrings.{by_test, one_byte, join_bytes, named_bytes, short_bytes, flat_bytes, parts_bytes, high_bytes, be32_bytes, sha_bytes, strings_join}
+use Rattle.format_spec.proofs.Lists.{all_join}
 
 -- ---- names
 
@@ -110,7 +111,7 @@ memory_files_bytes v (c ∷ cs) b f =
 
 files_bytes : (s : State) → IsState s → AllByRecursion ByteFile (files s)
 unfolding files system_of
-files_bytes s h = all_append ByteFile (flat_map memory_files s.canisters) ((system_name, system_text (system_of s)) ∷ []) (memory_files_bytes s.version s.canisters h.bytes.canisters h.system.canisters_fit) (record { name = by_test system_name refl; short = omega arith; bytes = system_bytes s h }, tt)
+files_bytes s h = all_join ByteFile (flat_map memory_files s.canisters) ((system_name, system_text (system_of s)) ∷ []) (memory_files_bytes s.version s.canisters h.bytes.canisters h.system.canisters_fit) (record { name = by_test system_name refl; short = omega arith; bytes = system_bytes s h }, tt)
 
 -- ---- rows
 
@@ -132,7 +133,7 @@ own_rows n (c ∷ cs) h = (join_bytes (be32 n) (chunk_sum_text c) (high_bytes 4 
 
 chunk_rows_bytes : (n : ℕ) (fs : List File) → AllByRecursion (λ r. IsBytes (chunk_row_text r)) (chunk_rows n (map sums_of fs))
 chunk_rows_bytes n [] = tt
-chunk_rows_bytes n (f ∷ fs) = all_append (λ r. IsBytes (chunk_row_text r)) (map (numbered n) (chunk_sums (sums_of f))) (chunk_rows (suc n) (map sums_of fs)) (own_rows n (chunk_sums (sums_of f)) (hash_sums (length f.1) 0 (parts CHUNK_SIZE f.1))) (chunk_rows_bytes (suc n) fs)
+chunk_rows_bytes n (f ∷ fs) = all_join (λ r. IsBytes (chunk_row_text r)) (map (numbered n) (chunk_sums (sums_of f))) (chunk_rows (suc n) (map sums_of fs)) (own_rows n (chunk_sums (sums_of f)) (hash_sums (length f.1) 0 (parts CHUNK_SIZE f.1))) (chunk_rows_bytes (suc n) fs)
 
 file_rows_bytes : (fs : List File) → AllByRecursion ByteFile fs → AllByRecursion (λ r. IsBytes (file_row_text r)) (map file_row (map sums_of fs))
 unfolding file_hash

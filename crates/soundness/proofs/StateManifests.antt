@@ -13,6 +13,7 @@ use Rattle.format_spec.specs.Bytes.{Bytes, are_bytes, bytes_cmp, ascending, part
 use Rattle.format_spec.specs.Hashes.{ChunkSum, chunk_hash, file_hash}
 use Rattle.format_spec.specs.declared.limits.TheConstants.{CHUNK_SIZE, PAGE_SIZE, MAX_MEMORY_PAGES, MAX_STATE_PAGES, MAX_SYSTEM}
 use Rattle.format_spec.proofs.ByteStrings.{tested}
+use Rattle.format_spec.proofs.Lists.{all_join, all_weaker}
 use Rattle.state_spec.specs.State.{State, Canister, IsByteCanister, CanisterPart, Memory, IsState, IsMemory, FitsCanister, system_of, part_of, pages_of, pages_in, all_pages, is_id}
 use Rattle.state_spec.specs.SystemText.{system_text}
 use Rattle.state_spec.specs.Files.{files, memory_files, heap_name, stable_name, system_name}
@@ -147,21 +148,13 @@ sums_none n (r ∷ rs) h =
     let other : eqb r.file n ≡ false = ne_eqb r.file n h.0 in
     ap (λ (b : Bool). map (λ (r : ChunkRow). r.sum) (cond b (r ∷ filter (λ r. r.file == n) rs) (filter (λ r. r.file == n) rs))) other ∙ sums_none n rs h.1
 
-pub all_append : {X : Type 0} (P : X → Type 0) (xs ys : List X) → AllByRecursion P xs → AllByRecursion P ys → AllByRecursion P (xs ++ ys)
-all_append P [] ys p q = q
-all_append P (x ∷ xs) ys p q = (p.0, all_append P xs ys p.1 q)
-
-all_weaker : {X : Type 0} (P Q : X → Type 0) → ((x : X) → P x → Q x) → (xs : List X) → AllByRecursion P xs → AllByRecursion Q xs
-all_weaker P Q f [] h = tt
-all_weaker P Q f (x ∷ xs) h = (f x h.0, all_weaker P Q f xs h.1)
-
 all_numbered : (P : ChunkRow → Type 0) (n : ℕ) (cs : List ChunkSum) → ((c : ChunkSum) → P (numbered n c)) → AllByRecursion P (map (numbered n) cs)
 all_numbered P n [] f = tt
 all_numbered P n (c ∷ cs) f = (f c, all_numbered P n cs f)
 
 rows_from : (n m : ℕ) (gs : List FileSums) → n < m → AllByRecursion (λ r. (r.file ≡ n) → ⊥) (chunk_rows m gs)
 rows_from n m [] lt = tt
-rows_from n m (g ∷ gs) lt = all_append (λ r. (r.file ≡ n) → ⊥) (map (numbered m) (chunk_sums g)) (chunk_rows (suc m) gs) (all_numbered (λ r. (r.file ≡ n) → ⊥) m (chunk_sums g) (λ c e. omega (arith, e, lt))) (rows_from n (suc m) gs (omega arith))
+rows_from n m (g ∷ gs) lt = all_join (λ r. (r.file ≡ n) → ⊥) (map (numbered m) (chunk_sums g)) (chunk_rows (suc m) gs) (all_numbered (λ r. (r.file ≡ n) → ⊥) m (chunk_sums g) (λ c e. omega (arith, e, lt))) (rows_from n (suc m) gs (omega arith))
 
 true_from : (gs : List FileSums) (n : ℕ) (before : List ChunkRow) → AllByRecursion (λ r. r.file < n) before → HaveTrueHashes n (map file_row gs) (before ++ chunk_rows n gs)
 true_from [] n before h = tt
@@ -176,7 +169,7 @@ true_from (g ∷ gs) n before h =
     ∙ ap (λ (x : List ChunkSum). x ++ sums_in n after) (sums_own n (chunk_sums g))
     ∙ ap (λ (x : List ChunkSum). chunk_sums g ++ x) b ∙ append-nil (chunk_sums g) in
     let lower : AllByRecursion (λ (r : ChunkRow). r.file < suc n) (before ++ own) =
-    all_append (λ r. r.file < suc n) before own (all_weaker (λ r. r.file < n) (λ r. r.file < suc n) (λ r lt. omega (arith, lt)) before h) (all_numbered (λ r. r.file < suc n) n (chunk_sums g) (λ c. omega arith)) in
+    all_join (λ r. r.file < suc n) before own (all_weaker (λ r. r.file < n) (λ r. r.file < suc n) (λ r lt. omega (arith, lt)) before h) (all_numbered (λ r. r.file < suc n) n (chunk_sums g) (λ c. omega arith)) in
     (ap file_hash (sym mine), subst (λ (x : List ChunkRow). HaveTrueHashes (suc n) (map file_row gs) x) (append_assoc before own after) (true_from gs (suc n) (before ++ own) lower))
 
 chunks_have : (rs : List ChunkRow) → Are32 (hashes_in rs) → AllByRecursion (λ r. length r.sum.hash ≡ 32) rs

@@ -13,16 +13,16 @@ use Rattle.format_spec.specs.Bytes.{Bytes, bytes_cmp}
 use Rattle.format_spec.specs.declared.limits.TheConstants.{PAGE_SIZE}
 use Rattle.state_spec.specs.State.{State, memory_bytes, state_from}
 use Rattle.state_spec.specs.Files.{memories_in}
-use Rattle.store_spec.specs.Image.{Published}
+use Rattle.store_spec.specs.Image.{Published, opened}
 use Rattle.sys_state.specs.System.{System, part_of, kept_of, record_of, part_of_record}
 use Rattle.height_store.specs.Store.{StoredHeight, height_at, heights_in}
-use Rattle.whole_state.specs.Whole.{KnowsHeight}
-use Rattle.machine_spec.specs.Machine.{opened, start, newest}
+use Rattle.height_store.specs.Known.{KnowsHeight}
+use Rattle.machine_spec.specs.Machine.{start, newest}
 use Rattle.machine_spec.specs.States.{empty_state}
-use Rattle.state_manager.specs.Sizes.{HaveSizes}
-use Rattle.state_manager.specs.StateKept.{HeldState, KeepsState, live_of}
-use Rattle.state_manager.proofs.Hashed.{sizes_in}
-use Rattle.state_manager.proofs.Splits.{sorted_images}
+use Rattle.live_state.specs.Sizes.{HaveSizes}
+use Rattle.live_state.specs.StateKept.{HeldState, KeepsState, live_of}
+use Rattle.live_state.proofs.Hashed.{sizes_in}
+use Rattle.live_state.proofs.Splits.{sorted_images}
 
 -- ---- heights, one by one
 

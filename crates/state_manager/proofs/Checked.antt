@@ -15,7 +15,7 @@ use Rattle.script_text.specs.declared.reply.Reply.{Reply}
 use Rattle.script_text.specs.declared.reply.Reply.TheVariants.{Refused}
 use Rattle.script_text.specs.declared.reply.Refusal.TheVariants as refusals
 use Rattle.machine_spec.specs.WitnessSteps.{told, told_by}
-use Rattle.state_manager.specs.Changes.{RefusedBy}
+use Rattle.live_state.specs.Changes.{RefusedBy}
 
 same_root : (root : Bytes) (t : Tree) → reconstruct t ≡ root → same_bytes (reconstruct t) root ≡ true
 same_root root t e = ap (same_bytes (reconstruct t)) (sym e) ∙ bytes_same (reconstruct t)

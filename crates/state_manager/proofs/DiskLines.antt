@@ -15,27 +15,34 @@ use Rattle.disk_model.specs.Files.{Files}
 use Rattle.disk_model.specs.Laws.{IsSound}
 use Rattle.disk_model.specs.Looking.{OnlyLooks, looks_leave, looks_none}
 use Rattle.disk_model.specs.Moments.{then}
+use Rattle.disk_model.specs.Spending.{Spends, spends_looks}
 use Rattle.disk_model.specs.State.{DiskState, IsImageNow, IsSettled}
 use Rattle.disk_model.specs.View.{DiskView, LeavesOnly}
 use Rattle.height_store.specs.declared.error.StoreError.{StoreError}
 use Rattle.height_store.specs.Kept.{IsOver, KeepsHeights, ShowsHeight, StandsForEither}
 use Rattle.height_store.specs.Laws.{kept_stands}
 use Rattle.height_store.specs.Store.{StoredHeight, height_at, heights_in}
-use Rattle.whole_state.specs.Laws.{kept_known}
-use Rattle.whole_state.specs.Whole.{KnowsHeight, whole}
+use Rattle.height_store.specs.KnownLaws.{kept_known}
+use Rattle.whole_state.specs.Whole.{whole}
+use Rattle.height_store.specs.Known.{KnowsHeight}
+use Rattle.script_text.specs.Commands.{IsCommand}
 use Rattle.script_text.specs.declared.command.Command.{Command}
 use Rattle.script_text.specs.declared.command.Command.TheVariants as commands
 use Rattle.script_text.specs.declared.command.HeightOrLive.{HeightOrLive}
+use Rattle.script_text.specs.declared.command.HeightOrLive.TheVariants.{Height}
 use Rattle.script_text.specs.declared.reply.Reply.{Reply}
 use Rattle.script_text.specs.declared.reply.Reply.TheVariants as replies
 use Rattle.script_text.specs.declared.reply.Refusal.TheVariants as refusals
+use Rattle.machine_spec.specs.Costs.{appends, reads, whole_bytes}
 use Rattle.machine_spec.specs.Machine.{Machine, Outcome, answered, anew, newest, published_at, resumed_at, start}
 use Rattle.machine_spec.specs.Sound.{IsSound as IsSoundMachine, AreHeights}
 use Rattle.machine_spec.specs.Step.{step}
 use Rattle.machine_spec.proofs.StartKept.{start_is_sound}
 use Rattle.machine_spec.proofs.StepsKept.{step_keeps}
-use Rattle.state_manager.specs.Kept.{Held, DoesLine, Keeps, KeepsEach, KeepsStates, Performs, PerformsOn, published_height}
-use Rattle.state_manager.specs.StateKept.{HeldState, KeepsState, Publishes, live_of}
+use Rattle.state_manager.specs.Kept.{Held, DoesLine, Keeps, KeepsEach, KeepsStates, Performs, PerformsOn, newest_bytes, published_height}
+use Rattle.live_state.specs.StateKept.{HeldState, KeepsState, live_of}
+use Rattle.state_manager.specs.Publishes.{Publishes}
+use Rattle.state_manager.proofs.Spending.{bytes_there, newest_there, spends_nothing}
 use Rattle.state_manager.proofs.Standing.{FoundHeight, PublishedAt, find_height, knows_same, published_some, shows_same}
 
 on_ok_always : {T E : Type 0} (P : Type 0) (result : Result T E) → P → OnOk result P
@@ -54,12 +61,14 @@ on_failed P (Err e) failed = tt
 
 module _ (tells : Bool) (held : Held) (before after : DiskView) (result : Result Reply StoreError) (command : Command) where
   pub looks_line : (IsTrue tells → IsOver held.store before.state.files) → (IsTrue tells → (most : ℕ) × OnlyLooks most before after)
+      → (IsTrue tells → (m : Machine) → Keeps held before.state m → OnOk result (Spends (appends m command) (reads m command) before after))
       → (IsTrue tells → (m : Machine) → Keeps held before.state m → IfOk result (λ reply. (reply ≡ (step m command).reply) × ((step m command).after ≡ m)))
       → DoesLine tells held held before after result command
-  looks_line over looks reply = record {
+  looks_line over looks spends reply = record {
     reply = λ told m k. answers result m (subst (λ (s : DiskState). Keeps held s m) (sym (looks told).1.state) k) (reply told m k);
     images = λ told m k. looks_leave (looks told).0 before after (StandsForEither m.published (step m command).after.published) (looks told).1 (λ image now. inl (kept_stands held.store.heights before.state m.published k.heights image now));
     over = λ told. on_ok_always _ result (subst (λ (s : DiskState). IsOver held.store s.files) (sym (looks told).1.state) (over told));
+    spends = spends;
     given = record { least = omega arith; most = omega arith };
     same = refl;
   }
@@ -70,22 +79,27 @@ module _ (tells : Bool) (held : Held) (before after : DiskView) (result : Result
 
 -- the disk isn't called
 pub still_line : (tells : Bool) (held : Held) (view : DiskView) (result : Result Reply StoreError) (command : Command) → (IsTrue tells → IsOver held.store view.state.files)
+    → ((m : Machine) → Keeps held view.state m → appends m command ≡ 0)
     → (IsTrue tells → (m : Machine) → Keeps held view.state m → IfOk result (λ reply. (reply ≡ (step m command).reply) × ((step m command).after ≡ m)))
     → DoesLine tells held held view view result command
-still_line tells held view result command over reply = looks_line tells held view view result command over (λ told. (0, looks_none 0 view)) reply
+still_line tells held view result command over free reply =
+    looks_line tells held view view result command over (λ told. (0, looks_none 0 view)) (λ told m k. on_ok_always _ result (spends_nothing (appends m command) (reads m command) view (free m k))) reply
 
 -- a call failed that changes nothing
 pub failed_line : (tells : Bool) (held : Held) (before after : DiskView) (result : Result Reply StoreError) (command : Command) → IsErr result → (IsTrue tells → IsOver held.store before.state.files)
     → (IsTrue tells → (most : ℕ) × OnlyLooks most before after) → DoesLine tells held held before after result command
-failed_line tells held before after result command failed over looks = looks_line tells held before after result command over looks (λ told m k. if_failed _ result failed)
+failed_line tells held before after result command failed over looks =
+    looks_line tells held before after result command over looks (λ told m k. on_failed _ result failed) (λ told m k. if_failed _ result failed)
 
 -- a line that needs no disk
-module _ (tells : Bool) (old now : Held) (view : DiskView) (command : Command) (over : IsTrue tells → IsOver old.store view.state.files) (store : now.store ≡ old.store) (same : now.stopped ≡ old.stopped) where
+module _ (tells : Bool) (old now : Held) (view : DiskView) (command : Command) (over : IsTrue tells → IsOver old.store view.state.files) (store : now.store ≡ old.store) (same : now.stopped ≡ old.stopped)
+    (free : (m : Machine) → appends m command ≡ 0) (good : IsCommand command) where
   pub apart_line : (result : Result Reply StoreError) → ((m : Machine) → KeepsStates old m → IfOk result (λ reply. Performs (Ok reply) now m command)) → DoesLine tells old now view view result command
   apart_line result performs = record {
     reply = λ told m k. answers result m k (performs m k.states);
     images = λ told m k. looks_leave 0 view view (StandsForEither m.published (step m command).after.published) (looks_none 0 view) (λ image now. inl (kept_stands old.store.heights view.state m.published k.heights image now));
     over = λ told. on_ok_always _ result (rw store (over told));
+    spends = λ told m k. on_ok_always _ result (spends_nothing (appends m command) (reads m command) view (free m));
     given = rw store (record { least = omega arith; most = omega arith });
     same = same;
   }
@@ -94,7 +108,7 @@ module _ (tells : Bool) (old now : Held) (view : DiskView) (command : Command) (
       answers (Ok reply) m k h = (
         h.0,
         record {
-          sound = step_keeps m command k.sound;
+          sound = step_keeps m command good k.sound;
           states = h.1;
           over = rw store k.over;
           settled = k.settled;
@@ -137,6 +151,9 @@ none_kept [] [] each e = refl
 none_kept [] (k ∷ ks) each e = absurd each
 none_kept (b ∷ helds) ks each e = absurd (omega (arith, e))
 
+pub checkpoint_free : (m : Machine) (helds : List HeldState) → KeepsEach helds m.memory → length helds ≡ 0 → appends m commands.Checkpoint ≡ 0
+checkpoint_free m helds each none = rw (none_kept helds m.memory each none) refl
+
 pub checkpoint_none : (m : Machine) (helds : List HeldState) → KeepsEach helds m.memory → length helds ≡ 0 → step m commands.Checkpoint ≡ answered (replies.Refused refusals.NoHeight) m
 checkpoint_none m helds each none = rw (none_kept helds m.memory each none) refl
 
@@ -171,32 +188,42 @@ abbrev pub published_with : Machine → ℕ × State → Machine
 published_with m k = record m { published = m.published ++ whole k.0 k.1 ∷ [] }
 
 module _ (tells : Bool) (old : Held) (before : DiskView) (m : Machine) (a : HeldState) (last : Some a ≡ slice_get old.memory (length old.memory - 1)) where
+  -- whether the height isn't above the newest, as the machine tests it
+  low_at : (k : KeepsStates old m) (b : Bool) → option_map_or (λ newest. nat_le a.height newest) (last_or None (heights_in old.store.heights)) false ≡ b
+      → option_map_or (λ (p : Published). nat_le (last_kept old.memory m.memory a k.memory last).0.0 p.height) (newest m.published) false ≡ b
+  low_at k b low =
+      let kk = last_kept old.memory m.memory a k.memory last in
+      sym (newest_test (nat_le kk.0.0) old.store.heights m.published k.published) ∙ ap (λ (h : ℕ). option_map_or (nat_le h) (last_or None (heights_in old.store.heights)) false) (sym kk.2.height) ∙ low
+
+  few_at : (k : KeepsStates old m) → length old.store.heights < MAX_PUBLISHED → nat_le MAX_PUBLISHED (length m.published) ≡ false
+  few_at k few = grind (arith, nat_tests, as_many_heights old.store.heights m.published k.published, few)
+
+  many_at : (k : KeepsStates old m) → MAX_PUBLISHED ≤ length old.store.heights → nat_le MAX_PUBLISHED (length m.published) ≡ true
+  many_at k many = grind (arith, nat_tests, as_many_heights old.store.heights m.published k.published, many)
+
   -- what the machine does where a height is published
   pub checkpoints : (k : KeepsStates old m) → option_map_or (λ newest. nat_le a.height newest) (last_or None (heights_in old.store.heights)) false ≡ false → length old.store.heights < MAX_PUBLISHED
       → step m commands.Checkpoint ≡ answered (replies.Published (last_kept old.memory m.memory a k.memory last).0.0 (root_of (last_kept old.memory m.memory a k.memory last).0.1)) (published_with m (last_kept old.memory m.memory a k.memory last).0)
-  checkpoints k low few =
-      let kk = last_kept old.memory m.memory a k.memory last in
-      let not_low : option_map_or (λ (p : Published). nat_le kk.0.0 p.height) (newest m.published) false ≡ false =
-      sym (newest_test (nat_le kk.0.0) old.store.heights m.published k.published) ∙ ap (λ (h : ℕ). option_map_or (nat_le h) (last_or None (heights_in old.store.heights)) false) (sym kk.2.height) ∙ low in
-      let not_many : nat_le MAX_PUBLISHED (length m.published) ≡ false = grind (arith, nat_tests, as_many_heights old.store.heights m.published k.published, few) in
-      rw (kk.1, not_low, not_many) refl
+  checkpoints k low few = rw ((last_kept old.memory m.memory a k.memory last).1, low_at k false low, few_at k few) refl
+
+  pub checkpoint_appends : (k : KeepsStates old m) → option_map_or (λ newest. nat_le a.height newest) (last_or None (heights_in old.store.heights)) false ≡ false → length old.store.heights < MAX_PUBLISHED
+      → appends m commands.Checkpoint ≡ whole_bytes (last_kept old.memory m.memory a k.memory last).0.1
+  checkpoint_appends k low few = rw ((last_kept old.memory m.memory a k.memory last).1, low_at k false low, few_at k few) refl
 
   pub checkpoint_low : (k : KeepsStates old m) → option_map_or (λ newest. nat_le a.height newest) (last_or None (heights_in old.store.heights)) false ≡ true
       → step m commands.Checkpoint ≡ answered (replies.Refused refusals.HeightLow) m
-  checkpoint_low k low =
-      let kk = last_kept old.memory m.memory a k.memory last in
-      let is_low : option_map_or (λ (p : Published). nat_le kk.0.0 p.height) (newest m.published) false ≡ true =
-      sym (newest_test (nat_le kk.0.0) old.store.heights m.published k.published) ∙ ap (λ (h : ℕ). option_map_or (nat_le h) (last_or None (heights_in old.store.heights)) false) (sym kk.2.height) ∙ low in
-      rw (kk.1, is_low) refl
+  checkpoint_low k low = rw ((last_kept old.memory m.memory a k.memory last).1, low_at k true low) refl
+
+  pub checkpoint_low_free : (k : KeepsStates old m) → option_map_or (λ newest. nat_le a.height newest) (last_or None (heights_in old.store.heights)) false ≡ true → appends m commands.Checkpoint ≡ 0
+  checkpoint_low_free k low = rw ((last_kept old.memory m.memory a k.memory last).1, low_at k true low) refl
 
   pub checkpoint_many : (k : KeepsStates old m) → option_map_or (λ newest. nat_le a.height newest) (last_or None (heights_in old.store.heights)) false ≡ false → MAX_PUBLISHED ≤ length old.store.heights
       → step m commands.Checkpoint ≡ answered (replies.Refused refusals.ManyMarks) m
-  checkpoint_many k low many =
-      let kk = last_kept old.memory m.memory a k.memory last in
-      let not_low : option_map_or (λ (p : Published). nat_le kk.0.0 p.height) (newest m.published) false ≡ false =
-      sym (newest_test (nat_le kk.0.0) old.store.heights m.published k.published) ∙ ap (λ (h : ℕ). option_map_or (nat_le h) (last_or None (heights_in old.store.heights)) false) (sym kk.2.height) ∙ low in
-      let is_many : nat_le MAX_PUBLISHED (length m.published) ≡ true = grind (arith, nat_tests, as_many_heights old.store.heights m.published k.published, many) in
-      rw (kk.1, not_low, is_many) refl
+  checkpoint_many k low many = rw ((last_kept old.memory m.memory a k.memory last).1, low_at k false low, many_at k many) refl
+
+  pub checkpoint_many_free : (k : KeepsStates old m) → option_map_or (λ newest. nat_le a.height newest) (last_or None (heights_in old.store.heights)) false ≡ false → MAX_PUBLISHED ≤ length old.store.heights
+      → appends m commands.Checkpoint ≡ 0
+  checkpoint_many_free k low many = rw ((last_kept old.memory m.memory a k.memory last).1, low_at k false low, many_at k many) refl
 
 pub as_step : (reply : Reply) (o p : Outcome) (m : Machine) → o ≡ p → reply ≡ p.reply → p.after ≡ m → (reply ≡ o.reply) × (o.after ≡ m)
 as_step reply o p m e r a = (r ∙ sym (ap (λ (x : Outcome). x.reply) e), ap (λ (x : Outcome). x.after) e ∙ a)
@@ -219,6 +246,7 @@ module _ (tells : Bool) (old now : Held) (before after : DiskView) (a : HeldStat
     reply = λ told m k. none result failed m;
     images = images_of;
     over = λ told. on_failed _ result failed;
+    spends = λ told m k. on_failed _ result failed;
     given = publishes.given;
     same = closed;
   }
@@ -237,7 +265,7 @@ module _ (tells : Bool) (old now : Held) (before after : DiskView) (a : HeldStat
         let heights : KeepsHeights now.store.heights after.state (m.published ++ whole kk.0.0 kk.0.1 ∷ []) = subst (λ (h : ℕ). KeepsHeights now.store.heights after.state (m.published ++ whole h kk.0.1 ∷ [])) kk.2.height stands.1 in
         let does = checkpoints tells old before m a last k.states low few in
         let keeps : Keeps now after.state (published_with m kk.0) = record {
-          sound = subst (λ (o : Outcome). IsSoundMachine o.after) does (step_keeps m commands.Checkpoint k.sound);
+          sound = subst (λ (o : Outcome). IsSoundMachine o.after) does (step_keeps m commands.Checkpoint (record { form = tt; types = tt }) k.sound);
           states = record {
             usable = rw closed k.states.usable;
             live = rw live (live_beside old.live m (published_with m kk.0) refl refl k.states.live);
@@ -251,6 +279,10 @@ module _ (tells : Bool) (old now : Held) (before after : DiskView) (a : HeldStat
         subst (λ (o : Outcome). (replies.Published a.height hash ≡ o.reply) × Keeps now after.state o.after) (sym does) (cc (kk.2.height, told_root), keeps);
     images = images_of;
     over = λ told. subst (λ (r : Result Bytes StoreError). OnOk r (IsOver now.store after.state.files)) done (publishes.over told);
+    spends = λ told m k.
+        let kk = last_kept old.memory m.memory a k.states.memory last in
+        subst (λ (n : ℕ). Spends n 0 before after) (sym (checkpoint_appends tells old before m a last k.states low few))
+        (subst (λ (r : Result Bytes StoreError). OnOk r (Spends (whole_bytes kk.0.1) 0 before after)) done (publishes.spends told kk.0 kk.2));
     given = publishes.given;
     same = closed;
   }
@@ -310,7 +342,7 @@ starts now s ps sound usable live memory over settled heights machine =
     }
 
 pub reset_done : (tells : Bool) (old now : Held) (before after : DiskView) (height : ℕ) → (IsTrue tells → IsImageNow after.state after.state.files) → (IsTrue tells → IsOver old.store before.state.files)
-    → (IsTrue tells → (most : ℕ) × OnlyLooks most before after) → is_some (height_at old.store.heights height) ≡ true
+    → (IsTrue tells → OnlyLooks (newest_bytes old.store.heights) before after) → is_some (height_at old.store.heights height) ≡ true
     → option_map_or (λ newest. newest == height) (last_or None (heights_in old.store.heights)) false ≡ true
     → now.store ≡ old.store → now.stopped ≡ old.stopped → now.memory ≡ []
     → (IsTrue tells → (ps : List Published) → AllZip (ShowsHeight before.state.files) old.store.heights ps → KeepsState now.live (live_of (start ps))) → (IsTrue tells → IsImageNow before.state before.state.files)
@@ -319,12 +351,17 @@ reset_done tells old now before after height sound over looks there last store c
   reply = λ told m k.
       let s = height_there old.store.heights m.published height k.states.published there in
       let is_last = sym (newest_test (λ n. n == height) old.store.heights m.published k.states.published) ∙ last in
-      let l = (looks told).1 in
+      let l = looks told in
       let state : Keeps now after.state (start m.published) = starts now after.state m.published (sound told) (closed ∙ k.states.usable) (live told m.published (k.heights.images before.state.files (before_sound told)).each) memory
       (rw (l.state, store) (over told)) (rw l.state k.settled) (rw (l.state, store) k.heights) (start_is_sound m.published k.sound.published) in
       subst (λ (o : Outcome). (replies.Fine ≡ o.reply) × Keeps now after.state o.after) (sym (resets m height s.0 s.1 is_last)) (refl, state);
-  images = λ told m k. looks_leave (looks told).0 before after (StandsForEither m.published (step m (commands.Reset height)).after.published) (looks told).1 (λ image now. inl (kept_stands old.store.heights before.state m.published k.heights image now));
-  over = λ told. let l = (looks told).1 in rw (l.state, store) (over told);
+  images = λ told m k. looks_leave _ before after (StandsForEither m.published (step m (commands.Reset height)).after.published) (looks told) (λ image now. inl (kept_stands old.store.heights before.state m.published k.heights image now));
+  over = λ told. let l = looks told in rw (l.state, store) (over told);
+  spends = λ told m k.
+      let is_last = sym (newest_test (λ n. n == height) old.store.heights m.published k.states.published) ∙ last in
+      let most : newest_bytes old.store.heights ≡ reads m (commands.Reset height) =
+      newest_there old.store.heights height last ∙ bytes_there old m k.states (Height height) height (rw there refl) ∙ sym (rw is_last refl) in
+      subst (λ (n : ℕ). Spends 0 n before after) most (spends_looks _ before after (looks told));
   given = rw store (record { least = omega arith; most = omega arith });
   same = closed;
 }

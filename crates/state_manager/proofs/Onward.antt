@@ -24,7 +24,7 @@ use Rattle.machine_spec.specs.Machine.{Machine, Outcome, now_live, unless, refus
 use Rattle.machine_spec.specs.Step.{step}
 use Rattle.state_manager.proofs.Standing.{at_none, at_some, as_many, drops, joins}
 use Rattle.state_manager.specs.Kept.{Held, KeepsStates, Performs, held_at}
-use Rattle.state_manager.specs.StateKept.{HeldState, KeepsState, PerformsState, live_of}
+use Rattle.live_state.specs.StateKept.{HeldState, KeepsState, PerformsState, live_of}
 
 -- a line on the live state, and what is held beside that
 pub on_live : (old now : Held) (m : Machine) (command : Command) (result : Result Reply NoMemory) → KeepsStates old m → now.stopped ≡ old.stopped → now.memory ≡ old.memory → now.store ≡ old.store

@@ -1,5 +1,5 @@
 -- `purge H`.
-use Rattle.std.proofs.Common.{◌≡◌, ◌==◌, ◌≤◌, ◌+◌, ℕ, Bool, true, false, List, [], ◌∷◌, Result, Ok, Err, refl, ◌∙◌, ap, sym, subst, inl, inr}
+use Rattle.std.proofs.Common.{◌≡◌, ◌==◌, ℕ, Bool, true, false, List, [], ◌∷◌, Result, Ok, Err, refl, ◌∙◌, ap, sym, subst, inl, inr}
 use Rattle.std.proofs.lemmas.Bool.{cases_Bool, false≢true}
 use Rattle.std.specs.List.{AllZip}
 use Rattle.std.specs.Option.{is_some, option_map_or}
@@ -7,13 +7,14 @@ use Rattle.std.specs.Prelude.{◌⊎◌, ◌↔◌, IsTrue}
 use Rattle.std.specs.Result.{IsErrOf, OnOk}
 use Rattle.store_spec.specs.Image.{Published, without_published}
 use Rattle.disk_model.specs.State.{IsImageNow, IsSettled}
+use Rattle.disk_model.specs.Spending.{Spends}
 use Rattle.disk_model.specs.View.{DiskView, LeavesOnly}
 use Rattle.height_store.specs.declared.error.StoreError.{StoreError}
 use Rattle.height_store.specs.declared.error.StoreError.TheVariants as store
 use Rattle.height_store.specs.Kept.{IsOver, KeepsHeights, StandsForEither}
 use Rattle.height_store.specs.Store.{StoredHeight, GivesFew, height_at, is_newest}
-use Rattle.whole_state.specs.Laws.{kept_known}
-use Rattle.whole_state.specs.Whole.{KnowsHeight}
+use Rattle.height_store.specs.KnownLaws.{kept_known}
+use Rattle.height_store.specs.Known.{KnowsHeight}
 use Rattle.script_text.specs.declared.command.Command.TheVariants as commands
 use Rattle.script_text.specs.declared.reply.Reply.{Reply}
 use Rattle.script_text.specs.declared.reply.Reply.TheVariants as replies
@@ -51,6 +52,7 @@ pub record Purges {T : Type 0} (tells : Bool) (old now : Held) (before after : D
   pub refused : IsErrOf r store.NoHeight ⊎ IsErrOf r store.LastHeight → (now.store ≡ old.store) × (after ≡ before)
   pub given : GivesFew old.store now.store
   pub over : IsTrue tells → OnOk r (IsOver now.store after.state.files)
+  pub spends : IsTrue tells → OnOk r (Spends 0 0 before after)
   pub stands : IsTrue tells → (ps : List Published) → IsSettled before.state → KeepsHeights old.store.heights before.state ps → OnOk r (KeepsHeights now.store.heights after.state (without_published ps height))
   pub images : IsTrue tells → (ps : List Published) → IsSettled before.state → KeepsHeights old.store.heights before.state ps → LeavesOnly before after (StandsForEither ps (without_published ps height))
   pub settled : IsTrue tells → OnOk r (IsSettled before.state → IsSettled after.state)
@@ -63,7 +65,7 @@ module _ {T : Type 0} (tells : Bool) (old now : Held) (before after : DiskView) 
   refuses reason same does is =
       subst (λ (v : DiskView). DoesLine tells old now before v reply (commands.Purge height)) (sym same.1)
       (subst (λ (x : Result Reply StoreError). DoesLine tells old now before before x (commands.Purge height)) (sym is)
-      (apart_line tells old now before (commands.Purge height) over same.0 closed (Ok (replies.Refused reason))
+      (apart_line tells old now before (commands.Purge height) over same.0 closed (λ m. refl) (record { form = tt; types = tt }) (Ok (replies.Refused reason))
       (λ m k.
       let states : KeepsStates now m = record { usable = closed ∙ k.usable; live = rw live k.live; memory = rw memory k.memory; published = rw same.0 k.published } in
       subst (λ (o : Outcome). (replies.Refused reason ≡ o.reply) × KeepsStates now o.after × (o.after.published ≡ m.published)) (sym (does m k)) (refl, states, refl))))
@@ -116,6 +118,7 @@ module _ {T : Type 0} (tells : Bool) (old now : Held) (before after : DiskView) 
         reply = λ told m k. answers reply refl a b there older told m k;
         images = λ told m k. subst (λ (o : Outcome). LeavesOnly before after (StandsForEither m.published o.after.published)) (sym (does_purge there older m k.states)) (p.images told m.published k.settled k.heights);
         over = λ told. over_after a b _ (p.over told);
+        spends = λ told m k. over_after a b _ (p.spends told);
         given = p.given;
         same = closed;
       }
@@ -129,7 +132,7 @@ module _ {T : Type 0} (tells : Bool) (old now : Held) (before after : DiskView) 
           let settled = done _ (p.settled told) k.settled in
           let does = does_purge there older m k.states in
           let keeps : Keeps now after.state (without m) = record {
-            sound = subst (λ (o : Outcome). IsSound o.after) does (step_keeps m (commands.Purge height) k.sound);
+            sound = subst (λ (o : Outcome). IsSound o.after) does (step_keeps m (commands.Purge height) (record { form = tt; types = tt }) k.sound);
             states = record {
               usable = closed ∙ k.states.usable;
               live = rw live (live_beside old.live m (without m) refl refl k.states.live);

@@ -1,5 +1,5 @@
 -- `read` at a published height.
-use Rattle.std.proofs.Common.{◌≡◌, ◌<◌, ◌≤◌, ◌+◌, ◌*◌, ◌^◌, ℕ, Bool, true, false, cond, nat_lt, List, [], ◌∷◌, ◌++◌, length, map, get_or, take, drop, Option, Some, None, Ok, refl, ◌∙◌, ap, sym, subst, arith, length-append}
+use Rattle.std.proofs.Common.{◌≡◌, ◌<◌, ◌≤◌, ◌+◌, ◌*◌, ◌^◌, ℕ, Bool, true, false, cond, nat_lt, List, [], ◌∷◌, ◌++◌, length, map, get_or, take, drop, Option, Some, None, refl, ◌∙◌, ap, sym, subst, arith, length-append}
 use Rattle.std.proofs.lemmas.List.{length-map}
 use Rattle.std.proofs.lemmas.Option.{slice_get-get_or}
 use Rattle.std.specs.FinMap.{find}
@@ -11,7 +11,7 @@ use Rattle.format_spec.specs.Bytes.{Bytes, bytes_cmp}
 use Rattle.format_spec.specs.declared.limits.TheConstants.{PAGE_SIZE, MAX_CANISTERS}
 use Rattle.state_spec.specs.Files.{heap_name, stable_name, memories_in}
 use Rattle.state_spec.specs.State.{State, Canister, CanisterPart, SystemPart, system_of, memory_bytes}
-use Rattle.store_spec.specs.Image.{Published}
+use Rattle.store_spec.specs.Image.{Published, opened}
 use Rattle.sys_state.specs.Calls as calls
 use Rattle.sys_state.specs.Places.{Stands, place_of}
 use Rattle.sys_state.specs.System.{System, part_of, part_of_record, parts}
@@ -19,20 +19,19 @@ use Rattle.sys_state.specs.declared.mem.Mem.{Mem}
 use Rattle.sys_state.specs.declared.mem.Mem.TheVariants.{Heap, Stable}
 use Rattle.sys_state.specs.declared.record.CanisterRecord.{CanisterRecord}
 use Rattle.height_store.specs.Store.{StoredHeight}
-use Rattle.whole_state.specs.Whole.{KnowsHeight, IsMemoryAt}
+use Rattle.height_store.specs.Known.{KnowsHeight, IsMemoryAt}
 use Rattle.script_text.specs.declared.reply.Reply.{Reply}
 use Rattle.script_text.specs.declared.reply.Reply.TheVariants as replies
 use Rattle.script_text.specs.declared.reply.Refusal.TheVariants.{NoCanister, PastEnd}
 use Rattle.machine_spec.specs.LiveSteps.{bytes_told, canister_told, read_reply}
-use Rattle.machine_spec.specs.Machine.{opened}
 use Rattle.machine_spec.specs.States.{canister_in, memory_of}
-use Rattle.state_manager.specs.Places.{index_of}
-use Rattle.state_manager.specs.StateKept.{HeldState}
+use Rattle.live_state.specs.Places.{index_of}
+use Rattle.live_state.specs.StateKept.{HeldState}
 use Rattle.state_manager.proofs.AtHeights.{opened_kept}
-use Rattle.state_manager.proofs.Hashed.{sizes_in}
-use Rattle.state_manager.proofs.Indexed.{index_within, pair_get, pick, size_at}
-use Rattle.state_manager.proofs.Keeping.{Canisters, bytes_in}
-use Rattle.state_manager.proofs.MemoryLines.{parts_of_state, reads_bytes, reads_nowhere, reads_past}
+use Rattle.live_state.proofs.Hashed.{sizes_in}
+use Rattle.live_state.proofs.Indexed.{index_within, pair_get, pick, size_at}
+use Rattle.live_state.proofs.Keeping.{Canisters, bytes_in}
+use Rattle.live_state.proofs.MemoryLines.{parts_of_state, reads_bytes, reads_nowhere, reads_past}
 
 -- ---- states with the same parts and bytes answer the same
 

@@ -9,22 +9,21 @@ use Rattle.std.specs.Result.{IfOk}
 use Rattle.byte_codec.specs.declared.error.NoMemory.{NoMemory}
 use Rattle.state_spec.specs.State.{State}
 use Rattle.script_text.specs.declared.command.Command.{Command}
-use Rattle.script_text.specs.declared.command.Command.TheVariants as commands
 use Rattle.machine_spec.specs.Step.{step}
 use Rattle.script_text.specs.declared.command.HeightOrLive.{HeightOrLive}
 use Rattle.script_text.specs.declared.command.HeightOrLive.TheVariants.{Live, Height}
 use Rattle.script_text.specs.declared.reply.Reply.{Reply}
 use Rattle.script_text.specs.declared.reply.Reply.TheVariants as replies
 use Rattle.script_text.specs.declared.reply.Refusal.TheVariants.{NoHeight}
-use Rattle.machine_spec.specs.HeightSteps.{counts_of}
+use Rattle.machine_spec.specs.Costs.{on_disk}
 use Rattle.machine_spec.specs.Machine.{Machine, Outcome, answered, unless_none, on_state, state_at, kept_at, published_at, without_height}
 use Rattle.store_spec.specs.Image.{Published}
 use Rattle.disk_model.specs.Files.{Files}
 use Rattle.height_store.specs.Kept.{ShowsHeight}
 use Rattle.height_store.specs.Store.{StoredHeight, height_at}
-use Rattle.whole_state.specs.Whole.{KnowsHeight}
+use Rattle.height_store.specs.Known.{KnowsHeight}
 use Rattle.state_manager.specs.Kept.{Held, KeepsStates, KeepsEach, Performs, held_at, published_height}
-use Rattle.state_manager.specs.StateKept.{HeldState, KeepsState, live_of}
+use Rattle.live_state.specs.StateKept.{HeldState, KeepsState, live_of}
 
 -- ---- the states in memory
 
@@ -133,6 +132,7 @@ pub record PublishedAt (R : StoredHeight → Published → Type 0) (hs : List St
   pub found : height_at hs height ≡ Some stored
   pub related : R stored published
   pub state : state_at m at ≡ Some published.state
+  pub on_disk : on_disk m at ≡ Some published.state
 
 module _ (R : StoredHeight → Published → Type 0) (same : (h : StoredHeight) (p : Published) → R h p → h.mark.height ≡ p.height) where
   pub find_height : (hs : List StoredHeight) (ps : List Published) (height : ℕ) → AllZip R hs ps → FoundHeight R (height_at hs height) height ps
@@ -168,6 +168,7 @@ module _ (R : StoredHeight → Published → Type 0) (same : (h : StoredHeight) 
             found = subst (λ (n : ℕ). height_at held.store.heights n ≡ Some x) (sym one) found;
             related = f.related;
             state = ap (λ (o : Option State). option_or o (kept_at h m.memory)) f.state;
+            on_disk = f.state;
           }
 
 pub knows_same : (h : StoredHeight) (p : Published) → KnowsHeight h p → h.mark.height ≡ p.height
@@ -216,6 +217,14 @@ line_some held m k at none a e act reply after is =
 pub line_none : (held : Held) (m : Machine) → KeepsStates held m → (at : HeightOrLive) → None ≡ published_height held at → None ≡ held_at held at → (act : State → Outcome)
     → (replies.Refused NoHeight ≡ (on_state m at act).reply) × KeepsStates held (on_state m at act).after × ((on_state m at act).after.published ≡ m.published)
 line_none held m k at none e act = unchanged held m k (replies.Refused NoHeight) (on_state m at act) (asks_none m at (published_none held m k at none ∙ at_none held m k at e) act)
+
+-- a manager that keeps a tree is the same to its lines
+pub record WithTree (held : Held) (m : Machine) (at : HeightOrLive) : Type 0 where
+  pub keeps : KeepsStates held m
+  pub none : None ≡ published_height held at
+
+pub with_tree : (old new : Held) (m : Machine) (at : HeightOrLive) → new ≡ old → KeepsStates old m → None ≡ published_height old at → WithTree new m at
+with_tree old new m at same k none = subst (λ (h : Held). WithTree h m at) (sym same) (record { keeps = k; none = none })
 
 -- a line that answers something of a state
 module _ (held : Held) (m : Machine) (k : KeepsStates held m) (at : HeightOrLive) (command : Command) (tell : State → Reply) (same : step m command ≡ on_state m at (λ s. answered (tell s) m)) where

@@ -1,24 +1,27 @@
 -- What a manager holds, and which plain machines it and its disk keep.
-use Rattle.std.specs.Prelude.{◌≡◌, ◌==◌, ◌≤◌, ◌+◌, ℕ, IsTrue, OnOk, Bool, true, false, if◌then◌else◌, List, [], ◌∷◌, find, Option, Some, None, is_some, Result, Ok, Err, ⊤}
-use Rattle.std.specs.List.{AllByRecursion, AllZip}
+use Rattle.std.specs.Prelude.{◌≡◌, ◌==◌, ◌≤◌, ℕ, IsTrue, OnOk, Bool, true, false, if◌then◌else◌, List, [], ◌∷◌, find, Option, Some, None, is_some, Result, Ok, Err, ⊤}
+use Rattle.std.specs.List.{AllByRecursion, AllZip, last_or}
+use Rattle.std.specs.Option.{option_map_or}
 use Rattle.format_spec.specs.declared.limits.TheConstants.{MAX_HEIGHT}
 use Rattle.byte_codec.specs.declared.error.NoMemory.{NoMemory}
 use Rattle.state_spec.specs.State.{State}
 use Rattle.disk_model.specs.State.{DiskState, IsSettled}
+use Rattle.disk_model.specs.Spending.{Spends}
 use Rattle.disk_model.specs.View.{DiskView, LeavesOnly}
 use Rattle.height_store.specs.declared.error.StoreError.{StoreError}
-use Rattle.height_store.specs.Store.{Store, GivesFew, height_at}
+use Rattle.height_store.specs.Store.{Store, StoredHeight, GivesFew, height_at, heights_in}
 use Rattle.height_store.specs.Kept.{IsOver, KeepsHeights, StandsForEither}
-use Rattle.whole_state.specs.Whole.{KnowsHeight}
+use Rattle.height_store.specs.Known.{KnowsHeight, bytes_at}
 use Rattle.script_text.specs.declared.command.Command.{Command}
 use Rattle.script_text.specs.declared.command.Command.TheVariants.{Read, Scratch, Checkpoint, Purge, Reset}
 use Rattle.script_text.specs.declared.command.HeightOrLive.{HeightOrLive}
 use Rattle.script_text.specs.declared.command.HeightOrLive.TheVariants.{Live, Height}
 use Rattle.script_text.specs.declared.reply.Reply.{Reply}
+use Rattle.machine_spec.specs.Costs.{appends, reads}
 use Rattle.machine_spec.specs.Machine.{Machine}
 use Rattle.machine_spec.specs.Sound.{IsSound}
 use Rattle.machine_spec.specs.Step.{step}
-use Rattle.state_manager.specs.StateKept.{HeldState, KeepsState, live_of}
+use Rattle.live_state.specs.StateKept.{HeldState, KeepsState, live_of}
 use Rattle.state_manager.specs.declared.stop.Stop.{Stop}
 
 -- the live state, the states in memory, ascending by height, the published heights, and how an earlier call stopped
@@ -41,6 +44,10 @@ held_at held (Height h) = find (λ state. state.height == h) held.memory
 abbrev pub published_height : Held → HeightOrLive → Option ℕ
 published_height held Live = None
 published_height held (Height h) = if is_some (height_at held.store.heights h) then Some h else None
+
+-- the bytes of the memories of the newest published height
+abbrev pub newest_bytes : List StoredHeight → ℕ
+newest_bytes hs = option_map_or (bytes_at hs) (last_or None (heights_in hs)) 0
 
 -- each state in memory is the machine's
 abbrev pub KeepsEach : List HeldState → List (ℕ × State) → Type 0
@@ -91,11 +98,13 @@ Applies (Ok reply) now s m command = (reply ≡ (step m command).reply) × Keeps
 Applies (Err stop) now s m command = Unit {0}
 
 -- What a line that may call the disk does, whatever it answers: while it runs every image stands for the published heights
--- before it or for those after the machine's step, and it gives few numbers to page files.
+-- before it or for those after the machine's step, and it gives few numbers to page files. Where it is answered, it has appended
+-- just the bytes that the machine says, and read no more.
 pub record DoesLine (tells : Bool) (old new : Held) (before after : DiskView) (result : Result Reply StoreError) (command : Command) : Type 0 where
   pub reply : IsTrue tells → (m : Machine) → Keeps old before.state m → PerformsOn result new after.state m command
   pub images : IsTrue tells → (m : Machine) → Keeps old before.state m
       → LeavesOnly before after (StandsForEither m.published (step m command).after.published)
   pub over : IsTrue tells → OnOk result (IsOver new.store after.state.files)
+  pub spends : IsTrue tells → (m : Machine) → Keeps old before.state m → OnOk result (Spends (appends m command) (reads m command) before after)
   pub given : GivesFew old.store new.store
   pub same : new.stopped ≡ old.stopped

@@ -1,7 +1,3 @@
 pub mod Causes
-pub mod Changes
 pub mod Kept
-pub mod Memories
-pub mod Places
-pub mod Sizes
-pub mod StateKept
+pub mod Publishes

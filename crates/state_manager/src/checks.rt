@@ -4,7 +4,7 @@ ghost use Rattle.std.specs.Prelude.{◌≡◌, IfOk};
 ghost use Rattle.tree_spec.specs.Cbor.{read_tree};
 ghost use Rattle.machine_spec.specs.WitnessSteps.{told, told_by};
 ghost use Rattle.witness.specs.Answers.{checked as checked_of};
-ghost use Rattle.state_manager.specs.Changes.{RefusedBy};
+ghost use Rattle.live_state.specs.Changes.{RefusedBy};
 
 use byte_codec::NoMemory;
 use hash_domain::Hash32;

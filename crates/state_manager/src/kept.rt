@@ -3,8 +3,8 @@
 ghost use Rattle.std.specs.Prelude.{◌≡◌, ◌==◌, not, map, filter, find, IfOk};
 ghost use Rattle.std.specs.Option.{option_copied};
 
-use crate::height_state::HeightState;
 use byte_codec::NoMemory;
+use live_state::HeightState;
 use script_text::Numbers;
 use std::alloc::Global;
 
@@ -13,6 +13,16 @@ pub fn find_height(states: &[HeightState], height: u64) -> Option<&HeightState>
     ensures { option_copied result ≡ find (λ state. state.height == height) states.now }
 {
     states.iter().find(|state| state.height() == height)
+}
+
+/// Keeps the tree of the state at a height, where there is one. NoMemory where memory runs out.
+pub fn keep_tree_at(alloc: Global, states: &mut [HeightState], height: u64) -> Result<(), NoMemory>
+    ensures { states.new ≡ states.old }
+{
+    match states.iter().position(|state| state.height() == height) {
+        Some(place) => states[place].keep_tree(alloc),
+        None => Ok(()),
+    }
 }
 
 /// Drops the state at a height.

@@ -1,13 +1,10 @@
 //! The manager of the live state, those in memory and the published ones: applies the commands of a script, one at a time.
 #![tactic(auto)]
 
-mod canisters;
 mod checks;
-mod height_state;
 mod kept;
 mod manager;
-mod memories;
-mod refusals;
+mod publishing;
 mod stop;
 mod stored;
 

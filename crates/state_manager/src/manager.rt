@@ -4,22 +4,28 @@ ghost use Rattle.std.specs.Prelude.{◌≡◌, ◌↔◌, ◌≤◌, ◌+◌, �
 ghost use Rattle.std.specs.List.{last_or};
 ghost use Rattle.std.specs.Option.{option_copied};
 ghost use Rattle.store_spec.specs.Image.{Published, StandsFor, Opens};
+ghost use Rattle.disk_model.specs.declared.name.Kind.TheVariants as kind;
+ghost use Rattle.disk_model.specs.declared.name.Name.{Name};
 ghost use Rattle.disk_model.specs.declared.name.Name.TheVariants as name;
+ghost use Rattle.disk_model.specs.Files.{IsListing};
 ghost use Rattle.disk_model.specs.State.{IsImageNow};
+ghost use Rattle.disk_model.specs.Spending.{Spends};
 ghost use Rattle.disk_model.specs.View.{EachImage, LeavesOnly};
-ghost use Rattle.height_store.specs.Bad.{IsFirstBadMark, IsFirstBadPage};
+ghost use Rattle.height_store.specs.Bad.{IsFirstBadMark, IsFirstBadPage, marks_bytes};
 ghost use Rattle.height_store.specs.Errors.{HasCause as StoreCause};
 ghost use Rattle.height_store.specs.Kept.{IsOver, StandsForSome, StandsAsBefore, StandsForEither};
-ghost use Rattle.height_store.specs.Store.{GivesFew, is_named};
+ghost use Rattle.height_store.specs.Opened.{ReadsAtMost};
+ghost use Rattle.height_store.specs.Store.{GivesFew, is_named, is_needed};
 ghost use Rattle.script_text.specs.Commands.{FitsForm};
+ghost use Rattle.machine_spec.specs.Costs.{appends, reads};
 ghost use Rattle.machine_spec.specs.Machine.{Machine, start};
 ghost use Rattle.machine_spec.specs.Step.{step};
 ghost use Rattle.state_manager.specs.Causes.{HasCause, OpensByCause, IsBadFile, purge_reply};
-ghost use Rattle.state_manager.specs.Kept.{Keeps, KeepsStates, Performs, Applies, DoesLine, held_at, published_height, needs_disk};
+ghost use Rattle.state_manager.specs.Kept.{Keeps, KeepsStates, Performs, Applies, DoesLine, held_at, published_height, needs_disk, newest_bytes};
 
 use crate::checks::check_witness;
-use crate::height_state::HeightState;
-use crate::kept::{drop_height, find_height, heights_of};
+use crate::kept::{drop_height, find_height, heights_of, keep_tree_at};
+use crate::publishing::publish;
 use crate::stop::{OpenError, Stop};
 use crate::stored::{
     begin, count_published, is_low, is_newest, is_published, load, published_heights,
@@ -29,7 +35,8 @@ use byte_codec::NoMemory;
 use disk_model::Disk;
 use format_spec::{MAX_HEIGHT, MAX_HEIGHTS, MAX_PUBLISHED};
 use height_store::{HeightStore, StoreError};
-use script_text::{Command, HeightOrLive, Numbers, Refusal, Reply};
+use live_state::HeightState;
+use script_text::{Command, HeightOrLive, Refusal, Reply};
 use std::alloc::Global;
 use std::marker::Model;
 use sys_state::{CanisterId, Mem, Path};
@@ -58,7 +65,9 @@ impl Manager {
     /// Opens the manager of a disk: goes on from the newest published height, or from nothing, with no state in memory. Of the
     /// pages that are read, a cache may hold so many, from 1 to 65,536; so far nothing is cached.
     ///
-    /// Then every page file is one that a mark names, there is no draft and no stage file, and the marks are as before.
+    /// Then every page file is one that a mark names and reads as before, and there is no draft and no stage file. Whatever is
+    /// answered, the marks are as before and nothing was appended. At most the marks were read, the index of each page file that
+    /// one names, and all pages of the newest height.
     ///
     /// BadMark and BadPage as the store says: the first mark by height that is none, or else the first page file by number that a
     /// mark names and that is none. Fault where the disk failed, Memory where memory ran out.
@@ -74,10 +83,16 @@ impl Manager {
         ensures bad_page { IsTrue D.tells → (number : ℕ) → IsErrOf result (OpenError.BadPage number) → IsFirstBadPage (D.view disk.old).state.files number }
         ensures bad_keeps { IsTrue D.tells → IsBadFile result → LeavesOnly (D.view disk.old) (D.view disk.new) (IsImageNow (D.view disk.old).state) }
         ensures opens { IsTrue D.tells → OnOk result (Opens (D.view disk.old).state.files) }
-        ensures marks { IsTrue D.tells → OnOk result ((n : ℕ) → (D.view disk.new).state.files (name.Mark n) ≡ (D.view disk.old).state.files (name.Mark n)) }
+        ensures bad_reads { IsTrue D.tells → IsBadFile result → (D.view disk.new).state.files ≡ (D.view disk.old).state.files }
+        ensures needed { IsTrue D.tells → IfOk result (λ manager. (q : Name) → is_needed manager.store.heights q ≡ true → (D.view disk.new).state.files q ≡ (D.view disk.old).state.files q) }
+        ensures marks { IsTrue D.tells → (n : ℕ) → (D.view disk.new).state.files (name.Mark n) ≡ (D.view disk.old).state.files (name.Mark n) }
         ensures pages { IsTrue D.tells → IfOk result (λ manager. (n : ℕ) → is_some ((D.view disk.new).state.files (name.Page n)) ≡ is_named manager.store.heights n) }
         ensures no_stage { IsTrue D.tells → OnOk result ((n : ℕ) → (D.view disk.new).state.files (name.Stage n) ≡ None) }
-        ensures appended { IsTrue D.tells → OnOk result ((D.view disk.new).appended ≡ (D.view disk.old).appended) }
+        ensures appended { IsTrue D.tells → (D.view disk.new).appended ≡ (D.view disk.old).appended }
+        ensures read { IsTrue D.tells → IfOk result (λ manager.
+            ReadsAtMost (D.view disk.old).state.files manager.store ((D.view disk.old).bytes_read + newest_bytes manager.store.heights) (D.view disk.new).bytes_read) }
+        ensures bad_mark_reads { IsTrue D.tells → (heights : List ℕ) → IsListing kind.Mark (D.view disk.old).state.files heights → (height : ℕ) → IsErrOf result (OpenError.BadMark height)
+            → (D.view disk.new).bytes_read ≤ (D.view disk.old).bytes_read + marks_bytes (D.view disk.old).state.files heights }
         ensures cause { OpensByCause (D.faults disk.old) (D.faults disk.new) result }
     {
         let store = HeightStore::open(alloc, disk)?;
@@ -97,6 +112,16 @@ impl Manager {
         match at {
             HeightOrLive::Live => Some(&self.live),
             HeightOrLive::Height(height) => find_height(&self.memory, height),
+        }
+    }
+
+    // Keeps the tree of the state in memory that a line asks about.
+    fn keep_tree(&mut self, alloc: Global, at: HeightOrLive) -> Result<(), NoMemory>
+        ensures { self.new ≡ self.old }
+    {
+        match at {
+            HeightOrLive::Live => self.live.keep_tree(alloc),
+            HeightOrLive::Height(height) => keep_tree_at(alloc, &mut self.memory, height),
         }
     }
 
@@ -123,6 +148,7 @@ impl Manager {
         if height > MAX_HEIGHT {
             return Ok(Reply::Refused(Refusal::HeightLimit));
         }
+        self.live.keep_tree(alloc)?;
         let tree = self.live.tree_root(alloc)?;
         self.memory.push(self.live.copy(alloc)?)?;
         self.live.advance();
@@ -218,7 +244,7 @@ impl Manager {
         ensures { (m : Machine) → KeepsStates self.now m → Performs result self.now m (Command.Manifest at) }
     {
         if let Some(height) = self.published_at(at) {
-            return count_published(alloc, &self.store, height);
+            return Ok(count_published(&self.store, height));
         }
         match self.state_at(at) {
             Some(state) => state.count_manifest(alloc),
@@ -227,12 +253,14 @@ impl Manager {
     }
 
     // `tree HL`
-    fn tree(&self, alloc: Global, at: HeightOrLive) -> Result<Reply, NoMemory>
-        ensures { (m : Machine) → KeepsStates self.now m → Performs result self.now m (Command.Tree at) }
+    fn tree(&mut self, alloc: Global, at: HeightOrLive) -> Result<Reply, NoMemory>
+        ensures step { (m : Machine) → KeepsStates self.old m → Performs result self.new m (Command.Tree at) }
+        ensures same { self.new ≡ self.old }
     {
         if let Some(height) = self.published_at(at) {
             return tree_published(alloc, &self.store, height);
         }
+        self.keep_tree(alloc, at)?;
         match self.state_at(at) {
             Some(state) => Ok(Reply::Tree(state.tree_root(alloc)?)),
             None => Ok(Reply::Refused(Refusal::NoHeight)),
@@ -240,13 +268,20 @@ impl Manager {
     }
 
     // `witness HL PATH ..`
-    fn witness(&self, alloc: Global, at: HeightOrLive, paths: &[Path]) -> Result<Reply, NoMemory>
+    fn witness(
+        &mut self,
+        alloc: Global,
+        at: HeightOrLive,
+        paths: &[Path],
+    ) -> Result<Reply, NoMemory>
         requires { 1 ≤ length paths.now }
-        ensures { (m : Machine) → KeepsStates self.now m → Performs result self.now m (Command.Witness at paths.now) }
+        ensures step { (m : Machine) → KeepsStates self.old m → Performs result self.new m (Command.Witness at paths.now) }
+        ensures same { self.new ≡ self.old }
     {
         if let Some(height) = self.published_at(at) {
             return witness_published(alloc, &self.store, height, paths);
         }
+        self.keep_tree(alloc, at)?;
         match self.state_at(at) {
             Some(state) => Ok(Reply::Witness(state.witness(alloc, paths)?)),
             None => Ok(Reply::Refused(Refusal::NoHeight)),
@@ -270,7 +305,7 @@ impl Manager {
         if self.store.count() as usize >= MAX_PUBLISHED {
             return Ok(Reply::Refused(Refusal::ManyMarks));
         }
-        let root = state.publish(alloc, &mut self.store, disk)?;
+        let root = publish(alloc, state, &mut self.store, disk)?;
         Ok(Reply::Published { height, root })
     }
 
@@ -402,6 +437,8 @@ impl Manager {
         ensures line { DoesLine D.tells self.old self.new (D.view disk.old) (D.view disk.new) result command.now }
         ensures cause { StoreCause (D.faults disk.old) (D.faults disk.new) result }
     {
+        // Its contract says what the types of the command's fields hold.
+        command.types();
         if needs_disk(command) {
             return self.perform_on(alloc, command, disk);
         }
@@ -414,6 +451,8 @@ impl Manager {
     /// A crash at any moment leaves the published heights before the command or those after it; after Ok it leaves those after.
     /// Disk where the disk failed, Memory where memory ran out; the manager is closed from then on, and keeps which it was.
     /// Closed exactly where an earlier call answered one of them; the disk isn't called then.
+    ///
+    /// After Ok just the bytes were appended that the machine says of the command, and no more were read.
     pub fn apply<D: Disk>(
         &mut self,
         alloc: Global,
@@ -428,6 +467,8 @@ impl Manager {
         ensures images { IsTrue D.tells → (m : Machine) → Keeps self.old (D.view disk.old).state m
             → LeavesOnly (D.view disk.old) (D.view disk.new) (StandsForEither m.published (step m command.now).after.published) }
         ensures over { IsTrue D.tells → OnOk result (IsOver self.new.store (D.view disk.new).state.files) }
+        ensures spends { IsTrue D.tells → (m : Machine) → Keeps self.old (D.view disk.old).state m
+            → OnOk result (Spends (appends m command.now) (reads m command.now) (D.view disk.old) (D.view disk.new)) }
         ensures given { GivesFew self.old.store self.new.store }
         ensures closed { (result ≡ Err Stop.Closed) ↔ IsSome self.old.stopped }
         ensures silent { result ≡ Err Stop.Closed → (self.new ≡ self.old) × (disk.new ≡ disk.old) }

@@ -1,30 +1,32 @@
 //! Published heights, and the lines on them.
 
-ghost use Rattle.std.specs.Prelude.{◌≡◌, ◌≤◌, ◌<◌, ◌==◌, ◌+◌, nat_le, ℕ, List, [], ◌∷◌, Some, None, length, map, IsTrue, IfOk, is_some, true, false};
+ghost use Rattle.std.specs.Prelude.{◌≡◌, ◌≤◌, ◌<◌, ◌==◌, ◌+◌, ◌*◌, nat_le, List, Some, None, length, map, IsTrue, IfOk, is_some, true, false};
 ghost use Rattle.std.specs.List.{last_or, AllByRecursion, AllZip};
 ghost use Rattle.std.specs.Option.{option_map_or};
+ghost use Rattle.format_spec.specs.declared.limits.TheConstants.{PAGE_SIZE as page_size};
 ghost use Rattle.state_spec.specs.Root.{root_of};
-ghost use Rattle.store_spec.specs.Image.{Published};
+ghost use Rattle.store_spec.specs.Image.{Published, opened};
 ghost use Rattle.disk_model.specs.Looking.{OnlyLooks};
 ghost use Rattle.height_store.specs.Errors.{HasCause as StoreCause, NoBadFile};
 ghost use Rattle.height_store.specs.Kept.{IsReadable, ShowsHeight};
 ghost use Rattle.height_store.specs.Store.{StoredHeight, height_at, heights_in};
-ghost use Rattle.whole_state.specs.Whole.{KnowsHeight};
+ghost use Rattle.height_store.specs.Known.{KnowsHeight, bytes_at};
+ghost use Rattle.machine_spec.specs.Costs.{pages_holding, pages_told};
 ghost use Rattle.machine_spec.specs.HeightSteps.{counts_of, tree_root};
 ghost use Rattle.machine_spec.specs.LiveSteps.{read_reply};
-ghost use Rattle.machine_spec.specs.Machine.{opened, start};
+ghost use Rattle.machine_spec.specs.Machine.{start};
 ghost use Rattle.machine_spec.specs.WitnessSteps.{witness_text};
-ghost use Rattle.state_manager.specs.StateKept.{KeepsState, live_of};
+ghost use Rattle.state_manager.specs.Kept.{newest_bytes};
+ghost use Rattle.live_state.specs.StateKept.{KeepsState, live_of};
 
-use crate::height_state::{HeightState, count_manifest, memory_index, tree_root_of, witness_of};
 use byte_codec::NoMemory;
 use disk_model::Disk;
 use format_spec::PAGE_SIZE;
-use height_store::{HeightStore, StoreError};
+use height_store::{HeightStore, StoreError, read_bytes, read_memories};
+use live_state::{HeightState, manifest_counts, memory_index, tree_root_of, witness_of};
 use script_text::{Numbers, Refusal, Reply};
 use std::alloc::Global;
 use sys_state::{CanisterId, Mem, Path};
-use whole_state::{manifest_at, read_bytes, read_memories};
 
 /// Whether a height is published.
 pub fn is_published(store: &HeightStore, height: u64) -> bool
@@ -77,7 +79,7 @@ pub fn load<D: Disk>(
     ensures state { IsTrue D.tells → (h : StoredHeight) (p : Published) → height_at store.now.heights height ≡ Some h
         → ShowsHeight (D.view disk.old).state.files h p
         → IfOk result (λ state. KeepsState state (p.height + 1, opened p)) }
-    ensures looks { IsTrue D.tells → (most : ℕ) × OnlyLooks most (D.view disk.old) (D.view disk.new) }
+    ensures looks { IsTrue D.tells → OnlyLooks (bytes_at store.now.heights height) (D.view disk.old) (D.view disk.new) }
     ensures cause { StoreCause (D.faults disk.old) (D.faults disk.new) result }
     ensures no_bad_file { NoBadFile result }
 {
@@ -97,7 +99,7 @@ pub fn begin<D: Disk>(
     requires readable { IsTrue D.tells → IsReadable store.now.heights (D.view disk.old).state.files }
     ensures state { IsTrue D.tells → (ps : List Published) → AllZip (ShowsHeight (D.view disk.old).state.files) store.now.heights ps
         → IfOk result (λ state. KeepsState state (live_of (start ps))) }
-    ensures looks { IsTrue D.tells → (most : ℕ) × OnlyLooks most (D.view disk.old) (D.view disk.new) }
+    ensures looks { IsTrue D.tells → OnlyLooks (newest_bytes store.now.heights) (D.view disk.old) (D.view disk.new) }
     ensures cause { StoreCause (D.faults disk.old) (D.faults disk.new) result }
     ensures no_bad_file { NoBadFile result }
 {
@@ -123,7 +125,8 @@ pub fn read_published<D: Disk>(
     ensures reply { IsTrue D.tells → (h : StoredHeight) (p : Published) → height_at store.now.heights height ≡ Some h
         → ShowsHeight (D.view disk.old).state.files h p
         → IfOk result (λ reply. reply ≡ read_reply p.state id.now mem offset len) }
-    ensures looks { IsTrue D.tells → (most : ℕ) × OnlyLooks most (D.view disk.old) (D.view disk.new) }
+    ensures looks { IsTrue D.tells → OnlyLooks (page_size * pages_holding offset len) (D.view disk.old) (D.view disk.new) }
+    ensures told { IsTrue D.tells → IfOk result (λ reply. OnlyLooks (page_size * pages_told reply offset len) (D.view disk.old) (D.view disk.new)) }
     ensures cause { StoreCause (D.faults disk.old) (D.faults disk.new) result }
 {
     let Some(sys) = store.sys(height) else {
@@ -156,15 +159,15 @@ pub fn root_published(store: &HeightStore, height: u64) -> Reply
     Reply::Root(mark.root)
 }
 
-/// `manifest H` at a published height, by its mark.
-pub fn count_published(alloc: Global, store: &HeightStore, height: u64) -> Result<Reply, NoMemory>
+/// `manifest H` at a published height, by its mark. It hashes nothing.
+pub fn count_published(store: &HeightStore, height: u64) -> Reply
     requires { is_some (height_at store.now.heights height) ≡ true }
-    ensures { (h : StoredHeight) (p : Published) → height_at store.now.heights height ≡ Some h → KnowsHeight h p → IfOk result (λ reply. reply ≡ counts_of p.state) }
+    ensures { (h : StoredHeight) (p : Published) → height_at store.now.heights height ≡ Some h → KnowsHeight h p → result ≡ counts_of p.state }
 {
-    let Some(manifest) = manifest_at(alloc, store, height)? else {
+    let (Some(mark), Some(sys)) = (store.mark(height), store.sys(height)) else {
         unreachable!();
     };
-    count_manifest(alloc, &manifest)
+    manifest_counts(mark.system.bytes(), sys)
 }
 
 /// `tree H` at a published height.

@@ -6,12 +6,12 @@ use Rattle.std.specs.Ordering.{nat_cmp}
 use Rattle.std.proofs.lemmas.Bool.{cases_lt}
 use Rattle.std.proofs.lemmas.List.{length-replicate, drop-drop, drop_all, drop-take, take-take, take_all, get_or_past}
 use Rattle.std.proofs.lemmas.Grind.{div_ceil_times}
-use Rattle.format_spec.specs.Bytes.{Bytes, IsBytes}
+use Rattle.format_spec.specs.Bytes.{Bytes, IsBytes, page_at}
 use Rattle.format_spec.specs.declared.limits.TheConstants.{PAGE_SIZE}
 use Rattle.format_spec.proofs.ByteStrings.{by_test, one_byte, join_bytes, take_bytes, drop_bytes}
 use Rattle.format_spec.proofs.Parts.{parts_at}
 use Rattle.state_spec.specs.State.{Memory, IsMemory, HasPageRounds, pages_of}
-use Rattle.state_spec.specs.Memory.{page_at, read, grow, write, zeros, extended, overwritten, pages_for, pages_between, stamped}
+use Rattle.state_spec.specs.Memory.{read, grow, write, zeros, extended, overwritten, pages_for, pages_between, stamped}
 use Rattle.state_spec.proofs.Edits.{length_extended, extended_enough, extended_old, extended_new, slice_length, slice_old, slice_new, slice_before, slice_behind, slice_met, length_overwritten, byte_before, byte_written, byte_behind}
 use Rattle.state_spec.proofs.Rounds.{Rounds, stamped_find, stamped_sorted, stamped_within, pages_within}
 

@@ -1,5 +1,5 @@
 -- The pages that a write meets, and the rounds of pages.
-use Rattle.std.proofs.Common.{◌≡◌, ◌≢◌, ◌⊎◌, ℕ, zero, suc, ◌+◌, ◌-◌, ◌*◌, ◌/◌, ◌<◌, ◌≤◌, Bool, true, false, ◌||◌, cond, List, [], ◌∷◌, ◌++◌, Some, T, is_eq, Ordering, Less, Equal, Greater, refl, ap, ◌∙◌, inl, inr, arith, nat_lt, nat_eq, ne_eqb, eq-eqb}
+use Rattle.std.proofs.Common.{◌≡◌, ◌≢◌, ◌⊎◌, ℕ, zero, suc, ◌+◌, ◌-◌, ◌*◌, ◌/◌, ◌<◌, ◌≤◌, Bool, true, false, ◌||◌, cond, List, [], ◌∷◌, ◌++◌, Some, is_eq, Ordering, Less, Equal, Greater, refl, ap, ◌∙◌, inl, inr, arith, nat_lt, nat_eq, ne_eqb, eq-eqb}
 use Rattle.std.specs.List.{AllByRecursion, list_any, range_with_len}
 use Rattle.std.specs.FinMap.{find, put, is_sorted}
 use Rattle.std.specs.FinMap.Entries.{is_sorted-put, find-put, by_order}
@@ -9,6 +9,7 @@ use Rattle.std.proofs.lemmas.Cmp.{nat_cmp_total}
 use Rattle.std.proofs.lemmas.List.Sums.{fold-append}
 use Rattle.std.proofs.lemmas.Grind.{div_ceil_times}
 use Rattle.format_spec.specs.declared.limits.TheConstants.{PAGE_SIZE}
+use Rattle.format_spec.proofs.Lists.{from_T, to_T}
 use Rattle.state_spec.specs.Memory.{pages_for, pages_between, stamped}
 
 abbrev pub Rounds : Type 0
@@ -45,19 +46,11 @@ stamped_find round (p ∷ pages) rs q =
     joined false true = refl
     joined false false = refl
 
-truth : (b : Bool) → T b → b ≡ true
-truth true h = refl
-truth false h = absurd h
-
-of_truth : (b : Bool) → b ≡ true → T b
-of_truth true h = tt
-of_truth false h = absurd cc
-
 pub stamped_sorted : (round : ℕ) (pages : List ℕ) (rs : Rounds) → is_sorted nat_cmp rs ≡ true → is_sorted nat_cmp (stamped round pages rs) ≡ true
 stamped_sorted round [] rs h = h
 stamped_sorted round (p ∷ pages) rs h =
     stamped_sorted round pages (put nat_cmp p round rs)
-    (truth (is_sorted nat_cmp (put nat_cmp p round rs)) (is_sorted-put nat_cmp nat_cmp_total p round rs (of_truth (is_sorted nat_cmp rs) h)))
+    (from_T (is_sorted nat_cmp (put nat_cmp p round rs)) (is_sorted-put nat_cmp nat_cmp_total p round rs (to_T (is_sorted nat_cmp rs) h)))
 
 put_within : (n round page : ℕ) (rs : Rounds) → page < n → AllByRecursion (λ r. r.0 < n) rs → AllByRecursion (λ r. r.0 < n) (put nat_cmp page round rs)
 put_within n round page [] lt h = (lt, tt)

@@ -14,9 +14,10 @@ use Rattle.disk_model.specs.declared.name.Kind.TheVariants as kind
 use Rattle.disk_model.specs.declared.name.Name.TheVariants as name
 use Rattle.disk_model.specs.Files.{Files, IsListing}
 use Rattle.store_spec.specs.Mark.{Mark, MarkMemory, IsMarkText}
-use Rattle.store_spec.specs.PageFile.{IsPageFile}
-use Rattle.store_spec.specs.Image.{Published, Layer, IsLayerOf, AreLayersOf, memories_from, GivesHeight, GivesTrueHeight, heights_of, OpensAt, StandsFor, SamePublished}
-use Rattle.store_spec.proofs.PageFiles.{below_is, page_file_once}
+use Rattle.page_spec.specs.PageFile.{IsPageFile}
+use Rattle.store_spec.specs.Image.{Published, IsLayerOf, AreLayersOf, memories_from, GivesHeight, GivesTrueHeight, heights_of, OpensAt, StandsFor, SamePublished}
+use Rattle.page_spec.specs.Layers.{Layer}
+use Rattle.page_spec.proofs.PageFiles.{below_is, page_file_once}
 use Rattle.store_spec.proofs.Marks.{mark_once}
 
 -- ---- ascending numbers, by which numbers are among them

@@ -1,20 +1,17 @@
 -- The length of a mark by sizes and counts, and the bound on it.
 use Rattle.std.proofs.Common.{◌≡◌, ℕ, ◌+◌, ◌*◌, ◌≤◌, List, [], ◌∷◌, ◌++◌, length, map, sum_by, codes, refl, sym, ap, ◌∙◌, subst, arith, length-append}
-use Rattle.std.specs.List.{flat_map, AllByRecursion, AllZip}
+use Rattle.std.specs.List.{flat_map, AllZip}
 use Rattle.std.proofs.lemmas.List.{length-map}
 use Rattle.std.proofs.lemmas.List.Sums.{sum_by-cons}
 use Rattle.sha2.specs.Sha256.{sha256}
 use Rattle.sha2.proofs.Facts256.{length-sha256}
 use Rattle.format_spec.specs.Bytes.{Bytes, be32, be64, part_count, parts}
 use Rattle.format_spec.specs.Hashes.{chunk_hash, root_hash}
-use Rattle.format_spec.specs.declared.limits.TheConstants.{CHUNK_SIZE, CHUNK_PAGES, MAX_SYSTEM}
+use Rattle.format_spec.specs.declared.limits.TheConstants.{CHUNK_SIZE}
 use Rattle.format_spec.proofs.Cuts.{Are32}
 use Rattle.format_spec.proofs.Parts.{parts_length}
 use Rattle.state_spec.specs.State.{SystemPart, CanisterPart, all_pages}
-use Rattle.state_spec.specs.SystemText.{system_text}
 use Rattle.state_spec.specs.Files.{memories_in, heap_name, stable_name}
-use Rattle.state_spec.specs.Manifest.{chunk_hashes, file_sums, manifest_from}
-use Rattle.state_spec.specs.Root.{root_of_meta, meta_of}
 use Rattle.state_spec.proofs.SystemSizes.{system_size}
 use Rattle.store_spec.specs.declared.limits.TheConstants.{MAX_MARK}
 use Rattle.store_spec.specs.Mark.{Mark, MarkMemory, hashes_text, mark_memory_text, mark_body, mark_text, mark_length, memory_counts, FitsMemory, IsMark, IsMarkText}

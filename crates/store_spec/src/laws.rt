@@ -6,18 +6,9 @@ ghost use Rattle.format_spec.specs.Bytes.{Bytes};
 ghost use Rattle.state_spec.specs.State.{SystemPart};
 ghost use Rattle.disk_model.specs.Files.{Files};
 ghost use Rattle.store_spec.specs.declared.limits.TheConstants.{MAX_MARK};
-ghost use Rattle.store_spec.specs.PageFile.{PageIndex, IsIndex, index_length, file_length, index_text, IsPageFile};
+ghost use Rattle.page_spec.specs.PageFile.{PageIndex, IsIndex, index_length, file_length, index_text, IsPageFile};
 ghost use Rattle.store_spec.specs.Mark.{Mark, IsMark, IsMarkText, mark_text, mark_length, memory_counts};
 ghost use Rattle.store_spec.specs.Image.{Published, SamePublished, OpensAt, StandsFor};
-
-/// A text is at most one page file; and it is one where its front is an index and its length the one that the index
-/// says.
-pub fn page_files_one_way()
-    ensures once { (text : Bytes) (i j : PageIndex) (a b : Bytes) → IsPageFile text i a → IsPageFile text j b
-        → (i ≡ j) × (a ≡ b) }
-    ensures by_front { (text : Bytes) (i : PageIndex) → IsIndex i → take (index_length i) text ≡ index_text i
-        → length text ≡ file_length i → IsPageFile text i (drop (index_length i) text) }
-{}
 
 /// A text is at most one mark, of one height and of one state's parts.
 pub fn marks_one_way()

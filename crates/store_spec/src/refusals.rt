@@ -5,10 +5,12 @@ ghost use Rattle.format_spec.specs.Bytes.{Bytes};
 ghost use Rattle.state_spec.specs.State.{SystemPart};
 ghost use Rattle.disk_model.specs.declared.name.Name.TheVariants as name;
 ghost use Rattle.disk_model.specs.Files.{Files};
-ghost use Rattle.store_spec.specs.PageFile.{index_text};
+ghost use Rattle.page_spec.specs.PageFile.{index_text};
+ghost use Rattle.page_spec.specs.Example.{first_page};
 ghost use Rattle.store_spec.specs.Mark.{Mark, MarkMemory, FitsMemory, mark_text, IsMarkText};
-ghost use Rattle.store_spec.specs.Image.{Published, Layer, IsLayerOf, OpensAt};
-ghost use Rattle.store_spec.specs.Example.{one_mark, larger_index, first_page};
+ghost use Rattle.store_spec.specs.Image.{Published, IsLayerOf, OpensAt};
+ghost use Rattle.page_spec.specs.Layers.{Layer};
+ghost use Rattle.store_spec.specs.Example.{one_mark, larger_index};
 
 /// A memory has 32 layers at most, and none where it has no pages.
 pub fn layers_that_do_not_fit()

@@ -118,11 +118,6 @@ module _ (s : System) (kept : IsKept s) (id : Bytes) (i : ℕ) (at : Stands byte
 
   -- ---- a canister that goes
 
-  pub was_small : (x : Named) → x ≡ get_or s.canisters i x → (x.1.heap ≤ MAX_MEMORY_PAGES) × (x.1.stable ≤ MAX_MEMORY_PAGES)
-  was_small x read =
-      let value_is : at.value ≡ x.1 = sym (ap (λ (e : Named). e.1) (entry_there bytes_cmp ids_total id s.canisters sorted i at x read)) in
-      subst (λ (c : CanisterRecord). (c.heap ≤ MAX_MEMORY_PAGES) × (c.stable ≤ MAX_MEMORY_PAGES)) value_is (was_good.fits.heap, was_good.fits.stable)
-
   pub removes : (x : Named) → x ≡ get_or s.canisters i x → Removed s (record s { canisters = remove s.canisters i }) id (x.1.heap + x.1.stable)
   removes x read =
       let value_is : at.value ≡ x.1 = sym (ap (λ (e : Named). e.1) (entry_there bytes_cmp ids_total id s.canisters sorted i at x read)) in

@@ -5,7 +5,7 @@ use Rattle.state_spec.specs.SystemText.{path_fits}
 use Rattle.std.proofs.Common.{◌≡◌, ℕ, ◌+◌, ◌<◌, ◌≤◌, Bool, true, false, not, ◌&&◌, ◌||◌, List, [], ◌∷◌, ◌++◌, length, get_or, set, refl, sym, ap, subst, ◌∙◌, arith, length-set, length-append, None}
 use Rattle.std.specs.List.{AllByRecursion, insert, remove, list_any, list_all}
 use Rattle.std.specs.FinMap.{is_sorted}
-use Rattle.std.proofs.lemmas.Bool.{and_parts, and_from}
+use Rattle.std.proofs.lemmas.Bool.{and_parts, and_from, not-true}
 use Rattle.std.proofs.lemmas.List.Edits.{length-insert}
 use Rattle.std.proofs.lemmas.List.Folds.{list_any-append, list_all-append}
 use Rattle.format_spec.specs.Bytes.{Bytes, IsBytes, path_cmp, is_after, last_key}
@@ -71,10 +71,6 @@ any_false : (a b : Bool) → a || b ≡ false → (a ≡ false) × (b ≡ false)
 any_false true b h = absurd cc
 any_false false b h = (refl, h)
 
-not_is : (b : Bool) → not b ≡ true → b ≡ false
-not_is true h = absurd cc
-not_is false h = refl
-
 none_all : {X : Type 0} (p : X → Bool) (xs : List X) → list_any p xs ≡ false → list_all (λ x. not (p x)) xs ≡ true
 none_all p [] h = refl
 none_all p (x ∷ xs) h =
@@ -85,7 +81,7 @@ all_none : {X : Type 0} (p : X → Bool) (xs : List X) → list_all (λ x. not (
 all_none p [] h = refl
 all_none p (x ∷ xs) h =
     let t = and_parts (not (p x)) (list_all (λ y. not (p y)) xs) h in
-    λ i. not_is (p x) t.0 i || all_none p xs t.1 i
+    λ i. not-true (p x) t.0 i || all_none p xs t.1 i
 
 -- b begins f not
 abbrev free : Entry → Entry → Bool
@@ -116,7 +112,7 @@ module _ (path : List Bytes) where
   free_remove b v before after h =
       let t = and_parts (list_all (free b) before) (list_all (free b) ((path, v) ∷ after)) (sym (list_all-append (free b) before ((path, v) ∷ after)) ∙ h) in
       let u = and_parts (free b (path, v)) (list_all (free b) after) t.1 in
-      (list_all-append (free b) before after ∙ and_from (list_all (free b) before) (list_all (free b) after) t.0 u.1, not_is (is_prefix b.0 path) u.0)
+      (list_all-append (free b) before after ∙ and_from (list_all (free b) before) (list_all (free b) after) t.0 u.1, not-true (is_prefix b.0 path) u.0)
 
   apart_remove : (v : Bytes) (before after : List Entry) → are_apart (before ++ (path, v) ∷ after) ≡ true → are_apart (before ++ after) ≡ true
   apart_remove v [] after h = (and_parts (list_all (free (path, v)) after) (are_apart after) h).1

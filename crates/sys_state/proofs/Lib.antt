@@ -1,10 +1,10 @@
 pub mod Lists
 pub mod Places
-mod Keys
-mod Kept
+pub mod Keys
+pub mod Kept
 mod Canisters
 mod Text
 mod Paths
-mod Entries
+pub mod Entries
 mod Last
 mod Labels

@@ -2,16 +2,16 @@
 use Rattle.sys_state.specs.Places.{IsAbsent}
 use Rattle.sys_state.proofs.Lists.{all_parts}
 use Rattle.std.proofs.lemmas.List.Folds.{list_any-append}
-use Rattle.std.proofs.Common.{◌≡◌, ℕ, ◌<◌, ◌≤◌, Bool, true, false, not, ◌&&◌, ◌||◌, List, [], ◌∷◌, ◌++◌, length, take, refl, sym, ap, subst, ◌∙◌, arith, length-take, ◌+◌, get_or, drop, length-append}
+use Rattle.std.proofs.Common.{◌≡◌, ℕ, ◌<◌, ◌≤◌, Bool, true, false, not, ◌&&◌, ◌||◌, List, [], ◌∷◌, ◌++◌, length, take, refl, sym, ap, subst, ◌∙◌, arith, ◌+◌, get_or, drop, length-append}
 use Rattle.std.specs.List.{AllByRecursion, list_any, list_all}
-use Rattle.std.specs.Cmp.Lexicographic.{lists_ties, unequal}
+use Rattle.std.specs.Cmp.Lexicographic.{lists_ties}
 use Rattle.std.specs.Cmp.{tied_itself, tied_back}
 use Rattle.std.specs.FinMap.{is_sorted}
 use Rattle.std.specs.FinMap.Entries.{below_all}
 use Rattle.std.specs.Ordering.{is_eq, is_lt, ordering_then}
 use Rattle.std.specs.declared.cmp.Ordering.{Ordering}
 use Rattle.std.specs.declared.cmp.Ordering.TheVariants.{Less, Equal, Greater}
-use Rattle.std.proofs.lemmas.Bool.{and_parts, and_from}
+use Rattle.std.proofs.lemmas.Bool.{and_parts, and_from, not-true}
 use Rattle.std.proofs.lemmas.List.{take_at, drop_at, take_more, drop_more, take-append-drop}
 use Rattle.format_spec.specs.Bytes.{Bytes, bytes_cmp, same_bytes, path_cmp}
 use Rattle.state_spec.specs.State.{is_prefix, is_proper_prefix, has_conflict, are_apart}
@@ -22,9 +22,6 @@ use Rattle.sys_state.proofs.Places.{greater_from_less, above_from_sorted}
 
 pub prefix_by_cmp : (p q : List Bytes) → is_prefix p q ≡ is_eq (path_cmp p (take (length p) q))
 prefix_by_cmp p q = lists_ties bytes_cmp (λ x y. refl) p (take (length p) q)
-
-pub longer_is_no_prefix : (p q : List Bytes) → length q < length p → is_prefix p q ≡ false
-longer_is_no_prefix p q lt = unequal same_bytes p (take (length p) q) (λ e. omega (arith, e, length-take (length p) q))
 
 -- ---- between a path and its extensions there are only extensions
 
@@ -58,10 +55,6 @@ Entry = List Bytes × Bytes
 not_true : (b : Bool) → (b ≡ true → ⊥) → b ≡ false
 not_true true f = absurd (f refl)
 not_true false f = refl
-
-not_is : (b : Bool) → not b ≡ true → b ≡ false
-not_is true h = absurd cc
-not_is false h = refl
 
 clash : (b : Bool) → b ≡ false → b ≡ true → ⊥
 clash true h k = absurd cc
@@ -157,7 +150,7 @@ module _ (path : List Bytes) where
       let a = and_parts (list_all (λ f. not (is_prefix b.0 f.0)) (before ++ e ∷ [])) (are_apart (before ++ e ∷ [])) apart in
       let b_first : path_cmp b.0 e.0 ≡ Less = (all_parts (λ f. path_cmp b.0 f.0 ≡ Less) before (e ∷ []) (above_from_sorted path_cmp paths_total b.0 (before ++ e ∷ []) s.0)).1.0 in
       let e_first : path_cmp e.0 path ≡ Less = (all_parts (λ f. path_cmp f.0 path ≡ Less) before (e ∷ []) low.1).1.0 in
-      let no_prefix : is_prefix b.0 e.0 ≡ false = not_is (is_prefix b.0 e.0) (passes_last (λ f. not (is_prefix b.0 f.0)) before e a.0) in
+      let no_prefix : is_prefix b.0 e.0 ≡ false = not-true (is_prefix b.0 e.0) (passes_last (λ f. not (is_prefix b.0 f.0)) before e a.0) in
       let none : is_prefix b.0 path ≡ false = not_true (is_prefix b.0 path) (λ h. clash (is_prefix b.0 e.0) no_prefix (prefix_between b.0 e.0 path h b_first e_first)) in
       ap (λ t. t || list_any (begins_path path) (before ++ e ∷ [])) none ∙ only_last before e low.1 s.1 a.1
 

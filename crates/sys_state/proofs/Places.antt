@@ -8,12 +8,13 @@ use Rattle.std.specs.Cmp.{IsTotalOrder, tied_itself}
 use Rattle.std.specs.Ordering.{is_lt, is_eq, eq_by_cmp, ordering_reverse}
 use Rattle.std.specs.declared.cmp.Ordering.{Ordering}
 use Rattle.std.specs.declared.cmp.Ordering.TheVariants.{Less, Equal, Greater}
-use Rattle.std.proofs.lemmas.Bool.{and_parts, and_from}
+use Rattle.std.proofs.lemmas.Bool.{and_parts}
 use Rattle.std.proofs.lemmas.List.{take-append-drop, length-take-le, get_or_at, set_at, take_at, drop_at}
 use Rattle.std.proofs.lemmas.List.Sorted.{searchable_from_sorted}
 use Rattle.std.proofs.lemmas.List.Sums.{sum_by-append}
 use Rattle.std.proofs.Math.Seq.{split_at}
 use Rattle.format_spec.proofs.Ascending.{less_is}
+use Rattle.format_spec.proofs.Lists.{from_T}
 use Rattle.sys_state.specs.Places.{place_of, Replaces, Stands, IsAbsent, Places}
 use Rattle.state_spec.specs.State.{without}
 use Rattle.sys_state.proofs.Lists.{all_parts}
@@ -23,10 +24,6 @@ greater_from_less R o x y lt = o.antisymm y x ∙ ap ordering_reverse lt
 
 pub less_from_greater : {K : Type 0} (R : K → K → Ordering) → IsTotalOrder R → (x y : K) → R x y ≡ Greater → R y x ≡ Less
 less_from_greater R o x y gt = o.antisymm y x ∙ ap ordering_reverse gt
-
-from_T : (b : Bool) → T b → b ≡ true
-from_T true h = refl
-from_T false h = absurd h
 
 abbrev one_if : Bool → ℕ
 one_if b = cond b 1 0
@@ -45,10 +42,6 @@ module _ {K X : Type 0} (R : K → K → Ordering) (o : IsTotalOrder R) where
   above_from_sorted key (e ∷ es) h =
       let p = and_parts (is_lt (R key e.0)) (below_all R key es) h in
       (less_is (R key e.0) p.0, above_from_sorted key es p.1)
-
-  pub sorted_from_above : (key : K) (es : List (K × X)) → Above key es → below_all R key es ≡ true
-  sorted_from_above key [] h = refl
-  sorted_from_above key (e ∷ es) h = and_from (is_lt (R key e.0)) (below_all R key es) (ap is_lt h.0) (sorted_from_above key es h.1)
 
   -- an entry among those in order parts them
   pub parted : (before : List (K × X)) (e : K × X) (after : List (K × X)) → is_sorted R (before ++ e ∷ after) ≡ true → Below e.0 before × Above e.0 after

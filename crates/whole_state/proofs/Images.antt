@@ -4,10 +4,9 @@ use Rattle.std.specs.List.{range_with_len, flat_map, position, position_or_len}
 use Rattle.std.specs.Option.{option_map}
 use Rattle.std.proofs.lemmas.Bool.{cases_Bool, lt-ltb, le-ltb, eq-eqb, ne_eqb, eqb-true, cases_lt, cases_eq}
 use Rattle.std.proofs.lemmas.List.{drop-drop, take-append-drop, drop_all, nil_from_length}
-use Rattle.format_spec.specs.Bytes.{Bytes}
-use Rattle.state_spec.specs.Memory.{page_at}
-use Rattle.store_spec.specs.Image.{Layer, or_else, page_from, memory_from}
-use Rattle.machine_spec.specs.StoreSteps.{whole_layer}
+use Rattle.format_spec.specs.Bytes.{Bytes, page_at}
+use Rattle.page_spec.specs.Layers.{Layer, or_else, page_from, memory_from}
+use Rattle.store_spec.specs.Image.{whole_layer}
 use Rattle.page_file.specs.Files.{NumberedFile}
 use Rattle.whole_state.specs.Written.{whole_index, whole_stack}
 

@@ -1,5 +1,3 @@
-pub mod Ranges
-pub mod Places
 pub mod WholeFiles
 pub mod Giving
 pub mod Marked

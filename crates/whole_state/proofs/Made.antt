@@ -9,7 +9,8 @@ use Rattle.state_spec.specs.State.{State, Canister, CanisterPart, SystemPart, Is
 use Rattle.state_spec.specs.Files.{heap_name, stable_name, memories_in}
 use Rattle.state_spec.specs.Manifest.{chunk_hashes}
 use Rattle.store_spec.specs.Mark.{Mark, MarkMemory, IsMark}
-use Rattle.store_spec.specs.Image.{Layer, HasTrueSums, memory_from, memories_from}
+use Rattle.store_spec.specs.Image.{HasTrueSums, memories_from, whole_layer}
+use Rattle.page_spec.specs.Layers.{Layer, memory_from}
 use Rattle.sys_state.specs.declared.record.CanisterRecord.{CanisterRecord}
 use Rattle.sys_state.specs.System.{System, part_of, kept_of, record_of, part_of_record}
 use Rattle.manifest.specs.Fits.{FitMemories}
@@ -17,7 +18,6 @@ use Rattle.disk_model.specs.declared.name.Name.TheVariants as name
 use Rattle.disk_model.specs.State.{DiskState}
 use Rattle.page_file.specs.Files.{NumberedFile, IsKept}
 use Rattle.layer_stack.specs.Stacks.{AreLayers}
-use Rattle.machine_spec.specs.StoreSteps.{whole_layer}
 use Rattle.height_store.specs.Store.{FitsMark, FitsPages, numbers_of}
 use Rattle.height_store.specs.Kept.{IsMadeOf, HasFirmPages}
 use Rattle.whole_state.specs.Whole.{HasParts, whole}

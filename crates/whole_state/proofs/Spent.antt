@@ -1,9 +1,8 @@
 -- How many bytes are appended and read.
-use Rattle.std.proofs.Common.{◌≡◌, ◌⊎◌, ℕ, ◌+◌, ◌*◌, ◌/◌, ◌<◌, ◌≤◌, ◌==◌, if◌then◌else◌, true, false, List, [], ◌∷◌, length, map, sum_by, take, get_or, Option, Some, None, inl, inr, refl, sym, ap, subst, ◌∙◌, arith}
+use Rattle.std.proofs.Common.{◌≡◌, ℕ, ◌+◌, ◌*◌, ◌<◌, ◌==◌, if◌then◌else◌, true, false, List, [], ◌∷◌, length, map, sum_by, take, get_or, Option, Some, None, inl, inr, refl, sym, ap, subst, ◌∙◌, arith}
 use Rattle.std.specs.List.{AllByRecursion, AllZip}
 use Rattle.std.specs.Option.{option_map, option_map_or}
 use Rattle.std.proofs.lemmas.Bool.{cases_Bool, eqb-true, eq-eqb, ne_eqb, false≢true}
-use Rattle.std.proofs.lemmas.List.{length-map}
 use Rattle.std.proofs.lemmas.List.Sums.{sum_by-cons, sum_by_more, sum_by-take-le}
 use Rattle.format_spec.specs.Bytes.{Bytes, part_count}
 use Rattle.format_spec.specs.declared.limits.TheConstants.{PAGE_SIZE, CHUNK_SIZE}
@@ -20,7 +19,7 @@ use Rattle.disk_model.specs.Looking.{OnlyLooks, looks_then, looks_more}
 use Rattle.page_file.specs.Files.{NumberedFile}
 use Rattle.height_store.specs.Store.{StoredHeight, height_at, numbers_of}
 use Rattle.store_spec.specs.Whole.{file_bytes, whole_counts, whole_length}
-use Rattle.whole_state.specs.Whole.{bytes_at, pages_holding}
+use Rattle.height_store.specs.Known.{bytes_at, pages_holding}
 use Rattle.whole_state.specs.Written.{IsMemoryBytes, IsWholeStack, whole_stack, pages_in}
 use Rattle.whole_state.proofs.Marked.{length-chunk_hashes}
 
@@ -64,37 +63,3 @@ whole_spent m s memories stacks good layers sums fit whole =
     let chunks : length m.system_sums ≡ part_count CHUNK_SIZE (length (system_text s)) = ap length good.system_sums ∙ length-chunk_hashes m.system ∙ ap (part_count CHUNK_SIZE) text in
     let counts = all_memories m.memories memories stacks layers sums fit whole in
     ap (λ (n : ℕ). sum_by file_bytes memories + n) (mark_long m s good ∙ (λ i. mark_length (text i) (counts i) (chunks i)))
-
--- ---- reading
-
--- all pages hold a byte of a whole memory
-pub all_held : (most pages len : ℕ) → most ≡ pages → len ≡ most * PAGE_SIZE → PAGE_SIZE * pages_holding 0 len ≡ pages * PAGE_SIZE
-all_held most pages len is long = elim (cases_Bool (len == 0)) [
-  | inl none ↦ rw none (omega (arith, eqb-true len 0 none, is, long))
-  | inr some ↦ rw some (omega (arith, is, long))
-]
-
-abbrev sizes : ℕ → ℕ
-sizes count = count * PAGE_SIZE
-
--- one memory more
-pub reads_next : (pages : List ℕ) (i count : ℕ) (old mid new : DiskView) → i < length pages → count ≡ get_or pages i count → OnlyLooks (sum_by sizes (take i pages)) old mid → OnlyLooks (count * PAGE_SIZE) mid new
-    → OnlyLooks (sum_by sizes (take (i + 1) pages)) old new
-reads_next pages i count old mid new lt here first second =
-    let e : sum_by sizes (take i pages) + count * PAGE_SIZE ≡ sum_by sizes (take (i + 1) pages) = ap (λ (n : ℕ). sum_by sizes (take i pages) + n * PAGE_SIZE) here ∙ sym (sum_by_more sizes pages i count lt) in
-    subst (λ (n : ℕ). OnlyLooks n old new) e (looks_then (sum_by sizes (take i pages)) (count * PAGE_SIZE) old mid new first second)
-
-all_sizes : (ms : List (Bytes × ℕ)) → sum_by sizes (map (λ m. m.1) ms) ≡ sum_by (λ (m : Bytes × ℕ). m.1 * PAGE_SIZE) ms
-all_sizes [] = refl
-all_sizes (m ∷ ms) = omega (arith, all_sizes ms, sum_by-cons sizes m.1 (map (λ (x : Bytes × ℕ). x.1) ms), sum_by-cons (λ (x : Bytes × ℕ). x.1 * PAGE_SIZE) m ms)
-
-bytes_of : (o : Option StoredHeight) (system : System) → Some system ≡ option_map (λ h. h.system) o → option_map_or (λ h. sum_by (λ (m : Bytes × ℕ). m.1 * PAGE_SIZE) (memories_in (part_of h.system))) o 0 ≡ sum_by (λ (m : Bytes × ℕ). m.1 * PAGE_SIZE) (memories_in (part_of system))
-bytes_of None system is = absurd cc
-bytes_of (Some h) system is = let same : system ≡ h.system = cc is in ap (λ (x : System). sum_by (λ (m : Bytes × ℕ). m.1 * PAGE_SIZE) (memories_in (part_of x))) (sym same)
-
--- the first memories have no more bytes than all
-pub reads_within : (hs : List StoredHeight) (height : ℕ) (system : System) (pages : List ℕ) → Some system ≡ option_map (λ h. h.system) (height_at hs height) → pages ≡ map (λ m. m.1) (memories_in (part_of system)) → (i : ℕ) (old new : DiskView)
-    → OnlyLooks (sum_by sizes (take i pages)) old new → OnlyLooks (bytes_at hs height) old new
-reads_within hs height system pages is are i old new looks =
-    let all : sum_by sizes pages ≡ bytes_at hs height = ap (sum_by sizes) are ∙ all_sizes (memories_in (part_of system)) ∙ sym (bytes_of (height_at hs height) system is) in
-    looks_more _ (bytes_at hs height) old new (omega (arith, sum_by-take-le sizes pages i, all)) looks

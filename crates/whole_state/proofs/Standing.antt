@@ -1,5 +1,5 @@
 -- Heights that are kept as page files of given numbers are written.
-use Rattle.std.proofs.Common.{◌≡◌, ℕ, ◌+◌, ◌≤◌, true, false, ◌||◌, nat_eq, List, [], ◌∷◌, length, map, arith, inl, inr, refl, sym, ap, subst, ◌∙◌}
+use Rattle.std.proofs.Common.{◌≡◌, ℕ, ◌≤◌, true, false, ◌||◌, nat_eq, List, [], ◌∷◌, length, map, arith, inl, inr, refl, sym, ap, subst, ◌∙◌}
 use Rattle.std.specs.List.{list_any, AllByRecursion, AllZip}
 use Rattle.std.proofs.lemmas.Bool.{cases_Bool, false≢true, eqb-true}
 use Rattle.std.proofs.lemmas.List.{length-map}

@@ -7,10 +7,8 @@ use Rattle.format_spec.specs.declared.limits.TheConstants.{PAGE_SIZE}
 use Rattle.state_spec.specs.State.{State, system_of, memory_bytes}
 use Rattle.state_spec.specs.Files.{memories_in}
 use Rattle.state_spec.specs.Memory.{pages_for}
-use Rattle.store_spec.specs.Image.{Published, HasTrueSums}
+use Rattle.store_spec.specs.Image.{Published, HasTrueSums, whole_layers, opened}
 use Rattle.sys_state.specs.System.{System, part_of, kept_of}
-use Rattle.machine_spec.specs.StoreSteps.{whole_layers}
-use Rattle.machine_spec.specs.Machine.{opened}
 use Rattle.state_spec.specs.Root.{root_of}
 use Rattle.height_store.specs.Store.{StoredHeight, IsHeight, height_at}
 
@@ -23,37 +21,3 @@ pub record HasParts (s : State) (system : System) (memories : List Bytes) : Type
 -- the published height of a state whose memories were written whole
 abbrev pub whole : ℕ → State → Published
 whole height s = record { height = height; state = s; layers = whole_layers s }
-
--- What is known of a published height without its disk: the live state that a store which opens at it has, but for the
--- bytes of its memories, and the hashes of their chunks.
-pub record KnowsHeight (h : StoredHeight) (p : Published) : Type 0 where
-  pub good : IsHeight h
-  pub height : h.mark.height ≡ p.height
-  pub version : p.state.version ≡ 1
-  pub parts : system_of p.state ≡ part_of h.system
-  pub system : kept_of (opened p) ≡ h.system
-  pub bytes : memory_bytes (opened p) ≡ memory_bytes p.state
-  pub sizes : map (λ bytes. length bytes) (memory_bytes p.state) ≡ map (λ m. m.1 * PAGE_SIZE) (memories_in (part_of h.system))
-  pub sums : AllZip HasTrueSums h.mark.memories (memory_bytes p.state)
-  pub root : h.mark.root ≡ root_of p.state
-  pub same_root : root_of (opened p) ≡ root_of p.state
-
--- the bytes of the memory at a place of a state, in the order of files
-abbrev pub IsMemoryAt : State → ℕ → Bytes → Type 0
-IsMemoryAt s file bytes = slice_get (memory_bytes s) file ≡ Some bytes
-
--- how many bytes the memories of a height have, and none where it is not published
-abbrev pub bytes_at : List StoredHeight → ℕ → ℕ
-bytes_at hs height = option_map_or (λ h. sum_by (λ m. m.1 * PAGE_SIZE) (memories_in (part_of h.system))) (height_at hs height) 0
-
--- how many pages hold a byte of so many, from an offset on
-abbrev pub pages_holding : ℕ → ℕ → ℕ
-pages_holding offset len = if len == 0 then 0 else pages_for (offset + len) - offset / PAGE_SIZE
-
--- the first of them, and the one behind the last
-pub record AreTheirPages (offset len first behind : ℕ) : Type 0 where
-  pub begins : first * PAGE_SIZE ≤ offset
-  pub soon : offset < first * PAGE_SIZE + PAGE_SIZE
-  pub ends : behind * PAGE_SIZE < offset + len + PAGE_SIZE
-  pub covers : len ≤ behind * PAGE_SIZE - offset
-  pub count : behind ≡ first + pages_holding offset len

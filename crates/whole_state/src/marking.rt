@@ -17,7 +17,8 @@ ghost use Rattle.whole_state.specs.Written.{IsWholeStack};
 
 use byte_codec::{Blob, NoMemory};
 use format_spec::{CHUNK_SIZE, VERSION};
-use hash_domain::{Hash32, chunk_hash};
+use hash_domain::Hash32;
+use hash_lanes::chunk_hashes;
 use layer_stack::Stack;
 use manifest::Manifest;
 use mark_file::{Mark, MarkMem};
@@ -71,17 +72,6 @@ fn all_sums(alloc: Global, memories: &[Vec<u8>]) -> Result<Vec<Vec<Hash32>>, NoM
         sums.push(chunk_hashes(alloc, memory)?)?;
     }
     Ok(sums)
-}
-
-// The hashes of the chunks of these bytes, each hashed by one call over all of it.
-fn chunk_hashes(alloc: Global, bytes: &[u8]) -> Result<Vec<Hash32>, NoMemory>
-    ensures { IfOk result (λ hashes. hashes.items ≡ hashes_of_chunks bytes.now) }
-{
-    let mut hashes = Vec::with_capacity(alloc, bytes.len().div_ceil(CHUNK_SIZE))?;
-    for chunk in bytes.chunks(CHUNK_SIZE) {
-        hashes.push(chunk_hash(chunk))?;
-    }
-    Ok(hashes)
 }
 
 // The hashes of the chunks of the last file, which has so many bytes.

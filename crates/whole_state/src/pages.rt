@@ -2,7 +2,8 @@
 
 ghost use Rattle.std.specs.Prelude.{◌≡◌, ◌≤◌, ◌+◌, ◌*◌, [], length, IsTrue, OnOk, IfOk};
 ghost use Rattle.format_spec.specs.Bytes.{Bytes};
-ghost use Rattle.format_spec.specs.declared.limits.TheConstants.{PAGE_SIZE as page_size, MAX_MEMORY_PAGES};
+ghost use Rattle.format_spec.specs.declared.limits.TheConstants.{PAGE_SIZE as page_size, MAX_MEMORY_PAGES, INDEX_HEAD, INDEX_RANGE};
+ghost use Rattle.page_spec.specs.PageFile.{index_length};
 ghost use Rattle.disk_model.specs.declared.name.Name.TheVariants.{Page};
 ghost use Rattle.disk_model.specs.Files.{same_name};
 ghost use Rattle.disk_model.specs.State.{IsAbsent, IsLoose, IsSettled};
@@ -32,7 +33,7 @@ pub(crate) fn write_whole<D: Disk>(
 
     ensures file { IfOk result (λ file. file ≡ whole_file number (pages_in memory.now)) }
     ensures finished { IsTrue D.tells → IfOk result (λ file. IsFinished file memory.now (D.view disk.new).state) }
-    ensures spends { IsTrue D.tells → OnOk result (Spends (32 + 12 + length memory.now) 0 (D.view disk.old) (D.view disk.new)) }
+    ensures spends { IsTrue D.tells → OnOk result (Spends (INDEX_HEAD + INDEX_RANGE + length memory.now) 0 (D.view disk.old) (D.view disk.new)) }
     ensures touches { IsTrue D.tells → TouchesOnly (same_name (Page number)) (D.view disk.old) (D.view disk.new) }
     ensures settled { IsTrue D.tells → OnOk result (IsSettled (D.view disk.old).state → IsSettled (D.view disk.new).state) }
     ensures cause { HasCause (D.faults disk.old) (D.faults disk.new) result }
@@ -57,13 +58,14 @@ fn all_pages(alloc: Global, pages: u32) -> Result<FileIndex, NoMemory>
     FileIndex::build(alloc, &numbers, pages)
 }
 
-// Adds all pages of a memory.
+// Adds all pages of a memory, which has one at least.
 fn add_pages<D: Disk>(
     alloc: Global,
     disk: &mut D,
     writer: &mut PageWriter,
     memory: &[u8],
 ) -> Result<(), PageError>
+    requires some { 1 ≤ length memory.now }
     requires room { length memory.now ≡ page_size * length writer.old.index.numbers }
     requires none { writer.old.added ≡ 0 }
     requires loose { IsTrue D.tells → IsLoose (D.view disk.old).state (Page writer.old.number) }
@@ -71,7 +73,7 @@ fn add_pages<D: Disk>(
     ensures writer { OnOk result (writer.new ≡ record writer.old { added = length writer.old.index.numbers }) }
     ensures added { IsTrue D.tells → OnOk result (IsWriting writer.old [] (D.view disk.old).state → IsWriting writer.new memory.now (D.view disk.new).state) }
     ensures there { IsTrue D.tells → OnOk result (IsLoose (D.view disk.new).state (Page writer.old.number)) }
-    ensures spends { IsTrue D.tells → OnOk result (Spends (length memory.now) 0 (D.view disk.old) (D.view disk.new)) }
+    ensures spends { IsTrue D.tells → OnOk result (Spends (index_length writer.old.index + length memory.now) 0 (D.view disk.old) (D.view disk.new)) }
     ensures touches { IsTrue D.tells → TouchesOnly (same_name (Page writer.old.number)) (D.view disk.old) (D.view disk.new) }
     ensures settled { IsTrue D.tells → OnOk result (IsSettled (D.view disk.old).state → IsSettled (D.view disk.new).state) }
     ensures cause { HasCause (D.faults disk.old) (D.faults disk.new) result }

@@ -21,9 +21,9 @@ pub returns-in_err-file-clause-bad : goal.returns-in_err-file-clause-bad
 returns-in_err-file-clause-bad g c = λ told n is.
     let p = err_from_is_err_and c.from_residual.result c.from_residual.ensures.1 in
     not_there (g.D.Disk.view c.args.disk.now).state.files c.args.number c.args.pages
-    (c.in_err-file.ensures.bad told n (page_handed_on PageFile c.from_residual.result p.0 c.in_err-file.field-0.0 n p.1 p.2 is))
+    ((c.in_err-file.ensures.opens told).bad n (page_handed_on PageFile c.from_residual.result p.0 c.in_err-file.field-0.0 n p.1 p.2 is))
 
 pub returns-in_err-check_fits-clause-bad : goal.returns-in_err-check_fits-clause-bad
 returns-in_err-check_fits-clause-bad g c = λ told n is.
     too_many (g.D.Disk.view c.args.disk.now).state.files c.args.number c.args.pages c.in_ok-file.file c.in_ok-file.ensures.number
-    (c.in_ok-file.ensures.opened told) c.in_err-check_fits.ensures.bad.1
+    (c.in_ok-file.ensures.opens told).opened c.in_err-check_fits.ensures.bad.1

@@ -1,9 +1,9 @@
 use Rattle.std.proofs.Common.{◌≡◌, ◌∙◌, ap, map, sym, subst, arith}
 use Rattle.sys_state.specs.System.{System}
-use Rattle.whole_state.specs.Laws.{shown_known}
+use Rattle.height_store.specs.KnownLaws.{shown_known}
 use Rattle.height_store.specs.Store.{StoredHeight}
-use Rattle.state_manager.specs.Sizes.{HaveSizes}
-use Rattle.state_manager.specs.StateKept.{HeldState}
+use Rattle.live_state.specs.Sizes.{HaveSizes}
+use Rattle.live_state.specs.StateKept.{HeldState}
 use Rattle.state_manager.proofs.AtHeights.{have_sizes, height_found, loaded_kept, system_found}
 use Rattle.state_manager.proofs.stored.load.Goals as goal
 

@@ -6,7 +6,7 @@ use Rattle.state_spec.specs.Files.{memories_in}
 use Rattle.sys_state.specs.Calls as calls
 use Rattle.sys_state.specs.System.{System, part_of}
 use Rattle.height_store.specs.Store.{StoredHeight}
-use Rattle.whole_state.specs.Laws.{shown_known}
+use Rattle.height_store.specs.KnownLaws.{shown_known}
 use Rattle.state_manager.proofs.AtHeights.{system_found}
 use Rattle.state_manager.proofs.ReadHeights.{file_there, index_fits, pages_are, past, reads_no_canister, these}
 use Rattle.state_manager.proofs.stored.read_published.Goals as goal

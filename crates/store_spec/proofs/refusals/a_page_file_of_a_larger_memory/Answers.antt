@@ -1,9 +1,10 @@
 use Rattle.std.proofs.Common.{◌≡◌, ◌++◌, Some, refl, ap, sym, ◌∙◌, subst, lit<, lit≤, arith}
 use Rattle.format_spec.specs.Bytes.{Bytes}
 use Rattle.store_spec.specs.Computing.{stores_compute}
-use Rattle.store_spec.specs.PageFile.{PageIndex, index_text, IsPageFile}
-use Rattle.store_spec.specs.Example.{larger_index, first_page}
-use Rattle.store_spec.proofs.PageFiles.{page_file_once}
+use Rattle.page_spec.specs.Example.{first_page}
+use Rattle.page_spec.specs.PageFile.{PageIndex, index_text, IsPageFile}
+use Rattle.store_spec.specs.Example.{larger_index}
+use Rattle.page_spec.proofs.PageFiles.{page_file_once}
 use Rattle.store_spec.proofs.refusals.a_page_file_of_a_larger_memory.Goals as goal
 
 larger : IsPageFile (index_text larger_index ++ first_page) larger_index first_page

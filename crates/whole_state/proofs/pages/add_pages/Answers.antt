@@ -1,4 +1,5 @@
 use Rattle.std.proofs.Common.{◌*◌, arith}
+use Rattle.page_file.specs.Files.{length_added}
 use Rattle.whole_state.proofs.WholeFiles.{adds_more, adds_then, adds_spent, appends_only, one_page, added_one}
 use Rattle.whole_state.proofs.pages.add_pages.Goals as goal
 
@@ -13,9 +14,9 @@ loop-place-preserved g c = record {
   so_far = λ told.
       adds_more c.args.memory.now c.copy_from_slice.new.self c.loop-place.place c.args.writer.now c.loop-place.writer c.add.new.self _ _ _ c.loop-place.invariant.writer
       (one_page c.args.memory.now c.copy_from_slice.new.self (c.loop-place.place * 4096) c.copy_from_slice.ensures.after)
-      (c.in_ok-add.ensures.there told) (c.in_ok-add.ensures.added told) (c.add.ensures.touches told) (c.in_ok-add.ensures.settled told) (appends_only 4096 _ _ (c.in_ok-add.ensures.appended told) (c.add.ensures.read told)) (c.loop-place.invariant.so_far told);
+      (c.in_ok-add.ensures.there told) (c.in_ok-add.ensures.added told) (c.add.ensures.touches told) (c.in_ok-add.ensures.settled told) (appends_only (length_added c.loop-place.writer) _ _ (c.in_ok-add.ensures.appended told) (c.add.ensures.read told)) (c.loop-place.invariant.so_far told);
 }
 
 pub returns-clause-spends : goal.returns-clause-spends
 returns-clause-spends g c = λ told.
-    adds_spent c.args.memory.now c.loop-place.place c.args.writer.now c.loop-place.writer _ _ (omega (arith, c.loop-place-test.false, c.loop-place.auto.place-end, c.requires.room)) (c.loop-place.invariant.so_far told)
+    adds_spent c.args.memory.now c.loop-place.place c.args.writer.now c.loop-place.writer _ _ c.requires.some (omega (arith, c.loop-place-test.false, c.loop-place.auto.place-end, c.requires.room)) (c.loop-place.invariant.so_far told)

@@ -1,6 +1,6 @@
 use Rattle.std.proofs.Common.{◌≡◌, sym, subst, ℕ, List, arith, ◌∙◌, ap}
 use Rattle.std.specs.List.{range_with_len}
-use Rattle.store_spec.specs.PageFile.{IsIndex}
+use Rattle.page_spec.specs.PageFile.{IsIndex}
 use Rattle.whole_state.proofs.WholeFiles.{page_pushed, whole_is_index}
 use Rattle.whole_state.proofs.pages.all_pages.Goals as goal
 

@@ -26,6 +26,6 @@ returns-clause-touches g c = λ told.
 pub returns-clause-spends : goal.returns-clause-spends
 returns-clause-spends g c = λ told.
     IfOk-weaker c.finish.result _ _
-    (λ file sealed. file_spent c.args.memory.now c.in_ok-index.index _ _ _ _ c.requires.some c.requires.memory.whole c.in_ok-index.ensures
-    (appends_only _ _ _ (c.in_ok-writer.ensures.appended told) (c.begin.ensures.read told)) (c.in_ok-add_pages.ensures.spends told) (appends_only 0 _ _ (sealed ∙ sym (add-zero _)) (c.finish.ensures.read told)))
+    (λ file sealed. file_spent c.args.memory.now c.args.number c.in_ok-index.index c.in_ok-writer.writer _ _ _ _ c.requires.some c.requires.memory.whole c.in_ok-index.ensures c.in_ok-writer.ensures.writer
+    (appends_only 0 _ _ (c.in_ok-writer.ensures.appended told ∙ sym (add-zero _)) (c.begin.ensures.read told)) (c.in_ok-add_pages.ensures.spends told) (appends_only 0 _ _ (sealed ∙ sym (add-zero _)) (c.finish.ensures.read told)))
     (c.finish.ensures.appended told)

@@ -1,4 +1,4 @@
-use Rattle.std.proofs.Common.{length, sum_by, refl, ◌∙◌, ◌+◌, ◌<◌, ◌≤◌, ℕ, map, ap, sym, subst, arith, inl, Vec, Global}
+use Rattle.std.proofs.Common.{length, sum_by, refl, ◌∙◌, ◌<◌, ℕ, map, ap, sym, subst, arith, inl, Vec, Global}
 use Rattle.std.proofs.lemmas.List.{length-map}
 use Rattle.std.specs.List.{AllByRecursion}
 use Rattle.format_spec.specs.Bytes.{Bytes}

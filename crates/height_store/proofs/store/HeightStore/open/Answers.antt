@@ -1,7 +1,9 @@
 use Rattle.std.proofs.Common.{ap, subst, ◌∙◌}
+use Rattle.std.specs.List.Sorted.{IsStrictlyIncreasing}
 use Rattle.std.proofs.lemmas.Result.{err_from_is_err_and}
 use Rattle.height_store.specs.declared.error.StoreError.TheVariants.{BadMark}
 use Rattle.height_store.specs.declared.store.HeightStore.{HeightStore}
+use Rattle.height_store.specs.Kept.{IsReadable}
 use Rattle.height_store.proofs.MarksRead.{handed_on}
 use Rattle.store_spec.specs.Image.{Opens}
 use Rattle.disk_model.specs.State.{DiskState}
@@ -62,6 +64,15 @@ returns-clause-pages g c = λ told.
     (touches_named _ _ _ _ c.named.ensures.named (c.sweep_strays.ensures.touches told))
     (gone_named _ _ (g.D.Disk.view c.sweep_strays.new.disk).state.files c.named.ensures.named (c.in_ok-sweep_strays.ensures.gone told))
     c.in_ok-store.ensures.named
+
+pub returns-clause-found : goal.returns-clause-found
+returns-clause-found g c = λ told.
+    let same = ap (λ (s : DiskState). s.files) ((c.list_all.ensures.looks told).state ∙ (c.in_ok-settle.ensures.does told).state) in
+    let found = c.in_ok-store.ensures.found told in
+    subst (IsReadable c.in_ok-store.store.heights) same (record { listed = found.listed; marks = found.marks; stacks = found.stacks (g.D.Disk.view c.list_all.new.disk).state.files found.kept })
+
+pub returns-clause-named_ascends : goal.returns-clause-named_ascends
+returns-clause-named_ascends g c = subst IsStrictlyIncreasing c.named.ensures.named c.named.ensures.ascends
 
 pub returns-clause-opens : goal.returns-clause-opens
 returns-clause-opens g c = λ told.

@@ -34,8 +34,8 @@ returns-in_err-write_mark-clause-images g c = λ told ps s p settled keeps made 
     let may = may_publish c.args.self.now.heights ps v0.state c.args.mark s c.args.stacks.items h p c.in_ok-published.ensures.mark c.in_ok-published.ensures.stacks c.in_ok-published.ensures.good
     (g.met.D.Disk.reads_as_image c.args.disk.now told) c.requires.above c.requires.few keeps made pages in
     images_push c.args.self.now.heights ps v0 (g.D.Disk.view c.write_mark.new.disk) h p may
-    (at_mark (λ n text. LeavesOnly v0 (g.D.Disk.view c.write_mark.new.disk) (IsBeforeOrAfter v0.state n text)) c.mark.inside.height c.bytes.result.now c.args.mark h
-    (ap (λ (m : Mark). m.height) c.mark.view_is) (c.bytes.ensures.value ∙ c.in_ok-text.ensures) c.in_ok-published.ensures.mark (c.write_mark.ensures.images told settled))
+    (at_mark (λ n text. LeavesOnly v0 (g.D.Disk.view c.write_mark.new.disk) (IsBeforeOrAfter v0.state n text)) c.mark.inside.height c.bytes-2.result.now c.args.mark h
+    (ap (λ (m : Mark). m.height) c.mark.view_is) (c.bytes-2.ensures.value ∙ c.in_ok-text.ensures) c.in_ok-published.ensures.mark (c.write_mark.ensures.images told settled))
 
 pub returns-clause-images : goal.returns-clause-images
 returns-clause-images g c = λ told ps s p settled keeps made pages.
@@ -44,8 +44,8 @@ returns-clause-images g c = λ told ps s p settled keeps made pages.
     let may = may_publish c.args.self.now.heights ps v0.state c.args.mark s c.args.stacks.items h p c.in_ok-published.ensures.mark c.in_ok-published.ensures.stacks c.in_ok-published.ensures.good
     (g.met.D.Disk.reads_as_image c.args.disk.now told) c.requires.above c.requires.few keeps made pages in
     images_push c.args.self.now.heights ps v0 (g.D.Disk.view c.write_mark.new.disk) h p may
-    (at_mark (λ n text. LeavesOnly v0 (g.D.Disk.view c.write_mark.new.disk) (IsBeforeOrAfter v0.state n text)) c.mark.inside.height c.bytes.result.now c.args.mark h
-    (ap (λ (m : Mark). m.height) c.mark.view_is) (c.bytes.ensures.value ∙ c.in_ok-text.ensures) c.in_ok-published.ensures.mark (c.write_mark.ensures.images told settled))
+    (at_mark (λ n text. LeavesOnly v0 (g.D.Disk.view c.write_mark.new.disk) (IsBeforeOrAfter v0.state n text)) c.mark.inside.height c.bytes-2.result.now c.args.mark h
+    (ap (λ (m : Mark). m.height) c.mark.view_is) (c.bytes-2.ensures.value ∙ c.in_ok-text.ensures) c.in_ok-published.ensures.mark (c.write_mark.ensures.images told settled))
 
 pub returns-clause-stands : goal.returns-clause-stands
 returns-clause-stands g c = λ told ps s p settled keeps made pages.
@@ -54,10 +54,10 @@ returns-clause-stands g c = λ told ps s p settled keeps made pages.
     let h = c.in_ok-published.published in
     let may = may_publish c.args.self.now.heights ps v0.state c.args.mark s c.args.stacks.items h p c.in_ok-published.ensures.mark c.in_ok-published.ensures.stacks c.in_ok-published.ensures.good
     (g.met.D.Disk.reads_as_image c.args.disk.now told) c.requires.above c.requires.few keeps made pages in
-    let written = at_mark (λ n text. HasWritten n text v0 v1) c.mark.inside.height c.bytes.result.now c.args.mark h
-    (ap (λ (m : Mark). m.height) c.mark.view_is) (c.bytes.ensures.value ∙ c.in_ok-text.ensures) c.in_ok-published.ensures.mark (c.in_ok-write_mark.ensures.written told) in
-    let touches = at_mark (λ n text. TouchesOnly (is_of n) v0 v1) c.mark.inside.height c.bytes.result.now c.args.mark h
-    (ap (λ (m : Mark). m.height) c.mark.view_is) (c.bytes.ensures.value ∙ c.in_ok-text.ensures) c.in_ok-published.ensures.mark (c.write_mark.ensures.touches told) in
+    let written = at_mark (λ n text. HasWritten n text v0 v1) c.mark.inside.height c.bytes-2.result.now c.args.mark h
+    (ap (λ (m : Mark). m.height) c.mark.view_is) (c.bytes-2.ensures.value ∙ c.in_ok-text.ensures) c.in_ok-published.ensures.mark (c.in_ok-write_mark.ensures.written told) in
+    let touches = at_mark (λ n text. TouchesOnly (is_of n) v0 v1) c.mark.inside.height c.bytes-2.result.now c.args.mark h
+    (ap (λ (m : Mark). m.height) c.mark.view_is) (c.bytes-2.ensures.value ∙ c.in_ok-text.ensures) c.in_ok-published.ensures.mark (c.write_mark.ensures.touches told) in
     let pushed : c.push.new.self.items ≡ c.args.self.now.heights ++ h ∷ [] = c.in_ok-push.ensures.items ∙ ap (λ (l : List StoredHeight). l ++ h ∷ []) (c.reserve.ensures.items ∙ ap (λ (s : Store). s.heights) c.self.view_is) in
     subst (λ (hs : List StoredHeight). KeepsHeights hs v1.state (ps ++ p ∷ [])) (sym pushed) (keeps_push c.args.self.now.heights ps v0 v1 h p may written touches settled)
 
@@ -66,10 +66,10 @@ returns-clause-readable g c = λ told.
     let v0 = g.D.Disk.view c.args.disk.now in
     let v1 = g.D.Disk.view c.write_mark.new.disk in
     let h = c.in_ok-published.published in
-    let written = at_mark (λ n text. HasWritten n text v0 v1) c.mark.inside.height c.bytes.result.now c.args.mark h
-    (ap (λ (m : Mark). m.height) c.mark.view_is) (c.bytes.ensures.value ∙ c.in_ok-text.ensures) c.in_ok-published.ensures.mark (c.in_ok-write_mark.ensures.written told) in
-    let touches = at_mark (λ n text. TouchesOnly (is_of n) v0 v1) c.mark.inside.height c.bytes.result.now c.args.mark h
-    (ap (λ (m : Mark). m.height) c.mark.view_is) (c.bytes.ensures.value ∙ c.in_ok-text.ensures) c.in_ok-published.ensures.mark (c.write_mark.ensures.touches told) in
+    let written = at_mark (λ n text. HasWritten n text v0 v1) c.mark.inside.height c.bytes-2.result.now c.args.mark h
+    (ap (λ (m : Mark). m.height) c.mark.view_is) (c.bytes-2.ensures.value ∙ c.in_ok-text.ensures) c.in_ok-published.ensures.mark (c.in_ok-write_mark.ensures.written told) in
+    let touches = at_mark (λ n text. TouchesOnly (is_of n) v0 v1) c.mark.inside.height c.bytes-2.result.now c.args.mark h
+    (ap (λ (m : Mark). m.height) c.mark.view_is) (c.bytes-2.ensures.value ∙ c.in_ok-text.ensures) c.in_ok-published.ensures.mark (c.write_mark.ensures.touches told) in
     let pushed = c.in_ok-push.ensures.items ∙ ap (λ (l : List StoredHeight). l ++ h ∷ []) c.reserve.ensures.items in
     subst (λ (store : Store). IsReadable store.heights v1.state.files) (sym (gained _ c.args.self.now c.push.new.self.items h c.self.view_is pushed))
     (readable_push c.args.self.now v0 v1 h written touches (c.requires.readable told) (below_mark c.args.self.now.heights c.args.mark h c.in_ok-published.ensures.mark c.requires.above)
@@ -80,10 +80,10 @@ returns-clause-writable g c = λ told n writable.
     let v0 = g.D.Disk.view c.args.disk.now in
     let v1 = g.D.Disk.view c.write_mark.new.disk in
     let h = c.in_ok-published.published in
-    let written = at_mark (λ n text. HasWritten n text v0 v1) c.mark.inside.height c.bytes.result.now c.args.mark h
-    (ap (λ (m : Mark). m.height) c.mark.view_is) (c.bytes.ensures.value ∙ c.in_ok-text.ensures) c.in_ok-published.ensures.mark (c.in_ok-write_mark.ensures.written told) in
-    let touches = at_mark (λ n text. TouchesOnly (is_of n) v0 v1) c.mark.inside.height c.bytes.result.now c.args.mark h
-    (ap (λ (m : Mark). m.height) c.mark.view_is) (c.bytes.ensures.value ∙ c.in_ok-text.ensures) c.in_ok-published.ensures.mark (c.write_mark.ensures.touches told) in
+    let written = at_mark (λ n text. HasWritten n text v0 v1) c.mark.inside.height c.bytes-2.result.now c.args.mark h
+    (ap (λ (m : Mark). m.height) c.mark.view_is) (c.bytes-2.ensures.value ∙ c.in_ok-text.ensures) c.in_ok-published.ensures.mark (c.in_ok-write_mark.ensures.written told) in
+    let touches = at_mark (λ n text. TouchesOnly (is_of n) v0 v1) c.mark.inside.height c.bytes-2.result.now c.args.mark h
+    (ap (λ (m : Mark). m.height) c.mark.view_is) (c.bytes-2.ensures.value ∙ c.in_ok-text.ensures) c.in_ok-published.ensures.mark (c.write_mark.ensures.touches told) in
     let pushed = c.in_ok-push.ensures.items ∙ ap (λ (l : List StoredHeight). l ++ h ∷ []) c.reserve.ensures.items in
     subst (λ (store : Store). IsWritable store n v1.state.files) (sym (gained _ c.args.self.now c.push.new.self.items h c.self.view_is pushed))
     (writable_push c.args.self.now v0 v1 h written touches n writable)

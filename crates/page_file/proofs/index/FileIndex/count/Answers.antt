@@ -1,5 +1,5 @@
 use Rattle.std.proofs.Common.{subst}
-use Rattle.store_spec.specs.PageFile.{IsIndex}
+use Rattle.page_spec.specs.PageFile.{IsIndex}
 use Rattle.page_file.proofs.Kept.{is_index}
 use Rattle.page_file.proofs.index.FileIndex.count.Goals as goal
 

@@ -1,6 +1,6 @@
 use Rattle.std.proofs.Common.{◌+◌, ◌-◌, ◌≤◌, ◌==◌, ◌∙◌, length, get_or, ap, sym, subst, arith}
 use Rattle.std.specs.List.{position}
-use Rattle.store_spec.specs.PageFile.{PageIndex}
+use Rattle.page_spec.specs.PageFile.{PageIndex}
 use Rattle.page_file.specs.declared.range.Range.{Range}
 use Rattle.page_file.specs.Ranges.{numbers_in, AreRanges}
 use Rattle.page_file.proofs.Find.{firsts_ascend, none_before, found_by, found_here, found_nowhere, range_fits}

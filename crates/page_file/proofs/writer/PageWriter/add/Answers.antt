@@ -1,24 +1,32 @@
-use Rattle.std.proofs.Common.{ap, arith, length}
+use Rattle.std.proofs.Common.{ℕ, ◌+◌, ◌∙◌, ap, arith, length}
 use Rattle.disk_model.specs.declared.name.Name.TheVariants.{Page}
+use Rattle.disk_model.specs.Files.{same_name}
 use Rattle.disk_model.specs.Call.{append}
-use Rattle.disk_model.specs.Frame.{done_settles}
-use Rattle.page_file.specs.Files.{UnfinishedFile}
+use Rattle.disk_model.specs.Frame.{touches_call, done_settles}
+use Rattle.page_file.specs.Files.{UnfinishedFile, text_added}
 use Rattle.page_file.proofs.Kept.{pages_fit}
-use Rattle.page_file.proofs.Written.{touches_page}
+use Rattle.page_file.proofs.Written.{page_added, length-text_added}
 use Rattle.page_file.proofs.writer.PageWriter.add.Goals as goal
 
-pub returns-in_err-append-clause-touches : goal.returns-in_err-append-clause-touches
-returns-in_err-append-clause-touches g c = λ told.
-    touches_page (append (Page c.self.inside.number) c.args.page.now) _ _ _ c.self.inside.number c.args.self.now.number (ap (λ (w : UnfinishedFile). w.number) c.self.view_is)
-    (λ q apart. apart) (g.met.D.Disk.reads_as_image c.args.disk.now told) (c.append.ensures.does told)
+pub returns-in_err-append_next-clause-touches : goal.returns-in_err-append_next-clause-touches
+returns-in_err-append_next-clause-touches g c = λ told.
+    touches_call (append (Page c.args.self.now.number) (text_added c.args.self.now c.args.page.now)) _ _ _ (same_name (Page c.args.self.now.number)) (λ q apart. apart) (g.met.D.Disk.reads_as_image c.args.disk.now told) (c.append_next.ensures.does told)
 
 pub returns-clause-touches : goal.returns-clause-touches
 returns-clause-touches g c = λ told.
-    touches_page (append (Page c.self.inside.number) c.args.page.now) _ _ _ c.self.inside.number c.args.self.now.number (ap (λ (w : UnfinishedFile). w.number) c.self.view_is)
-    (λ q apart. apart) (g.met.D.Disk.reads_as_image c.args.disk.now told) (c.append.ensures.does told)
+    touches_call (append (Page c.args.self.now.number) (text_added c.args.self.now c.args.page.now)) _ _ _ (same_name (Page c.args.self.now.number)) (λ q apart. apart) (g.met.D.Disk.reads_as_image c.args.disk.now told) (c.append_next.ensures.does told)
 
 pub returns-clause-settled : goal.returns-clause-settled
-returns-clause-settled g c = λ told settled. done_settles (append (Page c.self.inside.number) c.args.page.now) _ _ (c.in_ok-append.ensures.does told) settled
+returns-clause-settled g c = λ told settled. done_settles (append (Page c.args.self.now.number) (text_added c.args.self.now c.args.page.now)) _ _ (c.in_ok-append_next.ensures.does told) settled
+
+pub returns-clause-added : goal.returns-clause-added
+returns-clause-added g c = λ told pages was.
+    page_added c.args.self.now (record { number = c.self.inside.number; index = c.self.inside.index.value; added = c.self.inside.added + 1 }) pages c.args.page.now _ _
+    (ap (λ (w : UnfinishedFile). record w { added = w.added + 1 }) c.self.view_is) c.told-page (c.in_ok-append_next.ensures.does told) was
+
+pub returns-clause-appended : goal.returns-clause-appended
+returns-clause-appended g c = λ told.
+    (c.in_ok-append_next.ensures.does told).appended ∙ ap (λ (n : ℕ). (g.D.Disk.view c.args.disk.now).appended + n) (length-text_added c.args.self.now c.args.page.now c.told-page)
 
 pub overflow_add-self : goal.overflow_add-self
-overflow_add-self g c = omega (arith, pages_fit c.self.inside.index c.self.invariant, c.self.invariant.memory_fits, c.requires.room, ap (λ (w : UnfinishedFile). w.added) c.self.view_is, ap (λ (w : UnfinishedFile). length w.index.numbers) c.self.view_is)
+overflow_add-self g c = omega (arith, pages_fit c.self.inside.index.value c.self.invariant, c.self.invariant.memory_fits, c.requires.room, ap (λ (w : UnfinishedFile). w.added) c.self.view_is, ap (λ (w : UnfinishedFile). length w.index.numbers) c.self.view_is)

@@ -20,4 +20,4 @@ pub returns-clause-settled : goal.returns-clause-settled
 returns-clause-settled g c = λ told settled. done_settles (seal (Page c.self.inside.number)) _ _ (c.in_ok-seal.ensures.does told) settled
 
 pub returns-clause-finished : goal.returns-clause-finished
-returns-clause-finished g c = λ told pages was. sealed_pages (record { number = c.self.inside.number; index = c.self.inside.index; added = c.self.inside.added }) c.args.self c.new.result pages _ _ c.self.view_is (c.in_ok-seal.ensures.does told) c.self.invariant c.requires.all c.new.ensures was
+returns-clause-finished g c = λ told pages was. sealed_pages (record { number = c.self.inside.number; index = c.self.inside.index.value; added = c.self.inside.added }) c.args.self c.new.result pages _ _ c.self.view_is (c.in_ok-seal.ensures.does told) c.self.invariant c.requires.all c.new.ensures was

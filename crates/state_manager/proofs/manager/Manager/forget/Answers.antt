@@ -1,7 +1,7 @@
 use Rattle.std.proofs.Common.{refl, ap, ◌∙◌, ◌==◌, ◌≤◌, not, Ok, sym, subst}
 use Rattle.std.specs.Prelude.{find}
 use Rattle.format_spec.specs.declared.limits.TheConstants.{MAX_HEIGHT}
-use Rattle.state_manager.specs.StateKept.{HeldState}
+use Rattle.live_state.specs.StateKept.{HeldState}
 use Rattle.machine_spec.specs.Machine.{Machine}
 use Rattle.script_text.specs.declared.command.Command.TheVariants as commands
 use Rattle.script_text.specs.declared.reply.Reply.TheVariants as replies

@@ -1,7 +1,7 @@
 use Rattle.std.proofs.Common.{◌≡◌, map, ap, ◌∙◌, subst, refl}
 use Rattle.script_text.specs.declared.reply.Reply.TheVariants as replies
 use Rattle.store_spec.specs.Image.{heights_of}
-use Rattle.whole_state.specs.Whole.{KnowsHeight}
+use Rattle.height_store.specs.Known.{KnowsHeight}
 use Rattle.machine_spec.specs.Machine.{Machine}
 use Rattle.state_manager.proofs.Standing.{knows_same, same_heights, same_heights_in}
 use Rattle.state_manager.specs.Kept.{Held, KeepsStates}

@@ -2,7 +2,7 @@ use Rattle.std.proofs.Common.{refl, sym, subst}
 use Rattle.script_text.specs.declared.command.Command.{Command}
 use Rattle.script_text.specs.declared.command.Command.TheVariants as commands
 use Rattle.state_manager.specs.Kept.{Held, KeepsStates, Performs}
-use Rattle.state_manager.specs.StateKept.{PerformsState}
+use Rattle.live_state.specs.StateKept.{PerformsState}
 use Rattle.state_manager.proofs.Onward.{on_live, leaves_put}
 use Rattle.state_manager.proofs.manager.Manager.perform_apart.Goals as goal
 

@@ -5,6 +5,7 @@ use Rattle.height_store.specs.Laws.{over_after}
 use Rattle.script_text.specs.declared.command.Command.TheVariants as commands
 use Rattle.state_manager.specs.Kept.{Held, DoesLine}
 use Rattle.state_manager.proofs.Purging.{Purges, RepliesTo, purge_line}
+use Rattle.state_manager.proofs.Spending.{purge_spends}
 use Rattle.state_manager.proofs.manager.Manager.purge.Goals as goal
 use Rattle.state_manager.proofs.manager.Manager.purge.Goals.{in-Ok, in-Err}
 
@@ -23,6 +24,7 @@ returns-clause-line g c =
       refused = λ h. let same = c.purge.ensures.refused h in (same.0, ap g.D.Disk.view same.1);
       given = record { least = omega (arith, c.purge.ensures.given); most = omega (arith, c.purge.ensures.given) };
       over = λ told. over_after c.purge.result c.self.inside.store c.purge.new.self _ _ (over told) (c.purge.ensures.readable told) (c.purge.ensures.writable told);
+      spends = λ told. purge_spends (g.D.Disk.view c.args.disk.now) (g.D.Disk.view c.purge.new.disk) c.purge.result (c.purge.ensures.appended told) (c.purge.ensures.read told);
       stands = c.purge.ensures.stands;
       images = c.purge.ensures.images;
       settled = c.purge.ensures.settled;

@@ -7,12 +7,17 @@ use Rattle.machine_spec.specs.LiveSteps.{read_reply}
 use Rattle.machine_spec.specs.Machine.{answered}
 use Rattle.state_manager.specs.Kept.{Held}
 use Rattle.state_manager.proofs.DiskLines.{failed_line, looks_line, shown_some, still_line}
+use Rattle.state_manager.proofs.Spending.{read_spends}
 use Rattle.state_manager.proofs.Standing.{asks_none, asks_there, at_none, at_some, published_none}
 use Rattle.state_manager.proofs.manager.Manager.read.Goals as goal
 
 pub returns-in-Some-clause-line : goal.returns-in-Some-clause-line
 returns-in-Some-clause-line g c =
-    looks_line g.D.Disk.tells c.args.self.now (g.D.Disk.view c.args.disk.now) _ c.read_published.result (commands.Read c.args.at c.args.id.now c.args.mem c.args.offset c.args.len) c.requires.over c.read_published.ensures.looks
+    looks_line g.D.Disk.tells c.args.self.now (g.D.Disk.view c.args.disk.now) _ c.read_published.result (commands.Read c.args.at c.args.id.now c.args.mem c.args.offset c.args.len) c.requires.over (λ told. (_, c.read_published.ensures.looks told))
+    (λ told m k.
+    let p = shown_some c.args.self.now _ m (g.met.D.Disk.reads_as_image c.args.disk.now told) k c.args.at c.in-Some.height c.in-Some.ensures in
+    read_spends m c.args.at p.published.state p.on_disk c.args.id.now c.args.mem c.args.offset c.args.len _ _ c.read_published.result (c.read_published.ensures.told told)
+    (c.read_published.ensures.reply told p.stored p.published (ap (λ (h : Held). height_at h.store.heights c.in-Some.height) c.self.view_is ∙ p.found) p.related))
     (λ told m k.
     let p = shown_some c.args.self.now _ m (g.met.D.Disk.reads_as_image c.args.disk.now told) k c.args.at c.in-Some.height c.in-Some.ensures in
     IfOk-weaker c.read_published.result _ _ (λ reply is. asks_there m c.args.at p.published.state p.state (λ s. answered (read_reply s c.args.id.now c.args.mem c.args.offset c.args.len) m) reply is refl)
@@ -24,12 +29,12 @@ returns-in_err-read-in-Some-state_at-clause-line g c =
 
 pub returns-in_ok-read-in-Some-state_at-clause-line : goal.returns-in_ok-read-in-Some-state_at-clause-line
 returns-in_ok-read-in-Some-state_at-clause-line g c =
-    still_line g.D.Disk.tells c.args.self.now (g.D.Disk.view c.args.disk.now) (Ok c.in_ok-read-in-Some-state_at.field-0) (commands.Read c.args.at c.args.id.now c.args.mem c.args.offset c.args.len) c.requires.over
+    still_line g.D.Disk.tells c.args.self.now (g.D.Disk.view c.args.disk.now) (Ok c.in_ok-read-in-Some-state_at.field-0) (commands.Read c.args.at c.args.id.now c.args.mem c.args.offset c.args.len) c.requires.over (λ m k. refl)
     (λ told m k.
     let n = at_some c.args.self.now m k.states c.args.at c.in-Some-state_at.state.now c.in-Some-state_at.ensures in
     asks_there m c.args.at n.0.1 (published_none c.args.self.now m k.states c.args.at c.in_default.ensures ∙ n.2) (λ s. answered (read_reply s c.args.id.now c.args.mem c.args.offset c.args.len) m) c.in_ok-read-in-Some-state_at.field-0 (c.in_ok-read-in-Some-state_at.ensures n.0 n.1) refl)
 
 pub returns-in-None-clause-line : goal.returns-in-None-clause-line
 returns-in-None-clause-line g c =
-    still_line g.D.Disk.tells c.args.self.now (g.D.Disk.view c.args.disk.now) _ (commands.Read c.args.at c.args.id.now c.args.mem c.args.offset c.args.len) c.requires.over
+    still_line g.D.Disk.tells c.args.self.now (g.D.Disk.view c.args.disk.now) _ (commands.Read c.args.at c.args.id.now c.args.mem c.args.offset c.args.len) c.requires.over (λ m k. refl)
     (λ told m k. asks_none m c.args.at (published_none c.args.self.now m k.states c.args.at c.in_default.ensures ∙ at_none c.args.self.now m k.states c.args.at c.in-None.ensures) _)

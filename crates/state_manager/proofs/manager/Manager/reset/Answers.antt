@@ -12,20 +12,20 @@ pub returns-then-not-is_published-clause-line : goal.returns-then-not-is_publish
 returns-then-not-is_published-clause-line g c =
     let over : IsTrue g.D.Disk.tells → IsOver c.self.inside.store (g.D.Disk.view c.args.disk.now).state.files = λ told. subst (λ (h : Held). IsOver h.store (g.D.Disk.view c.args.disk.now).state.files) (sym c.self.view_is) (c.requires.over told) in
     subst (λ (h : Held). DoesLine g.D.Disk.tells h h (g.D.Disk.view c.args.disk.now) (g.D.Disk.view c.args.disk.now) (Ok (replies.Refused refusals.NoHeight)) (commands.Reset c.args.height)) c.self.view_is
-    (still_line g.D.Disk.tells _ (g.D.Disk.view c.args.disk.now) (Ok (replies.Refused refusals.NoHeight)) (commands.Reset c.args.height) over
+    (still_line g.D.Disk.tells _ (g.D.Disk.view c.args.disk.now) (Ok (replies.Refused refusals.NoHeight)) (commands.Reset c.args.height) over (λ m k. refl)
     (λ told m k. as_step (replies.Refused refusals.NoHeight) _ _ m (reset_none m c.args.height (height_absent c.self.inside.store.heights m.published c.args.height k.states.published (sym c.if-not-is_published.ensures))) refl refl))
 
 pub returns-then-not-is_newest-clause-line : goal.returns-then-not-is_newest-clause-line
 returns-then-not-is_newest-clause-line g c =
     let over : IsTrue g.D.Disk.tells → IsOver c.self.inside.store (g.D.Disk.view c.args.disk.now).state.files = λ told. subst (λ (h : Held). IsOver h.store (g.D.Disk.view c.args.disk.now).state.files) (sym c.self.view_is) (c.requires.over told) in
     subst (λ (h : Held). DoesLine g.D.Disk.tells h h (g.D.Disk.view c.args.disk.now) (g.D.Disk.view c.args.disk.now) (Ok (replies.Refused refusals.HeightLow)) (commands.Reset c.args.height)) c.self.view_is
-    (still_line g.D.Disk.tells _ (g.D.Disk.view c.args.disk.now) (Ok (replies.Refused refusals.HeightLow)) (commands.Reset c.args.height) over
+    (still_line g.D.Disk.tells _ (g.D.Disk.view c.args.disk.now) (Ok (replies.Refused refusals.HeightLow)) (commands.Reset c.args.height) over (λ m k. refl)
     (λ told m k.
     let s = height_there c.self.inside.store.heights m.published c.args.height k.states.published (sym c.if-not-is_published.ensures) in
     as_step (replies.Refused refusals.HeightLow) _ _ m (reset_low m c.args.height s.0 s.1 (sym (newest_test (λ (n : ℕ). n == c.args.height) c.self.inside.store.heights m.published k.states.published) ∙ sym c.if-not-is_newest.ensures)) refl refl))
 
 pub returns-in_err-self-inside-clause-line : goal.returns-in_err-self-inside-clause-line
-returns-in_err-self-inside-clause-line g c = failed_line g.D.Disk.tells c.args.self.now (g.D.Disk.view c.args.disk.now) _ c.from_residual.result (commands.Reset c.args.height) c.from_residual.ensures.0 c.requires.over c.begin.ensures.looks
+returns-in_err-self-inside-clause-line g c = failed_line g.D.Disk.tells c.args.self.now (g.D.Disk.view c.args.disk.now) _ c.from_residual.result (commands.Reset c.args.height) c.from_residual.ensures.0 c.requires.over (λ told. (_, c.begin.ensures.looks told))
 
 pub returns-clause-line : goal.returns-clause-line
 returns-clause-line g c =

@@ -1,11 +1,11 @@
-use Rattle.std.proofs.Common.{refl, ap, ◌∙◌, ◌∷◌, ◌++◌, [], Ok, sym, subst, arith}
+use Rattle.std.proofs.Common.{refl, ap, ◌∙◌, ◌+◌, ◌∷◌, ◌++◌, [], Ok, sym, subst, arith}
 use Rattle.machine_spec.specs.Machine.{Machine}
 use Rattle.script_text.specs.declared.command.Command.TheVariants as commands
 use Rattle.script_text.specs.declared.reply.Reply.TheVariants as replies
 use Rattle.script_text.specs.declared.reply.Refusal.TheVariants as refusals
 use Rattle.state_manager.proofs.Onward.{round_high, round_many, rounds}
 use Rattle.state_manager.specs.Kept.{Held, KeepsStates, Performs}
-use Rattle.state_manager.specs.StateKept.{HeldState}
+use Rattle.live_state.specs.StateKept.{HeldState, KeepsState, live_of}
 use Rattle.state_manager.proofs.manager.Manager.round.Goals as goal
 
 pub returns-then-len-ge-MAX_HEIGHTS-clause-step : goal.returns-then-len-ge-MAX_HEIGHTS-clause-step
@@ -21,5 +21,7 @@ returns-then-height-gt-MAX_HEIGHT-clause-step c =
 pub returns-clause-step : goal.returns-clause-step
 returns-clause-step c = λ m k.
     let kept = subst (λ (h : Held). KeepsStates h m) (sym c.self.view_is) k in
-    rounds _ _ m kept (omega arith) (omega arith) _ _ c.height-height.ensures (c.in_ok-tree.ensures (m.height, m.live) kept.live) refl refl
-    (c.in_ok-push.ensures.items ∙ ap (λ (a : HeldState). c.self.inside.memory.items ++ a ∷ []) c.in_ok-copy.ensures) c.advance.ensures
+    let live = subst (λ (h : HeldState). KeepsState h (live_of m)) (sym c.keep_tree.ensures) kept.live in
+    rounds _ _ m kept (omega arith) (omega arith) _ _ c.height-height.ensures.value (c.in_ok-tree.ensures (live_of m) live) refl refl
+    (c.in_ok-push.ensures.items ∙ ap (λ (a : HeldState). c.self.inside.memory.items ++ a ∷ []) (c.in_ok-copy.ensures.copy ∙ c.keep_tree.ensures))
+    (c.advance.ensures ∙ ap (λ (a : HeldState). record a { height = a.height + 1 }) (c.copy.ensures.same ∙ c.keep_tree.ensures))

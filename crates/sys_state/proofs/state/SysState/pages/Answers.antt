@@ -1,11 +1,10 @@
 use Rattle.std.proofs.Math.Seq.{get_or-append_seam}
-use Rattle.std.proofs.Common.{List, ◌∷◌, ◌++◌, ◌≤◌, get_or, ◌≡◌, ℕ, Option, Some, Result, Ok, Err, sym, ap, ◌∙◌, subst, refl}
-use Rattle.std.specs.FinMap.{find}
+use Rattle.std.proofs.Common.{List, ◌∷◌, ◌++◌, ◌≤◌, get_or, ◌≡◌, ℕ, Some, Result, Ok, Err, sym, ap, ◌∙◌, subst}
 use Rattle.std.specs.Option.{option_map}
 use Rattle.std.specs.Result.{result_ok}
 use Rattle.state_spec.specs.State.{memory_limit}
 use Rattle.format_spec.specs.Bytes.{Bytes, bytes_cmp}
-use Rattle.sys_state.specs.Calls.{pages_of, canister_in}
+use Rattle.sys_state.specs.Calls.{pages_of}
 use Rattle.sys_state.specs.Places.{Places, Stands}
 use Rattle.sys_state.specs.System.{System, IsKept}
 use Rattle.sys_state.proofs.Kept.{found_fits, canisters_fit}

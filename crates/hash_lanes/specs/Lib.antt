@@ -1,0 +1,4 @@
+pub mod Lanes
+pub mod Starts
+pub mod Messages
+pub mod Counted

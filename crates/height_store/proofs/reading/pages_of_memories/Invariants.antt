@@ -1,0 +1,6 @@
+use Rattle.std.proofs.Common.{◌≡◌, take}
+use Rattle.mark_file.proofs.Counting.{pages_in}
+use Rattle.height_store.proofs.reading.pages_of_memories.Given as goal
+
+abbrev pub invariant-loop-i : goal.invariant-loop-i
+invariant-loop-i l = l.pages.items ≡ pages_in (take l.i l.sys.canisters)

@@ -1,0 +1,40 @@
+-- What the calls of a store say of their answers, by which each is one.
+use Rattle.std.specs.Prelude.{◌≡◌, ◌↔◌, ℕ, false, List, Result, Ok, Err, reverse, slice_get, is_some, nat_eq, Some, IsTrue, IfOk, OnOk, IsErrOf}
+use Rattle.std.specs.List.{AllByRecursion, list_any}
+use Rattle.std.specs.List.Sorted.{IsStrictlyIncreasing}
+use Rattle.format_spec.specs.Bytes.{Bytes}
+use Rattle.page_spec.specs.Layers.{Layer, page_from}
+use Rattle.store_spec.specs.Image.{Opens}
+use Rattle.disk_model.specs.Files.{Files}
+use Rattle.page_file.specs.Files.{NumberedFile}
+use Rattle.layer_stack.specs.Stacks.{AreLayers}
+use Rattle.height_store.specs.declared.error.StoreError.{StoreError}
+use Rattle.height_store.specs.declared.error.StoreError.TheVariants.{BadMark, BadPage, NoHeight, LastHeight}
+use Rattle.height_store.specs.Bad.{IsFirstBadMark, IsFirstBadPage}
+use Rattle.height_store.specs.Errors.{NoBadFile, NoBadHeight}
+use Rattle.height_store.specs.Kept.{IsReadable}
+use Rattle.height_store.specs.Store.{Store, StoredHeight, IsHeight, height_at, is_named, is_newest}
+
+-- `HeightStore::open` of a disk with these files on entry
+pub record OpensAs (files : Files) (result : Result Store StoreError) : Type 0 where
+  pub good : IfOk result (λ store. AllByRecursion IsHeight store.heights)
+  pub found : IfOk result (λ store. IsReadable store.heights files)
+  pub named : IfOk result (λ store. (n : ℕ) → list_any (nat_eq n) store.named ≡ is_named store.heights n)
+  pub named_ascends : IfOk result (λ store. IsStrictlyIncreasing store.named)
+  pub next : IfOk result (λ store. (store.given ≡ 0) × (store.next ≡ 0))
+  pub opens : OnOk result (Opens files)
+  pub bad_mark : (height : ℕ) → IsErrOf result (BadMark height) → IsFirstBadMark files height
+  pub bad_page : (number : ℕ) → IsErrOf result (BadPage number) → IsFirstBadPage files number
+  pub no_bad_height : NoBadHeight result
+
+-- `HeightStore::purge` of a height
+pub record Purges (hs : List StoredHeight) (height : ℕ) (result : Result (Unit {0}) StoreError) : Type 0 where
+  pub no_height : (result ≡ Err NoHeight) ↔ (is_some (height_at hs height) ≡ false)
+  pub last_height : (result ≡ Err LastHeight) ↔ IsTrue (is_newest hs height)
+  pub no_bad_file : NoBadFile result
+
+-- `HeightStore::page_of` fills in these bytes of a page of a memory at a place of a height
+abbrev pub ReadsAs : Files → List StoredHeight → ℕ → ℕ → ℕ → Bytes → Type 0
+ReadsAs files hs height place page bytes =
+    (h : StoredHeight) (stack : List NumberedFile) (layers : List Layer) → height_at hs height ≡ Some h → slice_get h.stacks place ≡ Some stack
+    → AreLayers files stack layers → bytes ≡ page_from (reverse layers) page

@@ -1,0 +1,71 @@
+-- The manifest and the root of the live state.
+use Rattle.std.proofs.Common.{◌≡◌, ◌*◌, ℕ, List, [], ◌∷◌, length, map, refl, ◌∙◌, ap, sym, subst}
+use Rattle.format_spec.specs.Bytes.{Bytes}
+use Rattle.format_spec.specs.declared.limits.TheConstants.{PAGE_SIZE}
+use Rattle.manifest.specs.Fits.{FitMemories}
+use Rattle.manifest.specs.declared.counts.Counts.{Counts}
+use Rattle.manifest.specs.Counts.{counts_by, counts_in}
+use Rattle.manifest.proofs.Counting.{by_state}
+use Rattle.format_spec.specs.Hashes.{piece_hash}
+use Rattle.std.proofs.lemmas.List.{length-map}
+use Rattle.state_spec.specs.Files.{memories_in}
+use Rattle.state_spec.specs.Manifest.{Manifest, manifest_of}
+use Rattle.state_spec.specs.ManifestText.{manifest_text}
+use Rattle.state_spec.specs.Root.{MetaManifest, meta_of, pieces_of, root_of, root_of_meta}
+use Rattle.state_spec.specs.State.{State, SystemPart, memory_bytes}
+use Rattle.script_text.specs.declared.reply.Reply.TheVariants as replies
+use Rattle.machine_spec.specs.HeightSteps.{counts_of, tree_root}
+use Rattle.machine_spec.specs.WitnessSteps.{witness_text}
+use Rattle.state_spec.specs.State.{system_of}
+use Rattle.tree_spec.specs.Cbor.{cbor}
+use Rattle.tree_spec.specs.Witness.{witness}
+use Rattle.tree_spec.specs.Labelled.{state_tree}
+use Rattle.tree_spec.specs.Tree.{Tree, reconstruct}
+use Rattle.sys_state.specs.System.{System, part_of, kept_of}
+use Rattle.sys_state.specs.declared.record.CanisterRecord.{CanisterRecord}
+use Rattle.live_state.proofs.MemoryLines.{parts_of_state}
+use Rattle.live_state.specs.StateKept.{HeldState, KeepsState}
+use Rattle.live_state.specs.Sizes.{HaveSizes, sizes_of}
+
+pub sizes_in : (s : System) → map (λ (memory : Bytes × ℕ). memory.1 * PAGE_SIZE) (memories_in (part_of s)) ≡ sizes_of s.canisters
+sizes_in s = go s.canisters
+  where
+    go : (cs : List (Bytes × CanisterRecord)) → map (λ (memory : Bytes × ℕ). memory.1 * PAGE_SIZE) (memories_in (part_of (record s { canisters = cs }))) ≡ sizes_of cs
+    go [] = refl
+    go (c ∷ cs) = ap (λ (t : List ℕ). c.1.heap * PAGE_SIZE ∷ c.1.stable * PAGE_SIZE ∷ t) (go cs)
+
+pub fit_memories : (s : System) (ms : List Bytes) → HaveSizes s.canisters ms → FitMemories (part_of s) ms
+fit_memories s ms h = h ∙ sym (sizes_in s)
+
+pub root_is : (s : State) (man : Manifest) (meta : MetaManifest) (r : Bytes) → man ≡ manifest_of s → meta ≡ meta_of man → r ≡ root_of_meta meta → r ≡ root_of s
+unfolding root_of
+root_is s man meta r a b c = c ∙ ap root_of_meta (b ∙ ap meta_of a)
+
+pub sizes_are : (s : State) (c : Counts) → c ≡ counts_in (manifest_of s) → replies.Manifest c.files c.chunks c.pieces c.bytes ≡ counts_of s
+unfolding counts_of meta_of
+sizes_are s c is =
+    let m = manifest_of s in
+    ap (λ (x : Counts). replies.Manifest x.files x.chunks x.pieces x.bytes) is
+    ∙ ap (λ (n : ℕ). replies.Manifest (length m.files) (length m.chunks) n (length (manifest_text m))) (sym (length-map (pieces_of m) piece_hash))
+
+pub tree_root_is : (s : State) (t : Tree) (r : Bytes) → r ≡ reconstruct t → t ≡ state_tree (system_of s) → r ≡ tree_root s
+unfolding tree_root
+tree_root_is s t r a b = a ∙ ap reconstruct b
+
+pub witness_text_is : (s : State) (paths : List (List Bytes)) (w : Tree) (text : Bytes) → text ≡ cbor w → w ≡ witness (system_of s) paths → text ≡ witness_text s paths
+unfolding witness_text
+witness_text_is s paths w text a b = a ∙ ap cbor b
+
+pub parts_kept : (held : HeldState) (system : System) (k : ℕ × State) → KeepsState held k → system ≡ held.system → system_of k.1 ≡ part_of system
+parts_kept held system k keeps is = sym (ap part_of (is ∙ keeps.system) ∙ parts_of_state k.1)
+
+pub fit_kept : (held inside : HeldState) (k : ℕ × State) → inside ≡ held → KeepsState held k → HaveSizes inside.system.canisters inside.memories → FitMemories (part_of inside.system) (memory_bytes k.1)
+fit_kept held inside k view keeps sizes =
+    subst (FitMemories (part_of inside.system)) (ap (λ (h : HeldState). h.memories) view ∙ keeps.memories) (fit_memories inside.system inside.memories sizes)
+
+-- counts by sizes are those of the state's manifest
+pub counted : (s : State) (sys : System) (c : Counts) → s.version ≡ 1 → system_of s ≡ part_of sys → FitMemories (part_of sys) (memory_bytes s) → c ≡ counts_by (part_of sys)
+    → replies.Manifest c.files c.chunks c.pieces c.bytes ≡ counts_of s
+counted s sys c one parts fit is =
+    let same : part_of (kept_of s) ≡ part_of sys = parts_of_state s ∙ parts in
+    sizes_are s c (is ∙ ap counts_by (sym same) ∙ by_state s (kept_of s) one refl (subst (λ (p : SystemPart). FitMemories p (memory_bytes s)) (sym same) fit))

@@ -1,0 +1,5 @@
+pub mod Changes
+pub mod Memories
+pub mod Places
+pub mod Sizes
+pub mod StateKept

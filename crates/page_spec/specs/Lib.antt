@@ -1,0 +1,4 @@
+pub mod PageFile
+pub mod Layers
+pub mod Example
+pub mod Computing

@@ -1,7 +1,0 @@
-use Rattle.std.proofs.Common.{ap}
-use Rattle.state_manager.specs.StateKept.{HeldState}
-use Rattle.state_manager.proofs.Hashed.{parts_kept}
-use Rattle.state_manager.proofs.height_state.HeightState.witness.Goals as goal
-
-pub returns : goal.returns
-returns c = λ k keeps. c.witness_of.ensures k.1 (parts_kept c.args.self.now c.self.inside.sys k keeps (ap (λ (h : HeldState). h.system) c.self.view_is))

@@ -1,0 +1,40 @@
+//! Publishing a state.
+
+ghost use Rattle.std.specs.Prelude.{◌≤◌, ◌<◌, ◌^◌, length, IsTrue};
+ghost use Rattle.std.specs.List.{AllByRecursion};
+ghost use Rattle.format_spec.specs.declared.limits.TheConstants.{MAX_HEIGHT, MAX_PUBLISHED};
+ghost use Rattle.height_store.specs.Errors.{HasCause as StoreCause};
+ghost use Rattle.height_store.specs.Kept.{IsOver};
+ghost use Rattle.state_manager.specs.Publishes.{Publishes};
+
+use disk_model::Disk;
+use hash_domain::Hash32;
+use height_store::{HeightStore, StoreError};
+use live_state::HeightState;
+use std::alloc::Global;
+use whole_state::checkpoint;
+
+/// Publishes a state at its height, and answers its root hash.
+pub fn publish<D: Disk>(
+    alloc: Global,
+    state: &HeightState,
+    store: &mut HeightStore,
+    disk: &mut D,
+) -> Result<Hash32, StoreError>
+    requires at_most { state.now.height ≤ MAX_HEIGHT }
+    requires above { AllByRecursion (λ h. h.mark.height < state.now.height) store.old.heights }
+    requires few { length store.old.heights < MAX_PUBLISHED }
+    requires numbers { store.old.given ≤ 2 ^ 60 }
+    requires over { IsTrue D.tells → IsOver store.old (D.view disk.old).state.files }
+    ensures publishes { Publishes D.tells state.now store.old store.new (D.view disk.old) (D.view disk.new) result }
+    ensures cause { StoreCause (D.faults disk.old) (D.faults disk.new) result }
+{
+    checkpoint(
+        alloc,
+        store,
+        disk,
+        state.height(),
+        state.system(),
+        state.memories(),
+    )
+}

@@ -1,6 +1,0 @@
-use Rattle.std.proofs.Common.{◌≡◌, take}
-use Rattle.mark_file.proofs.Counting.{pages_in}
-use Rattle.whole_state.proofs.reading.pages_of_memories.Given as goal
-
-abbrev pub invariant-loop-i : goal.invariant-loop-i
-invariant-loop-i l = l.pages.items ≡ pages_in (take l.i l.sys.canisters)
