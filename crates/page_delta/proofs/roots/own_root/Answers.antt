@@ -1,4 +1,4 @@
-use Rattle.std.proofs.Common.{◌≡◌, ◌∙◌, ℕ, sym, ap, arith}
+use Rattle.std.proofs.Common.{◌∙◌, ℕ, sym, ap, arith}
 use Rattle.slab.specs.Slab.{Slab}
 use Rattle.page_pool.specs.Pool.{count_at}
 use Rattle.page_delta.specs.Totals.{total}
