@@ -1,19 +1,17 @@
 -- A tree is built of the entries of another whose stamp is above a bound.
-use Rattle.std.proofs.Common.{◌≡◌, ◌≢◌, inl, inr, ℕ, zero, suc, ◌+◌, ◌-◌, ◌*◌, ◌/◌, ◌%◌, ◌^◌, ◌<◌, ◌≤◌, List, [], ◌++◌, length, get_or, set, replicate, Option, Some, None, IsSome, is_some, count_by, refl, sym, ap, subst, ◌∙◌, arith, length-set}
+use Rattle.std.proofs.Common.{◌≡◌, ◌≢◌, inl, inr, ℕ, zero, suc, ◌+◌, ◌-◌, ◌*◌, ◌/◌, ◌%◌, ◌^◌, ◌<◌, ◌≤◌, List, ◌++◌, length, get_or, set, replicate, Option, Some, None, IsSome, is_some, count_by, refl, sym, ap, subst, ◌∙◌, arith, length-set}
 use Rattle.std.proofs.lemmas.Bool.{cases_eq}
 use Rattle.std.proofs.lemmas.List.{get_or-set_same, get_or-set_other, ext_get_or}
-use Rattle.page_pool.specs.Pool.{Pool, count_at, IsLive}
-use Rattle.page_delta.specs.Totals.{total}
+use Rattle.page_pool.specs.Pool.{Pool, count_at}
 use Rattle.page_delta.specs.Delta.{Pages, pages_after, if_after}
-use Rattle.page_delta.specs.Nodes.{node_at, child_in, entry_in, count_in, level_in, names, once, empty_node, look, part}
-use Rattle.page_delta.specs.Shared.{slots_in, IsShared, KeepsPlaces, SameLooks, Stands, Stays, Shrinks, IsCounted, KeepsBytes}
+use Rattle.page_delta.specs.Nodes.{node_at, child_in, entry_in, level_in, names, once, empty_node, look, part}
+use Rattle.page_delta.specs.Shared.{IsShared, KeepsPlaces, SameLooks, Stands, Stays, Shrinks, IsCounted, KeepsBytes}
 use Rattle.page_delta.specs.Roots.{KeepsTree, HasNewer, node_of, size_of, hung}
-use Rattle.page_delta.specs.declared.entry.Entry.{Entry}
 use Rattle.page_delta.specs.declared.node.Node.{Node}
 use Rattle.page_delta.specs.declared.node.Node.TheVariants.{Branch}
 use Rattle.page_delta.specs.declared.roots.Root.{Root}
 use Rattle.page_delta.proofs.Sums.{total-place}
-use Rattle.page_delta.proofs.Sharing.{some-none, not-some, cases-option, some-live, named, fresh-not-named, one-same, one-other, shared-as, shared-link}
+use Rattle.page_delta.proofs.Sharing.{some-none, not-some, some-live, named, fresh-not-named, one-same, one-other, shared-as, shared-link}
 use Rattle.page_delta.proofs.Looks.{look-agree, look-option, child-live}
 use Rattle.page_delta.proofs.Counting.{other-test}
 use Rattle.page_delta.proofs.Pools.{keeps-trans}

@@ -1,12 +1,10 @@
 -- An entry comes to a page, along nodes that only this tree has.
-use Rattle.std.proofs.Common.{◌≡◌, ◌≢◌, inl, inr, ℕ, ◌+◌, ◌/◌, ◌%◌, ◌^◌, ◌<◌, ◌≤◌, List, length, get_or, set, Option, Some, None, IsSome, refl, sym, ap, subst, ◌∙◌, arith}
+use Rattle.std.proofs.Common.{◌≡◌, ◌≢◌, inl, inr, ℕ, ◌+◌, ◌/◌, ◌%◌, ◌<◌, List, length, get_or, set, Option, Some, None, IsSome, refl, sym, ap, subst, ◌∙◌, arith}
 use Rattle.std.proofs.lemmas.Bool.{cases_eq}
-use Rattle.slab.specs.Slab.{Slab, slab_len}
-use Rattle.page_pool.specs.Pool.{Pool, count_at}
 use Rattle.page_delta.specs.Totals.{total}
 use Rattle.page_delta.specs.Delta.{uses}
 use Rattle.page_delta.specs.Nodes.{node_at, child_in, entry_in, count_in, level_in, names, look, with_entry}
-use Rattle.page_delta.specs.Shared.{IsShared, IsPlaced, StandsAt, KeepsPlaces, IsCounted, Stands, KeepsLevels, Owned, Differs}
+use Rattle.page_delta.specs.Shared.{IsShared, IsPlaced, StandsAt, KeepsPlaces, KeepsLevels, Owned, Differs}
 use Rattle.page_delta.specs.declared.entry.Entry.{Entry}
 use Rattle.page_delta.specs.declared.node.Node.{Node}
 use Rattle.page_delta.specs.declared.node.Node.TheVariants.{Branch, Leaf}

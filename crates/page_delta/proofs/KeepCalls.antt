@@ -1,11 +1,11 @@
 -- What keeping the entries of a map does to what a contract sees.
-use Rattle.std.proofs.Common.{◌≡◌, ◌≢◌, inl, inr, ℕ, ◌+◌, ◌^◌, ◌<◌, ◌≤◌, List, length, Option, Some, None, Result, Ok, Err, OnErr, is_some, count_by, refl, sym, ap, ◌∙◌, arith}
+use Rattle.std.proofs.Common.{◌≡◌, inl, inr, ℕ, ◌+◌, ◌^◌, ◌≤◌, List, length, Option, Some, None, Result, Ok, Err, OnErr, is_some, count_by, refl, sym, ap, ◌∙◌, arith}
 use Rattle.std.proofs.lemmas.Bool.{cases_lt}
 use Rattle.page_pool.specs.Pool.{Pool, count_at}
 use Rattle.page_delta.specs.Totals.{total}
 use Rattle.page_delta.specs.Delta.{Pages, find, pages_in, pages_after, if_after, Keeps, SameReads}
-use Rattle.page_delta.specs.Nodes.{node_at, once, look, part, pages_below}
-use Rattle.page_delta.specs.Shared.{slots_in, IsShared, KeepsBytes}
+use Rattle.page_delta.specs.Nodes.{once, pages_below}
+use Rattle.page_delta.specs.Shared.{IsShared, KeepsBytes}
 use Rattle.page_delta.specs.Roots.{root_at, map_below, roots, IsKept, IsHeld, KeepsTree, HasNewer, KeepsRoot}
 use Rattle.page_delta.specs.declared.node.Node.{Node}
 use Rattle.page_delta.specs.declared.roots.Root.{Root}

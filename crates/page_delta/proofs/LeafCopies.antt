@@ -1,15 +1,15 @@
 -- A leaf has the entries of another whose stamp is above a bound.
-use Rattle.std.proofs.Common.{◌≡◌, ◌≢◌, inl, inr, ℕ, suc, ◌+◌, ◌*◌, ◌%◌, ◌^◌, ◌<◌, ◌≤◌, List, [], ◌∷◌, ◌++◌, length, get_or, set, replicate, Bool, true, false, nat_lt, cond, Option, Some, None, IsSome, is_some, count_by, refl, sym, ap, subst, ◌∙◌, arith, length-set}
+use Rattle.std.proofs.Common.{◌≡◌, ◌≢◌, inl, inr, ℕ, ◌+◌, ◌*◌, ◌%◌, ◌^◌, ◌<◌, ◌≤◌, List, [], ◌∷◌, length, get_or, set, replicate, Bool, true, false, nat_lt, cond, Option, Some, None, is_some, count_by, refl, sym, ap, ◌∙◌, arith, length-set}
 use Rattle.std.proofs.lemmas.Bool.{cases_eq, cases_lt, ltb-true, lt-ltb}
 use Rattle.std.proofs.lemmas.List.{get_or-set_same, get_or-set_other}
 use Rattle.page_pool.specs.Pool.{Pool, count_at, IsLive}
 use Rattle.page_delta.specs.Delta.{Pages, pages_after, if_after}
-use Rattle.page_delta.specs.Nodes.{node_at, child_in, entry_in, level_in, names, once, with_entry, look, leaf_part, part}
-use Rattle.page_delta.specs.Shared.{slots_in, IsShared, KeepsPlaces, IsNewer, Stands, IsCounted, KeepsBytes}
+use Rattle.page_delta.specs.Nodes.{node_at, entry_in, level_in, names, with_entry, look, leaf_part, part}
+use Rattle.page_delta.specs.Shared.{slots_in, KeepsPlaces, IsNewer, Stands, IsCounted, KeepsBytes}
 use Rattle.page_delta.specs.Roots.{KeepsTree, HasNewer}
 use Rattle.page_delta.specs.declared.entry.Entry.{Entry}
 use Rattle.page_delta.specs.declared.node.Node.{Node}
-use Rattle.page_delta.specs.declared.node.Node.TheVariants.{Branch, Leaf}
+use Rattle.page_delta.specs.declared.node.Node.TheVariants.{Leaf}
 use Rattle.page_delta.specs.declared.roots.Root.{Root}
 use Rattle.page_delta.proofs.Sharing.{some-none, shared-as, shared-counts, shared-insert}
 use Rattle.page_delta.proofs.Copies.{entry-live}

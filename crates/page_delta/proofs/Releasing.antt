@@ -1,16 +1,15 @@
 -- A node is counted once less, or removed with what only it has.
 use Rattle.std.proofs.Common.{◌≡◌, ◌≢◌, inl, inr, ℕ, zero, suc, ◌+◌, ◌-◌, ◌<◌, ◌≤◌, List, [], ◌∷◌, length, drop, get_or, set, Option, Some, None, IsSome, is_some, count_by, cond, eqb, false, refl, sym, ap, subst, ◌∙◌, arith}
 use Rattle.std.proofs.lemmas.Bool.{cases_eq, cases_Bool, eq-eqb, eqb-true}
-use Rattle.slab.specs.Slab.{Slab}
 use Rattle.page_delta.specs.Totals.{total}
 use Rattle.page_delta.specs.Delta.{uses}
-use Rattle.page_delta.specs.Nodes.{node_at, child_in, entry_in, count_in, level_in, recounted, once, names, with_node, look}
-use Rattle.page_delta.specs.Shared.{slots_in, IsShared, Shrinks, Grows}
+use Rattle.page_delta.specs.Nodes.{node_at, child_in, entry_in, count_in, level_in, recounted, once, names, look}
+use Rattle.page_delta.specs.Shared.{slots_in, IsShared, Shrinks}
 use Rattle.page_delta.specs.declared.entry.Entry.{Entry}
 use Rattle.page_delta.specs.declared.node.Node.{Node}
 use Rattle.page_delta.specs.declared.node.Node.TheVariants.{Branch, Leaf}
 use Rattle.page_delta.proofs.Sums.{total-has}
-use Rattle.page_delta.proofs.Sharing.{not-some, one-same, one-other, shared-recounted, shared-remove, shared-as, child-recounted, entry-recounted, level-recounted}
+use Rattle.page_delta.proofs.Sharing.{not-some, one-same, one-other, shared-recounted, shared-remove, shared-as}
 use Rattle.page_delta.proofs.Looks.{look-agree, child-live}
 use Rattle.page_delta.proofs.Counting.{recounted-at, recounted-same, len-recounted}
 use Rattle.page_delta.proofs.Inserting.{counted-live}

@@ -1,11 +1,12 @@
 -- Ids made and dropped.
 use Rattle.std.proofs.Common.{◌≡◌, ◌≢◌, inl, inr, ℕ, zero, suc, ◌+◌, ◌/◌, ◌%◌, ◌^◌, ◌≤◌, List, [], length, set, Option, Some, None, IsSome, is_some, count_by, cond, eqb, refl, sym, ap, subst, ◌∙◌, arith}
 use Rattle.std.proofs.lemmas.Bool.{cases_eq, eq-eqb}
+use Rattle.page_pool.specs.Pool.{Pool, count_at}
 use Rattle.page_delta.specs.Totals.{total}
 use Rattle.page_delta.specs.Delta.{Pages}
 use Rattle.page_delta.specs.Nodes.{node_at, child_in, count_in, level_in, names, recounted, empty_node, look, pairs_from, consed, pages_below}
 use Rattle.page_delta.specs.Shared.{slots_in, IsShared, KeepsPlaces, SameLooks, Shrinks}
-use Rattle.page_delta.specs.Roots.{root_at, map_below, roots, IsKept, AddsRoot}
+use Rattle.page_delta.specs.Roots.{root_at, map_below, roots, IsKept, IsHeld, AddsRoot}
 use Rattle.page_delta.specs.declared.entry.Entry.{Entry}
 use Rattle.page_delta.specs.declared.node.Node.{Node}
 use Rattle.page_delta.specs.declared.roots.Root.{Root}
@@ -17,7 +18,7 @@ use Rattle.page_delta.proofs.Places.{placed-next, places-put, places-recounted, 
 use Rattle.page_delta.proofs.Owning.{IsEmpty, is_empty, names-child}
 use Rattle.page_delta.proofs.Inserting.{high-live, counted-live}
 use Rattle.page_delta.proofs.Releasing.{looks-shrink}
-use Rattle.page_delta.proofs.Rooted.{Follows, follows-map, kept-live, kept-next, pages-same, shared-self, some-eq}
+use Rattle.page_delta.proofs.Rooted.{Follows, follows-map, kept-live, kept-next, pages-same, shared-self, shared-with, some-eq}
 
 pairs-none : (n start : ℕ) (f : ℕ → Option Entry) → ((k : ℕ) → f k ≡ None) → pairs_from n start f ≡ []
 unfolding pairs_from
@@ -249,6 +250,11 @@ module _ (ids ids' : List (Option Root)) (id : ℕ) (root : Root) (was : root_at
       let a : roots m (root_at ids id) ≡ one root.node m = ap (roots m) was in
       let b : roots m (root_at ids' id) ≡ 0 = ap (roots m) gone in
       omega arith
+
+  pub given-dropped : (xs : List (Option Node)) (pool : Pool) → IsKept xs ids → IsHeld xs pool (λ s. 0) → IsShared xs (count_at pool) (λ m. total (roots m) ids' + one root.node m) (λ s. 0)
+  given-dropped xs pool k h =
+      shared-as xs (count_at pool) (λ m. total (roots m) ids) (λ m. total (roots m) ids' + one root.node m) (λ s. 0) (λ s. 0)
+      (shared-with xs ids pool (λ s. 0) k h) dropped-total (λ slot. refl)
 
   pub dropped-len : count_by is_some ids' ≤ count_by is_some ids
   dropped-len =

@@ -1,7 +1,6 @@
-use Rattle.std.proofs.Common.{◌≡◌, ◌∙◌, ◌<◌, ◌≤◌, ◌+◌, List, Option, Some, refl, sym, ap, subst, arith}
+use Rattle.std.proofs.Common.{◌∙◌, ◌<◌, ◌≤◌, ◌+◌, Some, refl, sym, ap, arith}
 use Rattle.page_pool.specs.Pool.{count_at}
-use Rattle.page_delta.specs.Nodes.{node_at, child_in, level_in}
-use Rattle.page_delta.specs.declared.node.Node.{Node}
+use Rattle.page_delta.specs.Nodes.{child_in}
 use Rattle.page_delta.proofs.RootCalls.{puts-empty}
 use Rattle.page_delta.proofs.Looks.{child-live}
 use Rattle.page_delta.proofs.Walks.{part-few}

@@ -1,4 +1,4 @@
-use Rattle.std.proofs.Common.{◌≡◌, ◌∙◌, List, Option, Some, None, refl, sym, ap, arith}
+use Rattle.std.proofs.Common.{◌∙◌, List, Option, refl, sym, ap, arith}
 use Rattle.page_delta.specs.Nodes.{node_at}
 use Rattle.page_delta.specs.declared.node.Node.{Node}
 use Rattle.page_delta.proofs.LeafCopies.{newer-live, newer-none, newer-some, tree-newer}

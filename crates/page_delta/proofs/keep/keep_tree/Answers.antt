@@ -1,7 +1,5 @@
-use Rattle.std.proofs.Common.{◌≡◌, ◌∙◌, List, Option, Some, None, refl, sym, ap, subst, arith}
-use Rattle.page_delta.specs.Nodes.{node_at}
+use Rattle.std.proofs.Common.{Option, Some, refl, sym, subst, arith}
 use Rattle.page_delta.specs.Roots.{KeepsTree, HasNewer, node_of}
-use Rattle.page_delta.specs.declared.node.Node.{Node}
 use Rattle.page_delta.specs.declared.roots.Root.{Root}
 use Rattle.page_delta.proofs.Owning.{IsEmpty, is_empty}
 use Rattle.page_delta.proofs.RootCalls.{puts-empty}

@@ -1,6 +1,6 @@
-use Rattle.std.proofs.Common.{◌≡◌, ◌*◌, ◌+◌, ◌-◌, ◌^◌, ◌<◌, ◌≤◌, ◌++◌, ◌∙◌, List, ℕ, Option, Some, OnOk, sym, ap, subst, arith}
+use Rattle.std.proofs.Common.{◌≡◌, ◌*◌, ◌+◌, ◌-◌, ◌<◌, ◌≤◌, ◌++◌, ◌∙◌, List, ℕ, Option, Some, OnOk, sym, ap, subst, arith}
 use Rattle.page_delta.specs.Delta.{Pages, pages_after}
-use Rattle.page_delta.specs.Nodes.{node_at, child_in, level_in, leaf_part, part}
+use Rattle.page_delta.specs.Nodes.{node_at, child_in, leaf_part, part}
 use Rattle.page_delta.specs.declared.node.Node.{Node}
 use Rattle.page_delta.proofs.Looks.{child-live}
 use Rattle.page_delta.proofs.Walks.{part-begins, part-after, part-pass, leaf-whole, found-more, child-fits}

@@ -1,4 +1,4 @@
-use Rattle.std.proofs.Common.{◌*◌, ◌+◌, ◌++◌, ◌∷◌, [], ◌∙◌, List, ℕ, Some, refl, sym, ap, arith}
+use Rattle.std.proofs.Common.{◌*◌, ◌+◌, ◌++◌, ◌∷◌, [], ◌∙◌, List, ℕ, Some, sym, ap}
 use Rattle.page_delta.specs.Delta.{pages_after}
 use Rattle.page_delta.specs.Nodes.{leaf_part}
 use Rattle.page_delta.proofs.Walks.{leaf-begins, leaf-none, leaf-old, leaf-new, found-more}

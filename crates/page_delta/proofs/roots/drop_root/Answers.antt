@@ -1,61 +1,63 @@
-use Rattle.std.proofs.Common.{◌+◌, ℕ, Some, refl, arith}
+use Rattle.std.proofs.Common.{ℕ, arith}
 use Rattle.page_pool.specs.Pool.{count_at}
 use Rattle.page_delta.specs.Totals.{total}
-use Rattle.page_delta.specs.Nodes.{once}
 use Rattle.page_delta.specs.Roots.{roots}
-use Rattle.page_delta.proofs.Sharing.{shared-as}
-use Rattle.page_delta.proofs.Rooted.{shared-with, held-of}
-use Rattle.page_delta.proofs.RootCalls.{dropped-total, kept-dropped, maps-dropped, none-held}
+use Rattle.page_delta.proofs.Rooted.{held-of}
+use Rattle.page_delta.proofs.RootCalls.{given-dropped, kept-dropped, maps-dropped, none-held}
 use Rattle.page_delta.proofs.roots.drop_root.Goals as goal
 
 pub release-requires-clause-shared : goal.release-requires-clause-shared
 release-requires-clause-shared c =
     let rest = c.remove-root.ensures.updates.others in
     let gone = c.remove-root.ensures.updates.changed in
-    let hands = λ (m : ℕ). total (roots m) c.remove-root.new.self.slots in
+    let hands : ℕ → ℕ = λ m. total (roots m) c.remove-root.new.self.slots in
     let none : ℕ → ℕ = λ slot. 0 in
-    let before = shared-with c.args.nodes.now.slots c.args.ids.now.slots c.args.pool.now none c.requires.kept c.requires.held in
-    let given = shared-as c.args.nodes.now.slots (count_at c.args.pool.now) (λ m. total (roots m) c.args.ids.now.slots) (λ m. hands m + once m (Some c.remove-root.result.node)) none none before (λ m. dropped-total c.args.ids.now.slots c.remove-root.new.self.slots c.args.id c.remove-root.result c.remove-root.ensures.value gone rest m) (λ slot. refl) in
+    let given = given-dropped c.args.ids.now.slots c.remove-root.new.self.slots c.args.id c.remove-root.result c.remove-root.ensures.value
+    gone rest c.args.nodes.now.slots c.args.pool.now c.requires.kept c.requires.held in
     (hands, none, given)
 
 pub returns-clause-kept : goal.returns-clause-kept
 returns-clause-kept c =
     let rest = c.remove-root.ensures.updates.others in
     let gone = c.remove-root.ensures.updates.changed in
-    let hands = λ (m : ℕ). total (roots m) c.remove-root.new.self.slots in
+    let hands : ℕ → ℕ = λ m. total (roots m) c.remove-root.new.self.slots in
     let none : ℕ → ℕ = λ slot. 0 in
-    let before = shared-with c.args.nodes.now.slots c.args.ids.now.slots c.args.pool.now none c.requires.kept c.requires.held in
-    let given = shared-as c.args.nodes.now.slots (count_at c.args.pool.now) (λ m. total (roots m) c.args.ids.now.slots) (λ m. hands m + once m (Some c.remove-root.result.node)) none none before (λ m. dropped-total c.args.ids.now.slots c.remove-root.new.self.slots c.args.id c.remove-root.result c.remove-root.ensures.value gone rest m) (λ slot. refl) in
-    kept-dropped c.args.ids.now.slots c.remove-root.new.self.slots c.args.id c.remove-root.result c.remove-root.ensures.value gone rest c.args.nodes.now.slots c.release.new.nodes.slots c.requires.kept c.release.ensures.shrinks (count_at c.release.new.pool) none (c.release.ensures.shared hands none given) (omega (arith, c.release.ensures.grows.len, c.requires.kept.few_nodes))
+    let given = given-dropped c.args.ids.now.slots c.remove-root.new.self.slots c.args.id c.remove-root.result c.remove-root.ensures.value
+    gone rest c.args.nodes.now.slots c.args.pool.now c.requires.kept c.requires.held in
+    kept-dropped c.args.ids.now.slots c.remove-root.new.self.slots c.args.id c.remove-root.result c.remove-root.ensures.value gone rest
+    c.args.nodes.now.slots c.release.new.nodes.slots c.requires.kept c.release.ensures.shrinks (count_at c.release.new.pool) none
+    (c.release.ensures.shared hands none given) (omega (arith, c.release.ensures.grows.len, c.requires.kept.few_nodes))
 
 pub returns-clause-held : goal.returns-clause-held
 returns-clause-held c =
     let rest = c.remove-root.ensures.updates.others in
     let gone = c.remove-root.ensures.updates.changed in
-    let hands = λ (m : ℕ). total (roots m) c.remove-root.new.self.slots in
+    let hands : ℕ → ℕ = λ m. total (roots m) c.remove-root.new.self.slots in
     let none : ℕ → ℕ = λ slot. 0 in
-    let before = shared-with c.args.nodes.now.slots c.args.ids.now.slots c.args.pool.now none c.requires.kept c.requires.held in
-    let given = shared-as c.args.nodes.now.slots (count_at c.args.pool.now) (λ m. total (roots m) c.args.ids.now.slots) (λ m. hands m + once m (Some c.remove-root.result.node)) none none before (λ m. dropped-total c.args.ids.now.slots c.remove-root.new.self.slots c.args.id c.remove-root.result c.remove-root.ensures.value gone rest m) (λ slot. refl) in
+    let given = given-dropped c.args.ids.now.slots c.remove-root.new.self.slots c.args.id c.remove-root.result c.remove-root.ensures.value
+    gone rest c.args.nodes.now.slots c.args.pool.now c.requires.kept c.requires.held in
     held-of c.release.new.nodes.slots c.release.new.pool hands none (c.release.ensures.shared hands none given) c.release.ensures.counted
 
 pub returns-clause-others : goal.returns-clause-others
 returns-clause-others c =
     let rest = c.remove-root.ensures.updates.others in
     let gone = c.remove-root.ensures.updates.changed in
-    let hands = λ (m : ℕ). total (roots m) c.remove-root.new.self.slots in
+    let hands : ℕ → ℕ = λ m. total (roots m) c.remove-root.new.self.slots in
     let none : ℕ → ℕ = λ slot. 0 in
-    let before = shared-with c.args.nodes.now.slots c.args.ids.now.slots c.args.pool.now none c.requires.kept c.requires.held in
-    let given = shared-as c.args.nodes.now.slots (count_at c.args.pool.now) (λ m. total (roots m) c.args.ids.now.slots) (λ m. hands m + once m (Some c.remove-root.result.node)) none none before (λ m. dropped-total c.args.ids.now.slots c.remove-root.new.self.slots c.args.id c.remove-root.result c.remove-root.ensures.value gone rest m) (λ slot. refl) in
-    maps-dropped c.args.ids.now.slots c.remove-root.new.self.slots c.args.id c.remove-root.result c.remove-root.ensures.value gone rest c.args.nodes.now.slots c.release.new.nodes.slots c.requires.kept c.release.ensures.shrinks (count_at c.release.new.pool) none (c.release.ensures.shared hands none given)
+    let given = given-dropped c.args.ids.now.slots c.remove-root.new.self.slots c.args.id c.remove-root.result c.remove-root.ensures.value
+    gone rest c.args.nodes.now.slots c.args.pool.now c.requires.kept c.requires.held in
+    maps-dropped c.args.ids.now.slots c.remove-root.new.self.slots c.args.id c.remove-root.result c.remove-root.ensures.value gone rest
+    c.args.nodes.now.slots c.release.new.nodes.slots c.requires.kept c.release.ensures.shrinks (count_at c.release.new.pool) none
+    (c.release.ensures.shared hands none given)
 
 pub returns-clause-none : goal.returns-clause-none
 returns-clause-none c = λ dead slot.
     let rest = c.remove-root.ensures.updates.others in
     let gone = c.remove-root.ensures.updates.changed in
-    let hands = λ (m : ℕ). total (roots m) c.remove-root.new.self.slots in
+    let hands : ℕ → ℕ = λ m. total (roots m) c.remove-root.new.self.slots in
     let none : ℕ → ℕ = λ slot. 0 in
-    let before = shared-with c.args.nodes.now.slots c.args.ids.now.slots c.args.pool.now none c.requires.kept c.requires.held in
-    let given = shared-as c.args.nodes.now.slots (count_at c.args.pool.now) (λ m. total (roots m) c.args.ids.now.slots) (λ m. hands m + once m (Some c.remove-root.result.node)) none none before (λ m. dropped-total c.args.ids.now.slots c.remove-root.new.self.slots c.args.id c.remove-root.result c.remove-root.ensures.value gone rest m) (λ slot. refl) in
+    let given = given-dropped c.args.ids.now.slots c.remove-root.new.self.slots c.args.id c.remove-root.result c.remove-root.ensures.value
+    gone rest c.args.nodes.now.slots c.args.pool.now c.requires.kept c.requires.held in
     let s = c.release.ensures.shared hands none given in
     let held = s.held slot in
     let zero_is = none-held c.release.new.nodes.slots c.remove-root.new.self.slots (count_at c.release.new.pool) none s dead slot in

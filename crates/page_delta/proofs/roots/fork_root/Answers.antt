@@ -1,4 +1,4 @@
-use Rattle.std.proofs.Common.{◌≡◌, ◌∙◌, ℕ, ap, subst, arith}
+use Rattle.std.proofs.Common.{◌≡◌, ℕ, ap, subst, arith}
 use Rattle.slab.specs.Slab.{Slab}
 use Rattle.page_delta.specs.Totals.{total}
 use Rattle.page_delta.specs.Nodes.{pages_below}

@@ -1,4 +1,4 @@
-use Rattle.std.proofs.Common.{◌%◌, ◌∙◌, None, refl, sym, ap, subst}
+use Rattle.std.proofs.Common.{◌%◌, ◌∙◌, sym, ap, subst}
 use Rattle.page_delta.specs.Nodes.{entry_in}
 use Rattle.page_delta.specs.Shared.{IsOwnLeaf}
 use Rattle.page_delta.specs.declared.roots.Root.{Root}

@@ -1,4 +1,3 @@
-use Rattle.std.proofs.Common.{ℕ}
 use Rattle.page_delta.specs.Totals.{total}
 use Rattle.page_delta.specs.Shared.{slots_in}
 use Rattle.page_delta.specs.Roots.{roots}
