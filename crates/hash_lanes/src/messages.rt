@@ -9,7 +9,6 @@ ghost use Rattle.hash_lanes.specs.Messages.{last_count};
 
 use crate::blocks::absorb;
 use crate::padding::{FRONT, NAME_SIZE, first_block, last_blocks, last_count};
-use hash_domain::Hash32;
 use std::simd::u32x8;
 
 // Where the rows of eight first blocks begin, and those of eight pairs of last blocks.
@@ -64,7 +63,7 @@ fn last_rows(bytes: &[u8], starts: &[usize; 8], size: usize, done: usize) -> [u8
 }
 
 /// The hash values of the messages of eight chunks of `size` bytes, which begin at `starts`.
-pub(crate) fn hash_chunks(bytes: &[u8], starts: &[usize; 8], size: usize) -> [u32x8; 8]
+pub fn hash_chunks(bytes: &[u8], starts: &[usize; 8], size: usize) -> [u32x8; 8]
     requires inside { AreInside starts.now size bytes.now }
     requires size { FRONT ≤ size }
     ensures { (j : ℕ) → j < 8 → lane j result ≡ final_hash initial_hash_256 (chunk_string (chunk_at bytes.now starts.now size j)) }
@@ -81,7 +80,7 @@ pub(crate) fn hash_chunks(bytes: &[u8], starts: &[usize; 8], size: usize) -> [u3
 }
 
 /// The digest of the hash value in lane `j`.
-pub(crate) fn digest(state: &[u32x8; 8], j: usize) -> Hash32
+pub fn digest(state: &[u32x8; 8], j: usize) -> [u8; 32]
     requires { j < 8 }
     ensures { result ≡ digest_bytes (lane j state.now) 8 }
 {
@@ -90,5 +89,5 @@ pub(crate) fn digest(state: &[u32x8; 8], j: usize) -> Hash32
         let word = state[i].to_array()[j];
         hash[4 * i..4 * i + 4].copy_from_slice(&word.to_be_bytes());
     }
-    Hash32(hash)
+    hash
 }
