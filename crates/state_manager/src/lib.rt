@@ -1,7 +1,9 @@
 //! The manager of the live state, those in memory and the published ones: applies the commands of a script, one at a time.
 #![tactic(auto)]
 
+mod asking;
 mod checks;
+mod heights;
 mod kept;
 mod manager;
 mod publishing;

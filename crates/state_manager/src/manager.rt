@@ -1,8 +1,7 @@
 //! The manager of the live state, those in memory and the published ones.
 
-ghost use Rattle.std.specs.Prelude.{◌≡◌, ◌↔◌, ◌≤◌, ◌+◌, ◌^◌, ℕ, List, true, false, Some, None, Ok, Err, length, map, is_some, IsTrue, IsSome, IsErrOf, IfOk, IfErr, OnOk};
+ghost use Rattle.std.specs.Prelude.{◌≡◌, ◌↔◌, ◌≤◌, ◌+◌, ◌^◌, ℕ, List, true, false, Some, None, Err, map, is_some, IsTrue, IsSome, IsErrOf, IfOk, IfErr, OnOk};
 ghost use Rattle.std.specs.List.{last_or};
-ghost use Rattle.std.specs.Option.{option_copied};
 ghost use Rattle.store_spec.specs.Image.{Published, StandsFor, Opens};
 ghost use Rattle.disk_model.specs.declared.name.Kind.TheVariants as kind;
 ghost use Rattle.disk_model.specs.declared.name.Name.{Name};
@@ -20,34 +19,27 @@ ghost use Rattle.script_text.specs.Commands.{FitsForm};
 ghost use Rattle.machine_spec.specs.Costs.{appends, reads};
 ghost use Rattle.machine_spec.specs.Machine.{Machine, start};
 ghost use Rattle.machine_spec.specs.Step.{step};
-ghost use Rattle.state_manager.specs.Causes.{HasCause, OpensByCause, IsBadFile, purge_reply};
-ghost use Rattle.state_manager.specs.Kept.{Keeps, KeepsStates, Performs, Applies, DoesLine, held_at, published_height, needs_disk, newest_bytes};
+ghost use Rattle.state_manager.specs.Causes.{HasCause, OpensByCause, IsBadFile};
+ghost use Rattle.state_manager.specs.Kept.{Keeps, KeepsStates, Performs, Applies, DoesLine, needs_disk, newest_bytes};
 
 use crate::checks::check_witness;
-use crate::kept::{drop_height, find_height, heights_of, keep_tree_at};
-use crate::publishing::publish;
 use crate::stop::{OpenError, Stop};
-use crate::stored::{
-    begin, count_published, is_low, is_newest, is_published, load, published_heights,
-    read_published, root_published, tree_published, witness_published,
-};
+use crate::stored::begin;
 use byte_codec::NoMemory;
 use disk_model::Disk;
-use format_spec::{MAX_HEIGHT, MAX_HEIGHTS, MAX_PUBLISHED};
 use height_store::{HeightStore, StoreError};
 use live_state::HeightState;
-use script_text::{Command, HeightOrLive, Refusal, Reply};
+use script_text::{Command, Reply};
 use std::alloc::Global;
 use std::marker::Model;
-use sys_state::{CanisterId, Mem, Path};
 
 /// The live state, those in memory and the published ones, and the commands on them.
 #[derive(Drop)]
 pub struct Manager {
-    live: HeightState,
+    pub(crate) live: HeightState,
     // The states in memory, ascending by height.
-    memory: Vec<HeightState>,
-    store: HeightStore,
+    pub(crate) memory: Vec<HeightState>,
+    pub(crate) store: HeightStore,
     stopped: Option<Stop>,
 }
 
@@ -103,249 +95,6 @@ impl Manager {
             store,
             stopped: None,
         })
-    }
-
-    // The state in memory that a line asks about.
-    fn state_at(&self, at: HeightOrLive) -> Option<&HeightState>
-        ensures { option_copied result ≡ held_at self.now at }
-    {
-        match at {
-            HeightOrLive::Live => Some(&self.live),
-            HeightOrLive::Height(height) => find_height(&self.memory, height),
-        }
-    }
-
-    // Keeps the tree of the state in memory that a line asks about.
-    fn keep_tree(&mut self, alloc: Global, at: HeightOrLive) -> Result<(), NoMemory>
-        ensures { self.new ≡ self.old }
-    {
-        match at {
-            HeightOrLive::Live => self.live.keep_tree(alloc),
-            HeightOrLive::Height(height) => keep_tree_at(alloc, &mut self.memory, height),
-        }
-    }
-
-    // The published height that a line asks about.
-    fn published_at(&self, at: HeightOrLive) -> Option<u64>
-        ensures { result ≡ published_height self.now at }
-    {
-        match at {
-            HeightOrLive::Height(height) if is_published(&self.store, height) => Some(height),
-            _ => None,
-        }
-    }
-
-    // `round`
-    fn round(&mut self, alloc: Global) -> Result<Reply, NoMemory>
-        ensures step { (m : Machine) → KeepsStates self.old m → Performs result self.new m Command.Round }
-        ensures store { self.new.store ≡ self.old.store }
-        ensures same { self.new.stopped ≡ self.old.stopped }
-    {
-        if self.memory.len() >= MAX_HEIGHTS {
-            return Ok(Reply::Refused(Refusal::ManyHeights));
-        }
-        let height = self.live.height();
-        if height > MAX_HEIGHT {
-            return Ok(Reply::Refused(Refusal::HeightLimit));
-        }
-        self.live.keep_tree(alloc)?;
-        let tree = self.live.tree_root(alloc)?;
-        self.memory.push(self.live.copy(alloc)?)?;
-        self.live.advance();
-        Ok(Reply::Round { height, tree })
-    }
-
-    // `forget H`
-    fn forget(&mut self, height: u64) -> Result<Reply, NoMemory>
-        ensures step { (m : Machine) → KeepsStates self.old m → Performs result self.new m (Command.Forget height) }
-        ensures store { self.new.store ≡ self.old.store }
-        ensures same { self.new.stopped ≡ self.old.stopped }
-    {
-        match find_height(&self.memory, height) {
-            Some(_) => {
-                drop_height(&mut self.memory, height);
-                Ok(Reply::Fine)
-            }
-            None => Ok(Reply::Refused(Refusal::NoHeight)),
-        }
-    }
-
-    // `heights`
-    fn heights(&self, alloc: Global) -> Result<Reply, NoMemory>
-        ensures { (m : Machine) → KeepsStates self.now m → Performs result self.now m Command.Heights }
-    {
-        Ok(Reply::Heights {
-            live: self.live.height(),
-            memory: heights_of(alloc, &self.memory)?,
-            published: published_heights(alloc, &self.store)?,
-        })
-    }
-
-    // `read HL ID MEM OFFSET LEN`
-    fn read<D: Disk>(
-        &self,
-        alloc: Global,
-        at: HeightOrLive,
-        id: &CanisterId,
-        mem: Mem,
-        offset: u64,
-        len: u64,
-        disk: &mut D,
-    ) -> Result<Reply, StoreError>
-        requires over { IsTrue D.tells → IsOver self.now.store (D.view disk.old).state.files }
-        ensures line { DoesLine D.tells self.now self.now (D.view disk.old) (D.view disk.new) result (Command.Read at id.now mem offset len) }
-        ensures cause { StoreCause (D.faults disk.old) (D.faults disk.new) result }
-    {
-        if let Some(height) = self.published_at(at) {
-            return read_published(alloc, &self.store, disk, height, id, mem, offset, len);
-        }
-        match self.state_at(at) {
-            Some(state) => Ok(state.read(alloc, id, mem, offset, len)?),
-            None => Ok(Reply::Refused(Refusal::NoHeight)),
-        }
-    }
-
-    // `scratch HL`
-    fn scratch<D: Disk>(
-        &self,
-        alloc: Global,
-        at: HeightOrLive,
-        disk: &mut D,
-    ) -> Result<Reply, StoreError>
-        requires over { IsTrue D.tells → IsOver self.now.store (D.view disk.old).state.files }
-        ensures line { DoesLine D.tells self.now self.now (D.view disk.old) (D.view disk.new) result (Command.Scratch at) }
-        ensures cause { StoreCause (D.faults disk.old) (D.faults disk.new) result }
-    {
-        if let Some(height) = self.published_at(at) {
-            let state = load(alloc, &self.store, disk, height)?;
-            return Ok(Reply::Scratch(state.root(alloc)?));
-        }
-        match self.state_at(at) {
-            Some(state) => Ok(Reply::Scratch(state.root(alloc)?)),
-            None => Ok(Reply::Refused(Refusal::NoHeight)),
-        }
-    }
-
-    // `root HL`
-    fn root(&self, alloc: Global, at: HeightOrLive) -> Result<Reply, NoMemory>
-        ensures { (m : Machine) → KeepsStates self.now m → Performs result self.now m (Command.Root at) }
-    {
-        if let Some(height) = self.published_at(at) {
-            return Ok(root_published(&self.store, height));
-        }
-        match self.state_at(at) {
-            Some(state) => Ok(Reply::Root(state.root(alloc)?)),
-            None => Ok(Reply::Refused(Refusal::NoHeight)),
-        }
-    }
-
-    // `manifest HL`
-    fn count_manifest(&self, alloc: Global, at: HeightOrLive) -> Result<Reply, NoMemory>
-        ensures { (m : Machine) → KeepsStates self.now m → Performs result self.now m (Command.Manifest at) }
-    {
-        if let Some(height) = self.published_at(at) {
-            return Ok(count_published(&self.store, height));
-        }
-        match self.state_at(at) {
-            Some(state) => state.count_manifest(alloc),
-            None => Ok(Reply::Refused(Refusal::NoHeight)),
-        }
-    }
-
-    // `tree HL`
-    fn tree(&mut self, alloc: Global, at: HeightOrLive) -> Result<Reply, NoMemory>
-        ensures step { (m : Machine) → KeepsStates self.old m → Performs result self.new m (Command.Tree at) }
-        ensures same { self.new ≡ self.old }
-    {
-        if let Some(height) = self.published_at(at) {
-            return tree_published(alloc, &self.store, height);
-        }
-        self.keep_tree(alloc, at)?;
-        match self.state_at(at) {
-            Some(state) => Ok(Reply::Tree(state.tree_root(alloc)?)),
-            None => Ok(Reply::Refused(Refusal::NoHeight)),
-        }
-    }
-
-    // `witness HL PATH ..`
-    fn witness(
-        &mut self,
-        alloc: Global,
-        at: HeightOrLive,
-        paths: &[Path],
-    ) -> Result<Reply, NoMemory>
-        requires { 1 ≤ length paths.now }
-        ensures step { (m : Machine) → KeepsStates self.old m → Performs result self.new m (Command.Witness at paths.now) }
-        ensures same { self.new ≡ self.old }
-    {
-        if let Some(height) = self.published_at(at) {
-            return witness_published(alloc, &self.store, height, paths);
-        }
-        self.keep_tree(alloc, at)?;
-        match self.state_at(at) {
-            Some(state) => Ok(Reply::Witness(state.witness(alloc, paths)?)),
-            None => Ok(Reply::Refused(Refusal::NoHeight)),
-        }
-    }
-
-    // `checkpoint`
-    fn checkpoint<D: Disk>(&mut self, alloc: Global, disk: &mut D) -> Result<Reply, StoreError>
-        requires numbers { self.old.store.given ≤ 2 ^ 60 }
-        requires over { IsTrue D.tells → IsOver self.old.store (D.view disk.old).state.files }
-        ensures line { DoesLine D.tells self.old self.new (D.view disk.old) (D.view disk.new) result Command.Checkpoint }
-        ensures cause { StoreCause (D.faults disk.old) (D.faults disk.new) result }
-    {
-        let Some(state) = self.memory.last() else {
-            return Ok(Reply::Refused(Refusal::NoHeight));
-        };
-        let height = state.height();
-        if is_low(&self.store, height) {
-            return Ok(Reply::Refused(Refusal::HeightLow));
-        }
-        if self.store.count() as usize >= MAX_PUBLISHED {
-            return Ok(Reply::Refused(Refusal::ManyMarks));
-        }
-        let root = publish(alloc, state, &mut self.store, disk)?;
-        Ok(Reply::Published { height, root })
-    }
-
-    // `purge H`
-    fn purge<D: Disk>(
-        &mut self,
-        alloc: Global,
-        height: u64,
-        disk: &mut D,
-    ) -> Result<Reply, StoreError>
-        requires over { IsTrue D.tells → IsOver self.old.store (D.view disk.old).state.files }
-        ensures line { DoesLine D.tells self.old self.new (D.view disk.old) (D.view disk.new) result (Command.Purge height) }
-        ensures cause { StoreCause (D.faults disk.old) (D.faults disk.new) result }
-    {
-        match self.store.purge(alloc, height, disk) {
-            Ok(()) => Ok(Reply::Fine),
-            Err(error) => refused_purge(error),
-        }
-    }
-
-    // `reset H`
-    fn reset<D: Disk>(
-        &mut self,
-        alloc: Global,
-        height: u64,
-        disk: &mut D,
-    ) -> Result<Reply, StoreError>
-        requires over { IsTrue D.tells → IsOver self.old.store (D.view disk.old).state.files }
-        ensures line { DoesLine D.tells self.old self.new (D.view disk.old) (D.view disk.new) result (Command.Reset height) }
-        ensures cause { StoreCause (D.faults disk.old) (D.faults disk.new) result }
-    {
-        if !is_published(&self.store, height) {
-            return Ok(Reply::Refused(Refusal::NoHeight));
-        }
-        if !is_newest(&self.store, height) {
-            return Ok(Reply::Refused(Refusal::HeightLow));
-        }
-        self.live = begin(alloc, &self.store, disk)?;
-        self.memory.clear();
-        Ok(Reply::Fine)
     }
 
     // What each line does that needs no disk.
@@ -523,16 +272,4 @@ fn needs_disk(command: &Command) -> bool
             | Command::Purge { .. }
             | Command::Reset { .. }
     )
-}
-
-// The reply to a purge that the store refused; any other error stays.
-fn refused_purge(error: StoreError) -> Result<Reply, StoreError>
-    ensures { result ≡ purge_reply error }
-{
-    match error {
-        StoreError::NoHeight => Ok(Reply::Refused(Refusal::NoHeight)),
-        StoreError::LastHeight => Ok(Reply::Refused(Refusal::LastHeight)),
-        StoreError::BadMark(_) | StoreError::BadPage(_) | StoreError::Fault | StoreError::Memory =>
-            Err(error),
-    }
 }
