@@ -1,6 +1,9 @@
 //! The hashes of chunks, files, pieces, manifests and trees.
 #![tactic(auto)]
 
+mod all_chunks;
+#[cfg(test)]
+mod all_chunks_tests;
 mod chunk_sum;
 mod chunks;
 mod hash32;
@@ -9,6 +12,7 @@ mod manifests;
 mod tests;
 mod trees;
 
+pub use all_chunks::chunk_hashes;
 pub use chunk_sum::ChunkSum;
 pub use chunks::{ChunkHasher, chunk_hash, plain_hash};
 pub use hash32::{Hash32, read_hash};

@@ -4,4 +4,3 @@ pub mod BlockWords
 pub mod Joined
 pub mod Rows
 pub mod Ended
-pub mod Counting

@@ -1,4 +1,3 @@
 pub mod Lanes
 pub mod Starts
 pub mod Messages
-pub mod Counted

@@ -38,7 +38,8 @@ fn load_word(bytes: &[u8], starts: &[usize; 8], at: usize) -> u32x8
 // The words of the block of each message that begins `at` bytes behind its start.
 fn load(bytes: &[u8], starts: &[usize; 8], at: usize) -> [u32x8; 16]
     requires { AreInside starts.now (at + 64) bytes.now }
-    ensures { (j k : ℕ) → j < 8 → k < 16 → slice_index (window j result) k ≡ word_at bytes.now (slice_index starts.now j + (at + 4 * k)) }
+    ensures { (j k : ℕ) → j < 8 → k < 16
+        → slice_index (window j result) k ≡ word_at bytes.now (slice_index starts.now j + (at + 4 * k)) }
 {
     let mut words = [u32x8::splat(0); 16];
     'words: for i in 0..16 {
@@ -56,7 +57,8 @@ pub(crate) fn absorb(
     blocks: usize,
 )
     requires { AreInside starts.now (from + 64 * blocks) bytes.now }
-    ensures { (j : ℕ) → j < 8 → lane j state.new ≡ hash_after (lane j state.old) (drop (slice_index starts.now j + from) bytes.now) blocks }
+    ensures { (j : ℕ) → j < 8
+        → lane j state.new ≡ hash_after (lane j state.old) (drop (slice_index starts.now j + from) bytes.now) blocks }
 {
     'each: for i in 0..blocks {
         let words = load(bytes, starts, from + 64 * i);

@@ -1,13 +1,10 @@
-//! Chunks hashed eight at a time.
+//! Eight chunks hashed side by side.
 #![tactic(auto)]
 
 mod blocks;
-mod chunks;
 mod messages;
 mod padding;
 mod rounds;
-#[cfg(test)]
-mod tests;
 mod words;
 
-pub use chunks::chunk_hashes;
+pub use messages::{digest, hash_chunks};

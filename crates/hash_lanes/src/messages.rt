@@ -8,8 +8,7 @@ ghost use Rattle.hash_lanes.specs.Starts.{AreInside, chunk_at, row};
 ghost use Rattle.hash_lanes.specs.Messages.{last_count};
 
 use crate::blocks::absorb;
-use crate::padding::{first_block, last_blocks, last_count};
-use hash_domain::Hash32;
+use crate::padding::{FRONT, NAME_SIZE, first_block, last_blocks, last_count};
 use std::simd::u32x8;
 
 // Where the rows of eight first blocks begin, and those of eight pairs of last blocks.
@@ -35,8 +34,8 @@ fn initial() -> [u32x8; 8]
 
 // The first block of each message.
 fn first_rows(bytes: &[u8], starts: &[usize; 8]) -> [u8; 512]
-    requires { AreInside starts.now 49 bytes.now }
-    ensures { (j : ℕ) → j < 8 → row 64 j result ≡ chunk_string (chunk_at bytes.now starts.now 49 j) }
+    requires { AreInside starts.now FRONT bytes.now }
+    ensures { (j : ℕ) → j < 8 → row 64 j result ≡ chunk_string (chunk_at bytes.now starts.now FRONT j) }
 {
     let mut rows = [0; 512];
     'lanes: for j in 0..8 {
@@ -49,38 +48,39 @@ fn first_rows(bytes: &[u8], starts: &[usize; 8]) -> [u8; 512]
 // The last blocks of each message, of whose chunk of `size` bytes those behind the first `done` are left.
 fn last_rows(bytes: &[u8], starts: &[usize; 8], size: usize, done: usize) -> [u8; 1024]
     requires inside { AreInside starts.now size bytes.now }
-    requires done { done + (size + 15) % 64 ≡ size }
-    requires size { size + 15 < 2 ^ 64 }
-    ensures { (j : ℕ) → j < 8 → take (64 * last_count (size - done)) (row 128 j result) ≡ drop done (chunk_at bytes.now starts.now size j) ++ padding (size + 15) }
+    requires done { done + (size + NAME_SIZE) % 64 ≡ size }
+    requires size { size + NAME_SIZE < 2 ^ 64 }
+    ensures { (j : ℕ) → j < 8 → take (64 * last_count (size - done)) (row 128 j result)
+        ≡ drop done (chunk_at bytes.now starts.now size j) ++ padding (size + NAME_SIZE) }
 {
     let mut rows = [0; 1024];
     'lanes: for j in 0..8 {
         let left = &bytes[starts[j] + done..starts[j] + size];
-        let blocks = last_blocks(left, size + 15);
+        let blocks = last_blocks(left, size + NAME_SIZE);
         rows[128 * j..128 * j + 128].copy_from_slice(&blocks);
     }
     rows
 }
 
 /// The hash values of the messages of eight chunks of `size` bytes, which begin at `starts`.
-pub(crate) fn hash_chunks(bytes: &[u8], starts: &[usize; 8], size: usize) -> [u32x8; 8]
+pub fn hash_chunks(bytes: &[u8], starts: &[usize; 8], size: usize) -> [u32x8; 8]
     requires inside { AreInside starts.now size bytes.now }
-    requires size { 49 ≤ size }
+    requires size { FRONT ≤ size }
     ensures { (j : ℕ) → j < 8 → lane j result ≡ final_hash initial_hash_256 (chunk_string (chunk_at bytes.now starts.now size j)) }
 {
     let mut state = initial();
     let first = first_rows(bytes, starts);
     absorb(&mut state, &first, &FIRST_ROWS, 0, 1);
-    let blocks = (size - 49) / 64;
-    absorb(&mut state, bytes, starts, 49, blocks);
-    let done = 49 + 64 * blocks;
+    let blocks = (size - FRONT) / 64;
+    absorb(&mut state, bytes, starts, FRONT, blocks);
+    let done = FRONT + 64 * blocks;
     let last = last_rows(bytes, starts, size, done);
     absorb(&mut state, &last, &LAST_ROWS, 0, last_count(size - done));
     state
 }
 
 /// The digest of the hash value in lane `j`.
-pub(crate) fn digest(state: &[u32x8; 8], j: usize) -> Hash32
+pub fn digest(state: &[u32x8; 8], j: usize) -> [u8; 32]
     requires { j < 8 }
     ensures { result ≡ digest_bytes (lane j state.now) 8 }
 {
@@ -89,5 +89,5 @@ pub(crate) fn digest(state: &[u32x8; 8], j: usize) -> Hash32
         let word = state[i].to_array()[j];
         hash[4 * i..4 * i + 4].copy_from_slice(&word.to_be_bytes());
     }
-    Hash32(hash)
+    hash
 }

@@ -6,6 +6,11 @@ ghost use Rattle.sha2.specs.Sha256.{padding};
 ghost use Rattle.format_spec.specs.Hashes.{chunk_string};
 ghost use Rattle.hash_lanes.specs.Messages.{last_count};
 
+/// Bytes of the name before a chunk, with its length.
+pub(crate) const NAME_SIZE: usize = 15;
+/// Bytes of a chunk in the first block of its message, behind the name.
+pub(crate) const FRONT: usize = 49;
+
 // The name before the bytes of a chunk, behind its length.
 const NAME: &[u8] = b"\x0eic-state-chunk";
 
@@ -18,12 +23,12 @@ const PADDING: [u8; 64] = [
 
 /// The first block of the message of the chunk that begins here.
 pub(crate) fn first_block(bytes: &[u8], start: usize) -> [u8; 64]
-    requires { start + 49 ≤ length bytes.now }
-    ensures { result ≡ chunk_string (take 49 (drop start bytes.now)) }
+    requires { start + FRONT ≤ length bytes.now }
+    ensures { result ≡ chunk_string (take FRONT (drop start bytes.now)) }
 {
     let mut block = [0; 64];
-    block[..15].copy_from_slice(NAME);
-    block[15..].copy_from_slice(&bytes[start..start + 49]);
+    block[..NAME_SIZE].copy_from_slice(NAME);
+    block[NAME_SIZE..].copy_from_slice(&bytes[start..start + FRONT]);
     block
 }
 

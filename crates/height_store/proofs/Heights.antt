@@ -1,5 +1,5 @@
 -- A height of a store, and the page files of its memories.
-use Rattle.std.proofs.Common.{◌≡◌, ℕ, ◌<◌, Bool, true, false, List, [], ◌∷◌, length, reverse, get_or, cond, Option, Some, None, is_some, unwrap_or, slice_get, IfSome, IsSomeAnd, inl, inr, sym, ◌∙◌, ap, subst, arith}
+use Rattle.std.proofs.Common.{◌≡◌, ℕ, ◌<◌, Bool, true, false, List, [], ◌∷◌, length, reverse, get_or, cond, Option, Some, None, is_some, slice_get, IfSome, IsSomeAnd, inl, inr, sym, ◌∙◌, ap, subst, arith}
 use Rattle.std.specs.List.{find, AllByRecursion}
 use Rattle.std.proofs.lemmas.Bool.{cases_lt, false≢true}
 use Rattle.std.proofs.lemmas.List.Elements.{All-from_recursion, All-get_or}

@@ -1,5 +1,5 @@
 -- The last of some elements.
-use Rattle.std.proofs.Common.{◌≡◌, ◌-◌, ℕ, suc, List, [], ◌∷◌, length, map, Option, Some, ap, sym, subst, arith}
+use Rattle.std.proofs.Common.{◌≡◌, ◌-◌, ℕ, suc, List, [], ◌∷◌, length, map, Option, Some, ap, subst, arith}
 use Rattle.std.specs.List.{last_or, slice_get}
 
 pub last_is : {X Y : Type 0} (f : X → Y) (o : Option Y) (xs : List X) (x : X) → Some x ≡ slice_get xs (length xs - 1) → Some (f x) ≡ last_or o (map f xs)

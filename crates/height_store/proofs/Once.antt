@@ -1,35 +1,36 @@
 -- Each call of a store has one answer.
-use Rattle.std.proofs.Common.{◌≡◌, ◌⊎◌, ℕ, ◌+◌, ◌<◌, ◌≤◌, Bool, true, false, if◌then◌else◌, List, [], ◌∷◌, ◌++◌, length, map, get_or, nat_eq, Option, Some, None, is_some, slice_get, IfSome, IsSomeAnd, Result, Ok, Err, inl, inr, refl, sym, ◌∙◌, ap, subst, arith, length-append}
+use Rattle.std.proofs.Common.{◌≡◌, ◌⊎◌, ℕ, ◌<◌, ◌≤◌, Bool, true, false, if◌then◌else◌, List, [], ◌∷◌, ◌++◌, length, map, get_or, nat_eq, Option, Some, None, is_some, slice_get, IfSome, IsSomeAnd, Result, Ok, Err, inl, inr, refl, sym, ◌∙◌, ap, subst, arith, length-append}
 use Rattle.std.specs.List.{AllByRecursion, list_any}
 use Rattle.std.specs.List.Sorted.{IsStrictlyIncreasing}
 use Rattle.std.proofs.lemmas.Bool.{cases_Bool, cases_lt, false≢true}
 use Rattle.std.proofs.lemmas.List.{length-map, get_or_default}
-use Rattle.std.proofs.lemmas.Option.{slice_get-get_or}
+use Rattle.std.proofs.lemmas.Option.{slice_get-get_or, slice_get_within}
+use Rattle.std.proofs.lemmas.Slice.Zip.{AllZip-long}
 use Rattle.format_spec.specs.Bytes.{Bytes}
 use Rattle.format_spec.specs.declared.limits.TheConstants.{MAX_PUBLISHED}
 use Rattle.format_spec.proofs.Cuts.{heads}
 use Rattle.state_spec.specs.State.{SystemPart}
 use Rattle.state_spec.specs.Files.{memories_in}
 use Rattle.sys_state.specs.System.{part_of}
-use Rattle.store_spec.specs.Mark.{Mark, MarkMemory, IsMark, IsMarkText, mark_text}
+use Rattle.store_spec.specs.Mark.{Mark, MarkMemory, IsMark, mark_text}
 use Rattle.store_spec.proofs.Images.{listing_once}
 use Rattle.store_spec.proofs.Marks.{mark_once}
 use Rattle.disk_model.specs.declared.name.Kind.TheVariants as kind
 use Rattle.disk_model.specs.declared.name.Name.TheVariants as name
-use Rattle.disk_model.specs.Files.{Files, IsListing}
+use Rattle.disk_model.specs.Files.{Files}
 use Rattle.page_file.specs.Files.{NumberedFile, IsKept}
 use Rattle.page_file.proofs.Unique.{same_file}
 use Rattle.layer_stack.specs.Laws.{kept_have_layers}
 use Rattle.mark_file.proofs.Once.{one_system}
 use Rattle.height_store.specs.declared.error.StoreError.{StoreError}
 use Rattle.height_store.specs.declared.error.StoreError.TheVariants as errors
-use Rattle.height_store.specs.Answers.{OpensAs, Purges, ReadsAs}
-use Rattle.height_store.specs.Bad.{SpellsMark, HasGoodMark, AreGoodMarks, IsFirstBadMark, IsFirstBadPage, IsGoodNaming, namings}
+use Rattle.height_store.specs.Answers.{OpensAs, Purges, ReadsAs, RangeIs}
+use Rattle.height_store.specs.Bad.{SpellsMark, HasGoodMark, IsFirstBadMark, IsFirstBadPage, IsGoodNaming, namings}
 use Rattle.height_store.specs.Errors.{IsAnswered}
 use Rattle.height_store.specs.Kept.{HasMark, HasStacks, IsReadable}
 use Rattle.height_store.specs.Refused.{at_split, bad_mark_refused, bad_page_refused}
 use Rattle.height_store.specs.Standing.{some_is}
-use Rattle.height_store.specs.Store.{Store, StoredHeight, IsHeight, Gains, IsNextFree, heights_in, height_at, numbers_of, is_named, is_newest}
+use Rattle.height_store.specs.Store.{Store, StoredHeight, IsHeight, FitsPages, Gains, IsNextFree, heights_in, height_at, numbers_of, is_named, is_newest}
 use Rattle.height_store.proofs.Heights.{has_stack, stack_kept}
 use Rattle.height_store.proofs.Parts.{parts_are_one}
 
@@ -261,3 +262,13 @@ page_once files hs height place page h one other readable good found within a b 
     let kept = stack_kept files hs height place h stack (sym found) readable.stacks lt (get_or_default h.stacks place [] stack lt) in
     let layers = kept_have_layers files stack kept in
     a h stack layers.0 found there layers.1 ∙ sym (b h stack layers.0 found there layers.1)
+
+pub range_once : (files : Files) (hs : List StoredHeight) (height place offset len : ℕ) (h : StoredHeight) (m : Bytes × ℕ) (one other : Bytes) → IsReadable hs files → IsHeight h → height_at hs height ≡ Some h
+    → slice_get (memories_in (part_of h.system)) place ≡ Some m → RangeIs files hs height place offset len one → RangeIs files hs height place offset len other → one ≡ other
+range_once files hs height place offset len h m one other readable good found memory a b =
+    let lt : place < length h.stacks = omega (arith, slice_get_within (memories_in (part_of h.system)) place m memory, AllZip-long FitsPages h.stacks (memories_in (part_of h.system)) good.parts.fits) in
+    let stack : List NumberedFile = get_or h.stacks place [] in
+    let there = slice_get-get_or h.stacks place [] lt in
+    let kept = stack_kept files hs height place h stack (sym found) readable.stacks lt (get_or_default h.stacks place [] stack lt) in
+    let layers = kept_have_layers files stack kept in
+    a h m stack layers.0 found memory there layers.1 ∙ sym (b h m stack layers.0 found memory there layers.1)

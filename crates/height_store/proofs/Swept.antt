@@ -21,7 +21,7 @@ use Rattle.disk_model.specs.State.{IsSettled, IsThere}
 use Rattle.disk_model.specs.declared.disk.DiskError.TheVariants.{Fault, Memory}
 use Rattle.disk_model.specs.Call.{Call, remove, length_given, appended_after}
 use Rattle.disk_model.specs.View.{DiskView, Does}
-use Rattle.disk_model.specs.Frame.{TouchesOnly, touches_call, touches_then, touches_none, touches_wider}
+use Rattle.disk_model.specs.Frame.{TouchesOnly, touches_call, touches_then, touches_wider}
 use Rattle.disk_model.specs.Laws.{IsSound}
 use Rattle.height_store.specs.Opened.{is_swept, is_number_swept}
 

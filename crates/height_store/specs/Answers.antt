@@ -1,9 +1,11 @@
 -- What the calls of a store say of their answers, by which each is one.
-use Rattle.std.specs.Prelude.{◌≡◌, ◌↔◌, ℕ, false, List, Result, Ok, Err, reverse, slice_get, is_some, nat_eq, Some, IsTrue, IfOk, OnOk, IsErrOf}
+use Rattle.std.specs.Prelude.{◌≡◌, ◌↔◌, ℕ, false, List, Result, Err, reverse, take, drop, slice_get, is_some, nat_eq, Some, IsTrue, IfOk, OnOk, IsErrOf}
 use Rattle.std.specs.List.{AllByRecursion, list_any}
 use Rattle.std.specs.List.Sorted.{IsStrictlyIncreasing}
 use Rattle.format_spec.specs.Bytes.{Bytes}
-use Rattle.page_spec.specs.Layers.{Layer, page_from}
+use Rattle.state_spec.specs.Files.{memories_in}
+use Rattle.sys_state.specs.System.{part_of}
+use Rattle.page_spec.specs.Layers.{Layer, page_from, memory_from}
 use Rattle.store_spec.specs.Image.{Opens}
 use Rattle.disk_model.specs.Files.{Files}
 use Rattle.page_file.specs.Files.{NumberedFile}
@@ -38,3 +40,10 @@ abbrev pub ReadsAs : Files → List StoredHeight → ℕ → ℕ → ℕ → Byt
 ReadsAs files hs height place page bytes =
     (h : StoredHeight) (stack : List NumberedFile) (layers : List Layer) → height_at hs height ≡ Some h → slice_get h.stacks place ≡ Some stack
     → AreLayers files stack layers → bytes ≡ page_from (reverse layers) page
+
+-- `read_bytes` answers these bytes of a memory at a place of a height: those that the page files have, whatever the hashes in the mark are
+abbrev pub RangeIs : Files → List StoredHeight → ℕ → ℕ → ℕ → ℕ → Bytes → Type 0
+RangeIs files hs height place offset len bytes =
+    (h : StoredHeight) (m : Bytes × ℕ) (stack : List NumberedFile) (layers : List Layer) → height_at hs height ≡ Some h
+    → slice_get (memories_in (part_of h.system)) place ≡ Some m → slice_get h.stacks place ≡ Some stack
+    → AreLayers files stack layers → bytes ≡ take len (drop offset (memory_from m.1 layers))

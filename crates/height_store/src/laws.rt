@@ -17,7 +17,7 @@ ghost use Rattle.disk_model.specs.View.{DiskView, EachImage, LeavesOnly, Done, F
 ghost use Rattle.disk_model.specs.Frame.{Spares, TouchesOnly};
 ghost use Rattle.disk_model.specs.Laws.{IsSound};
 ghost use Rattle.height_store.specs.declared.error.StoreError.{StoreError};
-ghost use Rattle.height_store.specs.Answers.{OpensAs, Purges, ReadsAs};
+ghost use Rattle.height_store.specs.Answers.{OpensAs, Purges, ReadsAs, RangeIs};
 ghost use Rattle.height_store.specs.Bad.{IsFirstBadMark, IsFirstBadPage};
 ghost use Rattle.height_store.specs.Errors.{IsAnswered};
 ghost use Rattle.height_store.specs.Kept.{IsReadable, ShowsHeights, KeepsHeights};
@@ -62,7 +62,7 @@ pub fn bad_disks_do_not_open()
 
 /// What the calls of a store say of their answers fixes these, but for faults and want of memory: the store that is opened over
 /// the same files, or why it isn't; the store after a height is published; the answer of a purge; the number that comes next;
-/// the bytes of a page of a height.
+/// the bytes of a page of a height, and of a range of a memory.
 pub fn store_calls_have_one_answer()
     ensures opens { (files : Files) (one other : Result Store StoreError)
         → OpensAs files one → OpensAs files other → IsAnswered one → IsAnswered other → one ≡ other }
@@ -75,4 +75,8 @@ pub fn store_calls_have_one_answer()
         → IsReadable hs files → IsHeight h → height_at hs height ≡ Some h
         → IsSomeAnd (slice_get (memories_in (part_of h.system)) place) (λ m. page < m.1)
         → ReadsAs files hs height place page one → ReadsAs files hs height place page other → one ≡ other }
+    ensures ranges { (files : Files) (hs : List StoredHeight) (height place offset len : ℕ) (h : StoredHeight) (m : Bytes × ℕ)
+        (one other : Bytes) → IsReadable hs files → IsHeight h → height_at hs height ≡ Some h
+        → slice_get (memories_in (part_of h.system)) place ≡ Some m
+        → RangeIs files hs height place offset len one → RangeIs files hs height place offset len other → one ≡ other }
 {}

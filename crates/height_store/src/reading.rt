@@ -11,6 +11,7 @@ ghost use Rattle.sys_state.specs.System.{part_of, IsKept};
 ghost use Rattle.disk_model.specs.Looking.{OnlyLooks};
 ghost use Rattle.page_file.specs.Files.{NumberedFile};
 ghost use Rattle.layer_stack.specs.Stacks.{AreLayers};
+ghost use Rattle.height_store.specs.Answers.{RangeIs};
 ghost use Rattle.height_store.specs.Errors.{HasCause, NoBadFile};
 ghost use Rattle.height_store.specs.Kept.{IsReadable, ShowsHeight};
 ghost use Rattle.height_store.specs.Store.{StoredHeight, height_at};
@@ -78,6 +79,7 @@ pub fn read_bytes<D: Disk>(
     ensures bytes { IsTrue D.tells → (h : StoredHeight) (p : Published) (memory : Bytes) → height_at store.now.heights height ≡ Some h
         → ShowsHeight (D.view disk.old).state.files h p → IsMemoryAt p.state file memory
         → IfOk result (λ bytes. bytes ≡ take len (drop offset memory)) }
+    ensures layers { IsTrue D.tells → IfOk result (λ bytes. RangeIs (D.view disk.old).state.files store.now.heights height file offset len bytes) }
     ensures looks { IsTrue D.tells → (most : ℕ) × OnlyLooks most (D.view disk.old) (D.view disk.new) }
     ensures read { IsTrue D.tells → OnlyLooks (page_size * pages_holding offset len) (D.view disk.old) (D.view disk.new) }
     ensures cause { HasCause (D.faults disk.old) (D.faults disk.new) result }

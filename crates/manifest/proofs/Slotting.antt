@@ -4,7 +4,7 @@ use Rattle.std.specs.List.{range_with_len}
 use Rattle.std.proofs.lemmas.List.{map_push}
 use Rattle.state_spec.specs.Manifest.{chunk_size_at, chunk_offset}
 use Rattle.state_spec.specs.ManifestText.{Slot}
-use Rattle.hash_lanes.proofs.Counting.{range_push}
+use Rattle.hash_domain.proofs.Counting.{range_push}
 
 abbrev pub slot_at : ℕ → ℕ → ℕ → Slot
 slot_at file size i = record { file = file; size = chunk_size_at size i; offset = chunk_offset i }

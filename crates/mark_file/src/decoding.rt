@@ -12,7 +12,7 @@ use crate::mark::Mark;
 use crate::memories::{pages_of_memories, read_mems};
 use byte_codec::{Blob, Reader, is_same};
 use format_spec::{MAX_HEIGHT, VERSION};
-use hash_lanes::chunk_hashes;
+use hash_domain::chunk_hashes;
 use std::alloc::Global;
 use sys_state::SysState;
 

@@ -17,7 +17,7 @@ use Rattle.page_delta.proofs.Counting.{other-test, live-below}
 use Rattle.page_delta.proofs.Copies.{entry-used}
 use Rattle.page_delta.proofs.Places.{stands-found}
 use Rattle.page_delta.proofs.Looks.{digits}
-use Rattle.page_delta.proofs.Inserting.{inserted-differs, inserted-levels, inserted-placed, inserted-shared}
+use Rattle.page_delta.proofs.Inserting.{Descends, inserted-differs, inserted-levels, inserted-placed, inserted-shared}
 use Rattle.page_delta.proofs.Lookups.{find-below, find-past}
 use Rattle.page_delta.proofs.Pools.{live-of-count, page-same}
 use Rattle.page_delta.proofs.Puts.{alone}
@@ -26,7 +26,8 @@ use Rattle.page_delta.proofs.RootPuts.{kept-same, puts-same}
 use Rattle.page_delta.proofs.Seen.{seen, map-seen, live-seen, at-leaf, reads-same, own-put}
 
 -- a child that is there and counted once is own
-owned-child : (xs : List (Option Node)) (parent d child : ℕ) → child_in (node_at xs parent) d ≡ Some child → count_in (node_at xs child) ≡ 1 → Owned xs xs parent d child
+owned-child : (xs : List (Option Node)) (parent d child : ℕ) → child_in (node_at xs parent) d ≡ Some child
+    → count_in (node_at xs child) ≡ 1 → Owned xs xs parent d child
 owned-child xs parent d child is once = record {
   child_is = is;
   own = once;
@@ -37,7 +38,8 @@ owned-child xs parent d child is once = record {
   places = λ slot place at. at;
 }
 
-pub placed-live : (xs : List (Option Node)) (pool : Pool) (leaf digit : ℕ) (entry : Entry) → IsHeld xs pool (λ s. 0) → entry_in (node_at xs leaf) digit ≡ Some entry → IsLive pool entry.slot
+pub placed-live : (xs : List (Option Node)) (pool : Pool) (leaf digit : ℕ) (entry : Entry) → IsHeld xs pool (λ s. 0)
+    → entry_in (node_at xs leaf) digit ≡ Some entry → IsLive pool entry.slot
 placed-live xs pool leaf digit entry h is =
     let used = entry-used (node_at xs leaf) digit entry is in
     let has = total-has (slots_in entry.slot) refl xs leaf in
@@ -49,7 +51,8 @@ abbrev entry_to : Option Node → ℕ → Entry → Option Node
 entry_to None d e = None
 entry_to (Some n) d e = Some (with_entry n d e)
 
-module _ (xs : List (Option Node)) (ids : List (Option Root)) (pool : Pool) (id page leaf slot : ℕ) (k : IsKept xs ids) (h : IsHeld xs pool (λ s. 0)) (low : page < 2 ^ 20) (o : IsOwnPlace xs ids pool id page leaf slot) where
+module _ (xs : List (Option Node)) (ids : List (Option Root)) (pool : Pool) (id page leaf slot : ℕ) (k : IsKept xs ids)
+    (h : IsHeld xs pool (λ s. 0)) (low : page < 2 ^ 20) (o : IsOwnPlace xs ids pool id page leaf slot) where
   abbrev hands : ℕ → ℕ
   hands key = total (roots key) ids
 
@@ -79,20 +82,44 @@ module _ (xs : List (Option Node)) (ids : List (Option Root)) (pool : Pool) (id 
       ∙ o.entry_is
 
   -- what the leaf names when an entry has come to the place
-  module _ (ys : List (Option Node)) (entry : Entry) (now : (n : Node) → node_at xs leaf ≡ Some n → node_at ys leaf ≡ Some (with_entry n (page % 32) entry)) (rest : (m : ℕ) → m ≢ leaf → node_at ys m ≡ node_at xs m) where
+  module _ (ys : List (Option Node)) (entry : Entry)
+      (now : (n : Node) → node_at xs leaf ≡ Some n → node_at ys leaf ≡ Some (with_entry n (page % 32) entry))
+      (rest : (m : ℕ) → m ≢ leaf → node_at ys m ≡ node_at xs m) where
+    descends : Descends xs xs xs xs ys o.root.node page entry
+    descends = record {
+      upper = o.leaf_is.upper;
+      lower = o.leaf_is.lower;
+      leaf = leaf;
+      to_upper = upper_own;
+      to_lower = lower_own;
+      to_leaf = leaf_own;
+      top = top;
+      hands = hands;
+      loose = z;
+      counts1 = c0;
+      counts2 = c0;
+      counts3 = c0;
+      shared1 = k.shared;
+      shared2 = k.shared;
+      shared3 = k.shared;
+      now = now;
+      rest = rest;
+    }
+
     shared_now : IsShared ys (λ s. c0 s + uses s (Some entry)) hands (λ s. 0 + uses s (look 3 xs (Some o.root.node) page))
     shared_now =
-        inserted-shared xs xs xs xs ys o.root.node o.leaf_is.upper o.leaf_is.lower leaf page entry upper_own lower_own leaf_own top c0 hands z c0 hands z c0 hands z k.shared k.shared k.shared now rest
-        (λ s. c0 s + uses s (Some entry)) hands z (shared-counts xs c0 (λ s. c0 s + uses s (Some entry)) hands z (λ s. 0 + uses s (Some entry)) k.shared (λ s. omega arith))
+        inserted-shared xs xs xs xs ys o.root.node page entry descends
+        (λ s. c0 s + uses s (Some entry)) hands z (shared-counts xs c0 (λ s. c0 s + uses s (Some entry)) hands z
+        (λ s. 0 + uses s (Some entry)) k.shared (λ s. omega arith))
 
     slots_now : (s : ℕ) → total (slots_in s) ys + uses s (Some o.entry) ≡ total (slots_in s) xs + uses s (Some entry)
     slots_now s = let held = shared_now.held s in let before = ap (uses s) look_is in omega arith
 
     differs : Differs 3 xs ys o.root.node page entry
-    differs = inserted-differs xs xs xs xs ys o.root.node o.leaf_is.upper o.leaf_is.lower leaf page entry upper_own lower_own leaf_own top c0 hands z c0 hands z c0 hands z k.shared k.shared k.shared now rest
+    differs = inserted-differs xs xs xs xs ys o.root.node page entry descends
 
     levels : KeepsLevels xs ys
-    levels = inserted-levels xs xs xs xs ys o.root.node o.leaf_is.upper o.leaf_is.lower leaf page entry upper_own lower_own leaf_own top c0 hands z c0 hands z c0 hands z k.shared k.shared k.shared now rest
+    levels = inserted-levels xs xs xs xs ys o.root.node page entry descends
 
   abbrev other_entry : Entry
   other_entry = record { slot = suc slot; stamp = 0 }
@@ -103,7 +130,8 @@ module _ (xs : List (Option Node)) (ids : List (Option Root)) (pool : Pool) (id 
 
   freed_now : (n : Node) → node_at xs leaf ≡ Some n → node_at freed leaf ≡ Some (with_entry n (page % 32) other_entry)
   freed_now n is =
-      get_or-set_same xs leaf (entry_to (node_at xs leaf) (page % 32) other_entry) None (live-below xs leaf (some-live (node_at xs leaf) n is))
+      get_or-set_same xs leaf (entry_to (node_at xs leaf) (page % 32) other_entry) None
+      (live-below xs leaf (some-live (node_at xs leaf) n is))
       ∙ ap (λ i. entry_to i (page % 32) other_entry) is
 
   freed_rest : (m : ℕ) → m ≢ leaf → node_at freed m ≡ node_at xs m
@@ -122,12 +150,15 @@ module _ (xs : List (Option Node)) (ids : List (Option Root)) (pool : Pool) (id 
       omega arith
 
   -- no other page of any map has the slot
-  only_here : (other q : ℕ) (e : Entry) → find q (pages_in (map_below xs (root_at ids other))) ≡ Some e → (other ≡ id → q ≡ page → ⊥) → e.slot ≢ slot
+  only_here : (other q : ℕ) (e : Entry) → find q (pages_in (map_below xs (root_at ids other))) ≡ Some e → (other ≡ id → q ≡ page → ⊥)
+      → e.slot ≢ slot
   only_here other q e is other_place same = elim (cases-option (root_at ids other)) [
     | inl gone ↦ some-none e (sym is ∙ ap (λ (r : Option Root). find q (pages_in (map_below xs r))) gone)
     | inr r ↦ elim (cases_lt q (2 ^ 20)) [
-      | inl small ↦ found_not r.0 r.1 small (sym (find-below xs r.0.node q small) ∙ sym (ap (λ (m : Option Root). find q (pages_in (map_below xs m))) r.1) ∙ is)
-      | inr large ↦ some-none e (sym is ∙ ap (λ (m : Option Root). find q (pages_in (map_below xs m))) r.1 ∙ find-past xs r.0.node q (omega arith))
+      | inl small ↦ found_not r.0 r.1 small (sym (find-below xs r.0.node q small)
+          ∙ sym (ap (λ (m : Option Root). find q (pages_in (map_below xs m))) r.1) ∙ is)
+      | inr large ↦ some-none e (sym is ∙ ap (λ (m : Option Root). find q (pages_in (map_below xs m))) r.1
+          ∙ find-past xs r.0.node q (omega arith))
     ]
   ]
     where
@@ -136,8 +167,10 @@ module _ (xs : List (Option Node)) (ids : List (Option Root)) (pool : Pool) (id 
         | inl eq ↦
             let both : Some r ≡ Some o.root = sym r_is ∙ ap (λ i. root_at ids i) eq ∙ o.root_is in
             let root : o.root ≡ r = cc in
-            subst (λ (i : Root). look 3 freed (Some i.node) q ≡ look 3 xs (Some i.node) q) root (freed_differs.apart q (λ agrees. other_place eq (sym (digits page q low small agrees))))
-        | inr ne ↦ freed_differs.others r.node q (k.tops other r r_is) (kept-live xs ids other r k r_is) (alone xs ids id other o.root r k o.root_is r_is o.leaf_is.own_root ne)
+            subst (λ (i : Root). look 3 freed (Some i.node) q ≡ look 3 xs (Some i.node) q) root
+            (freed_differs.apart q (λ agrees. other_place eq (sym (digits page q low small agrees))))
+        | inr ne ↦ freed_differs.others r.node q (k.tops other r r_is) (kept-live xs ids other r k r_is)
+            (alone xs ids id other o.root r k o.root_is r_is o.leaf_is.own_root ne)
       ]
 
       found_not : (r : Root) → root_at ids other ≡ Some r → q < 2 ^ 20 → look 3 xs (Some r.node) q ≡ Some e → ⊥
@@ -148,7 +181,9 @@ module _ (xs : List (Option Node)) (ids : List (Option Root)) (pool : Pool) (id 
           let none : total (slots_in e.slot) freed ≡ 0 = ap (λ s. total (slots_in s) freed) same ∙ unused in
           omega arith
 
-  module _ (ys : List (Option Node)) (entry : Entry) (bytes : List ℕ) (is : entry.slot ≡ slot) (now : (n : Node) → node_at xs leaf ≡ Some n → node_at ys leaf ≡ Some (with_entry n (page % 32) entry)) (rest : (m : ℕ) → m ≢ leaf → node_at ys m ≡ node_at xs m) (few : count_by is_some ys ≤ 2 ^ 26) where
+  module _ (ys : List (Option Node)) (entry : Entry) (bytes : List ℕ) (is : entry.slot ≡ slot)
+      (now : (n : Node) → node_at xs leaf ≡ Some n → node_at ys leaf ≡ Some (with_entry n (page % 32) entry))
+      (rest : (m : ℕ) → m ≢ leaf → node_at ys m ≡ node_at xs m) (few : count_by is_some ys ≤ 2 ^ 26) where
     same_slots : (s : ℕ) → total (slots_in s) ys ≡ total (slots_in s) xs
     same_slots s =
         let moved = slots_now ys entry now rest s in
@@ -160,15 +195,18 @@ module _ (xs : List (Option Node)) (ids : List (Option Root)) (pool : Pool) (id 
       mid = xs;
       root = o.root.node;
       live = some-live (root_at ids id) o.root o.root_is;
-      rooted = λ r r_is. (let both : Some r ≡ Some o.root = sym r_is ∙ o.root_is in let same : r ≡ o.root = cc in ap (λ (i : Root). i.node) same);
+      rooted = λ r r_is. (let both : Some r ≡ Some o.root = sym r_is ∙ o.root_is in let same : r ≡ o.root = cc in
+          ap (λ (i : Root). i.node) same);
       kept = k;
       own = o.leaf_is.own_root;
       maps = λ other. refl;
       before_is = look_is;
       differs = differs ys entry now rest;
       levels = levels ys entry now rest;
-      placed = inserted-placed xs xs xs xs ys o.root.node o.leaf_is.upper o.leaf_is.lower leaf page entry upper_own lower_own leaf_own top c0 hands z c0 hands z c0 hands z k.shared k.shared k.shared now rest k.placed (subst (λ s. StandsAt xs s (page % 32)) (o.slot_is ∙ sym is) (stands-found xs leaf (page % 32) o.entry k.placed o.entry_is));
-      shared = subst (λ (e : Option Entry). IsShared ys (λ s. c0 s + uses s (Some entry)) hands (λ s. 0 + uses s e)) look_is (shared_now ys entry now rest);
+      placed = inserted-placed xs xs xs xs ys o.root.node page entry (descends ys entry now rest) k.placed
+          (subst (λ s. StandsAt xs s (page % 32)) (o.slot_is ∙ sym is) (stands-found xs leaf (page % 32) o.entry k.placed o.entry_is));
+      shared = subst (λ (e : Option Entry). IsShared ys (λ s. c0 s + uses s (Some entry)) hands (λ s. 0 + uses s e)) look_is
+          (shared_now ys entry now rest);
       few = few;
     }
 
@@ -180,7 +218,8 @@ module _ (xs : List (Option Node)) (ids : List (Option Root)) (pool : Pool) (id 
 
     page_here : page_at (with_bytes pool slot bytes) slot ≡ Some (record { count = count_at pool slot; bytes = bytes })
     page_here =
-        page-same pool slot (Some (record { count = count_at pool slot; bytes = bytes })) slot (live-of-count pool slot (let once = o.once in omega arith)) refl
+        page-same pool slot (Some (record { count = count_at pool slot; bytes = bytes })) slot
+        (live-of-count pool slot (let once = o.once in omega arith)) refl
 
     page_there : (s : ℕ) → s ≢ slot → page_at (with_bytes pool slot bytes) s ≡ page_at pool s
     page_there s ne = get_or-set_other pool.slots slot s (Some (record { count = count_at pool slot; bytes = bytes })) None ne
@@ -195,8 +234,10 @@ module _ (xs : List (Option Node)) (ids : List (Option Root)) (pool : Pool) (id 
     held-in-place = record {
       counts = λ s. let count = same_count s in let before = h.counts s in let slots = same_slots s in omega arith;
       counted = λ s live. elim (cases_eq s slot) [
-        | inl e ↦ let count = same_count s in let mine : count_at pool s ≡ count_at pool slot = ap (λ i. count_at pool i) e in let once = o.once in omega arith
-        | inr ne ↦ let count = same_count s in let pos = h.counted s (subst (λ (p : Option Page). IsSome p) (page_there s ne) live) in omega arith
+        | inl e ↦ let count = same_count s in let mine : count_at pool s ≡ count_at pool slot = ap (λ i. count_at pool i) e in
+            let once = o.once in omega arith
+        | inr ne ↦ let count = same_count s in let pos = h.counted s (subst (λ (p : Option Page). IsSome p) (page_there s ne) live) in
+            omega arith
       ];
     }
 
@@ -210,8 +251,10 @@ module _ (xs : List (Option Node)) (ids : List (Option Root)) (pool : Pool) (id 
         record {
           live = live-seen ys ids id put.live;
           written =
-              ap (λ (m : Option Pages). read_of end (find page (pages_in m))) (map-seen ys ids id) ∙ ap (λ (i : Option Entry). read_of end i) at
-              ∙ ap (λ (b : List ℕ). let r : Option (List ℕ × ℕ) = Some (b, entry.stamp) in r) (ap (λ i. bytes_at end i) is ∙ ap bytes_in page_here);
+              ap (λ (m : Option Pages). read_of end (find page (pages_in m))) (map-seen ys ids id)
+              ∙ ap (λ (i : Option Entry). read_of end i) at
+              ∙ ap (λ (b : List ℕ). let r : Option (List ℕ × ℕ) = Some (b, entry.stamp) in r)
+              (ap (λ i. bytes_at end i) is ∙ ap bytes_in page_here);
           rest = λ other ne.
               reads-same xs ys ids ids pool end (λ s. 0) id other (put.found other ∙ rw (other-test other page ne) refl) held-in-place
               (λ e has still. bytes_there e.slot (only_here id other e has (λ same at_page. ne at_page)));
@@ -220,7 +263,8 @@ module _ (xs : List (Option Node)) (ids : List (Option Root)) (pool : Pool) (id 
               ∙ sym (ap (λ (m : Option Pages). find other (pages_in m)) (map-seen xs ids id));
           others = λ other ne. map-seen ys ids other ∙ put.others other ne ∙ sym (map-seen xs ids other);
           elsewhere = λ other place ne.
-              reads-same xs ys ids ids pool end (λ s. 0) other place (ap (λ (m : Option Pages). find place (pages_in m)) (put.others other ne)) held-in-place
+              reads-same xs ys ids ids pool end (λ s. 0) other place
+              (ap (λ (m : Option Pages). find place (pages_in m)) (put.others other ne)) held-in-place
               (λ e has still. bytes_there e.slot (only_here other place e has (λ same at_page. ne same)));
           own = own-put xs ys ids ids id page entry put (λ other place e has far same. only_here other place e has far (same ∙ is)) at;
         }

@@ -19,7 +19,8 @@ use Rattle.page_delta.proofs.RootCalls.{Added, kept-added}
 use Rattle.page_delta.proofs.Seen.{seen, map-seen, live-seen, reads-same}
 
 -- trees were added, and those of the ids stay
-module _ (xs ys : List (Option Node)) (ids : List (Option Root)) (pool pool1 : Pool) (kept : Option ℕ) (k : IsKept xs ids) (h : IsHeld xs pool (λ s. 0)) (tree : KeepsTree xs ys pool pool1 kept) where
+module _ (xs ys : List (Option Node)) (ids : List (Option Root)) (pool pool1 : Pool) (kept : Option ℕ) (k : IsKept xs ids)
+    (h : IsHeld xs pool (λ s. 0)) (tree : KeepsTree xs ys pool pool1 kept) where
   abbrev hands : ℕ → ℕ
   hands key = total (roots key) ids
 
@@ -50,11 +51,15 @@ module _ (xs ys : List (Option Node)) (ids : List (Option Root)) (pool pool1 : P
   pub kept-tree : kept ≡ None → IsKept ys ids
   kept-tree none =
       kept-next xs ys ids ids (count_at pool1) (λ s. 0) k
-      (shared-as ys (count_at pool1) (λ m. hands m + once m kept) hands (λ s. 0) (λ s. 0) shared (λ m. let z : once m kept ≡ 0 = ap (once m) none in omega arith) (λ slot. refl))
+      (shared-as ys (count_at pool1) (λ m. hands m + once m kept) hands (λ s. 0) (λ s. 0) shared
+      (λ m. let z : once m kept ≡ 0 = ap (once m) none in omega arith) (λ slot. refl))
       (λ other r is. (r, is, follows other r is)) (placed-next xs ys k.placed tree.places) tree.few k.few_ids
 
 -- an id has the kept tree
-module _ (xs ys : List (Option Node)) (ids ids' : List (Option Root)) (pool pool1 : Pool) (id fresh b : ℕ) (from root : Root) (k : IsKept xs ids) (h : IsHeld xs pool (λ s. 0)) (is : root_at ids id ≡ Some from) (tree : KeepsTree xs ys pool pool1 (Some root.node)) (newer : HasNewer xs ys from.node 3 b (Some root)) (a : Added ids ids' fresh root) (few : count_by is_some ids + 1 ≤ 2 ^ 31) where
+module _ (xs ys : List (Option Node)) (ids ids' : List (Option Root)) (pool pool1 : Pool) (id fresh b : ℕ) (from root : Root)
+    (k : IsKept xs ids) (h : IsHeld xs pool (λ s. 0)) (is : root_at ids id ≡ Some from)
+    (tree : KeepsTree xs ys pool pool1 (Some root.node)) (newer : HasNewer xs ys from.node 3 b (Some root)) (a : Added ids ids' fresh root)
+    (few : count_by is_some ids + 1 ≤ 2 ^ 31) where
   size : root.pages ≡ length (pages_below ys root.node)
   size =
       newer.pages 0 ∙ ap (λ (ps : Pages). length (pages_after b ps)) (part-whole xs from.node)
@@ -62,9 +67,17 @@ module _ (xs ys : List (Option Node)) (ids ids' : List (Option Root)) (pool pool
 
   pub kept-newer : IsKept ys ids'
   kept-newer =
-      kept-added ids ids' fresh root a.gone a.here a.rest xs ys (pages_below ys root.node) k (stays-looks xs ys (count_at pool) (λ key. total (roots key) ids) (λ s. 0) (shared-with xs ids pool (λ s. 0) k h) tree.stays)
-      (λ other r e. tree.stays.level r.node (kept-live xs ids other r k e)) (newer.level_is root refl) refl size (count_at pool1) (λ s. 0)
-      (tree.shared (λ key. total (roots key) ids) (λ s. 0) (shared-with xs ids pool (λ s. 0) k h)) tree.places tree.few few
+      let before = shared-with xs ids pool (λ s. 0) k h in
+      let hands = λ (key : ℕ). total (roots key) ids in
+      kept-added ids ids' fresh root a xs ys
+      (record {
+        kept = k;
+        looks = stays-looks xs ys (count_at pool) hands (λ s. 0) before tree.stays;
+        levels = tree.stays.level;
+        top = newer.level_is root refl;
+        size = size;
+      })
+      (count_at pool1) (λ s. 0) (tree.shared hands (λ s. 0) before) tree.places tree.few few
 
   entry : (q : ℕ) → find q (pages_below ys root.node) ≡ if_after b (find q (pages_below xs from.node))
   entry q = elim (cases_lt q (2 ^ 20)) [
@@ -82,7 +95,8 @@ module _ (xs ys : List (Option Node)) (ids ids' : List (Option Root)) (pool pool
     others = λ other ne. ap (map_below ys) (a.rest other ne) ∙ maps-tree xs ys ids pool pool1 (Some root.node) k h tree other;
   }
 
-module _ (n n' : List (Option Node)) (ids ids' : List (Option Root)) (pool pool' : Pool) (held : IsHeld n' pool' (λ s. 0)) (bytes : KeepsBytes pool pool') where
+module _ (n n' : List (Option Node)) (ids ids' : List (Option Root)) (pool pool' : Pool) (held : IsHeld n' pool' (λ s. 0))
+    (bytes : KeepsBytes pool pool') where
   pub keeps : (id kept b : ℕ) → KeepsRoot n n' ids ids' id kept b → Keeps pool pool' (seen n ids) (seen n' ids') id kept b
   keeps id kept b r = record {
     fresh = map-seen n ids kept ∙ ap (map_below n) r.fresh;
@@ -92,14 +106,17 @@ module _ (n n' : List (Option Node)) (ids ids' : List (Option Root)) (pool pool'
         ∙ ap (λ (m : Option Pages). if_after b (find q (pages_in m))) (sym (map-seen n ids id));
     others = λ other ne. map-seen n' ids' other ∙ r.others other ne ∙ sym (map-seen n ids other);
     elsewhere = λ other place ne.
-        reads-same n n' ids ids' pool pool' (λ s. 0) other place (ap (λ (m : Option Pages). find place (pages_in m)) (r.others other ne)) held (λ e found still. (bytes e.slot still).1);
+        reads-same n n' ids ids' pool pool' (λ s. 0) other place
+        (ap (λ (m : Option Pages). find place (pages_in m)) (r.others other ne)) held (λ e found still. (bytes e.slot still).1);
   }
 
-  pub undone : ((other : ℕ) → map_below n' (root_at ids' other) ≡ map_below n (root_at ids other)) → SameReads pool pool' (seen n ids) (seen n' ids')
+  pub undone : ((other : ℕ) → map_below n' (root_at ids' other) ≡ map_below n (root_at ids other))
+      → SameReads pool pool' (seen n ids) (seen n' ids')
   undone same = record {
     maps = λ other. map-seen n' ids' other ∙ same other ∙ sym (map-seen n ids other);
     elsewhere = λ other place.
-        reads-same n n' ids ids' pool pool' (λ s. 0) other place (ap (λ (m : Option Pages). find place (pages_in m)) (same other)) held (λ e found still. (bytes e.slot still).1);
+        reads-same n n' ids ids' pool pool' (λ s. 0) other place (ap (λ (m : Option Pages). find place (pages_in m)) (same other)) held
+        (λ e found still. (bytes e.slot still).1);
   }
 
 pub on-err : {T E : Type 0} {P : Type 0} (r : Result T E) → P → OnErr r P

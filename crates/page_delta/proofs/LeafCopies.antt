@@ -30,7 +30,9 @@ newer-start b node leaf is = record {
 }
 
 -- a place with nothing, or nothing new
-newer-skip : (b : ℕ) (node leaf : Node) (pages d : ℕ) → IsNewer b node leaf pages d → if_after b (entry_in (Some node) d) ≡ None → ((p : ℕ) → pages_after b (leaf_part (Some node) p (d + 1)) ≡ pages_after b (leaf_part (Some node) p d)) → IsNewer b node leaf pages (d + 1)
+newer-skip : (b : ℕ) (node leaf : Node) (pages d : ℕ) → IsNewer b node leaf pages d → if_after b (entry_in (Some node) d) ≡ None
+    → ((p : ℕ) → pages_after b (leaf_part (Some node) p (d + 1)) ≡ pages_after b (leaf_part (Some node) p d))
+    → IsNewer b node leaf pages (d + 1)
 newer-skip b node leaf pages d n none same = record {
   entries = n.entries;
   is = n.is;
@@ -45,10 +47,12 @@ newer-skip b node leaf pages d n none same = record {
   none = n.none;
 }
 
-pub newer-pass : (b : ℕ) (node leaf : Node) (pages d : ℕ) → IsNewer b node leaf pages d → d < 32 → entry_in (Some node) d ≡ None → IsNewer b node leaf pages (d + 1)
+pub newer-pass : (b : ℕ) (node leaf : Node) (pages d : ℕ) → IsNewer b node leaf pages d → d < 32 → entry_in (Some node) d ≡ None
+    → IsNewer b node leaf pages (d + 1)
 newer-pass b node leaf pages d n low is = newer-skip b node leaf pages d n (ap (if_after b) is) (λ p. leaf-none b (Some node) p d low is)
 
-pub newer-old : (b : ℕ) (node leaf : Node) (pages d : ℕ) (e : Entry) → IsNewer b node leaf pages d → d < 32 → entry_in (Some node) d ≡ Some e → e.stamp ≤ b → IsNewer b node leaf pages (d + 1)
+pub newer-old : (b : ℕ) (node leaf : Node) (pages d : ℕ) (e : Entry) → IsNewer b node leaf pages d → d < 32
+    → entry_in (Some node) d ≡ Some e → e.stamp ≤ b → IsNewer b node leaf pages (d + 1)
 newer-old b node leaf pages d e n low is old =
     newer-skip b node leaf pages d n (ap (if_after b) is ∙ test (nat_lt b e.stamp) refl) (λ p. leaf-old b (Some node) p d e low is old)
   where
@@ -56,7 +60,8 @@ newer-old b node leaf pages d e n low is old =
     test true h = absurd (let low = ltb-true b e.stamp h in omega arith)
     test false h = refl
 
-pub newer-take : (b : ℕ) (node leaf : Node) (pages d : ℕ) (e : Entry) → IsNewer b node leaf pages d → d < 32 → entry_in (Some node) d ≡ Some e → b < e.stamp → IsNewer b node (with_entry leaf d e) (pages + 1) (d + 1)
+pub newer-take : (b : ℕ) (node leaf : Node) (pages d : ℕ) (e : Entry) → IsNewer b node leaf pages d → d < 32
+    → entry_in (Some node) d ≡ Some e → b < e.stamp → IsNewer b node (with_entry leaf d e) (pages + 1) (d + 1)
 newer-take b node leaf pages d e n low is new =
     let wide = n.wide in
     let inside : d < length n.entries = omega arith in
@@ -67,14 +72,16 @@ newer-take b node leaf pages d e n low is new =
       has = λ i small. elim (cases_eq i d) [
         | inl at ↦
             ap (λ k. get_or (set n.entries d (Some e)) k None) at ∙ get_or-set_same n.entries d (Some e) None inside
-            ∙ sym (ap (λ k. if_after b (entry_in (Some node) k)) at ∙ ap (if_after b) is ∙ ap (λ (t : Bool). cond t (Some e) None) (lt-ltb b e.stamp new))
+            ∙ sym (ap (λ k. if_after b (entry_in (Some node) k)) at ∙ ap (if_after b) is
+            ∙ ap (λ (t : Bool). cond t (Some e) None) (lt-ltb b e.stamp new))
         | inr far ↦ get_or-set_other n.entries d i (Some e) None far ∙ n.has i (omega arith)
       ];
       rest = λ i past. get_or-set_other n.entries d i (Some e) None (λ at. omega arith) ∙ n.rest i (omega arith);
       few = let few = n.few in omega arith;
       counted = λ p.
           let mine = n.counted p in
-          let all = ap (λ (ps : List ℕ). length ps) (leaf-new b (Some node) p d e low is new) ∙ length-append (pages_after b (leaf_part (Some node) p d)) ((p * 32 + d) ∷ []) in
+          let all = ap (λ (ps : List ℕ). length ps) (leaf-new b (Some node) p d e low is new)
+          ∙ length-append (pages_after b (leaf_part (Some node) p d)) ((p * 32 + d) ∷ []) in
           omega arith;
       none = λ z. absurd (omega arith);
     }
@@ -87,7 +94,8 @@ after-some b (Some x) e is = go (nat_lt b x.stamp) is
     go true same = same
     go false same = absurd (some-none e (sym same))
 
-module _ (xs : List (Option Node)) (from b : ℕ) (src leaf : Node) (pages : ℕ) (here : node_at xs from ≡ Some src) (n : IsNewer b src leaf pages 32) where
+module _ (xs : List (Option Node)) (from b : ℕ) (src leaf : Node) (pages : ℕ) (here : node_at xs from ≡ Some src)
+    (n : IsNewer b src leaf pages 32) where
   -- its entries are those of the other, at the same places
   pub newer-entry : (d : ℕ) (e : Entry) → entry_in (Some leaf) d ≡ Some e → entry_in (node_at xs from) d ≡ Some e
   newer-entry d e is =
@@ -101,7 +109,8 @@ module _ (xs : List (Option Node)) (from b : ℕ) (src leaf : Node) (pages : ℕ
   newer-live pool st d e is = entry-live xs pool st.hands st.loose from d e st.shared (newer-entry d e is)
 
   newer-sizes : (p : ℕ) → pages ≡ length (pages_after b (part 0 xs (Some from) p 32))
-  newer-sizes p = n.counted p ∙ sym (ap (λ (ps : Pages). length (pages_after b ps)) (leaf-whole xs from p 32 ∙ ap (λ (o : Option Node). leaf_part o p 32) here))
+  newer-sizes p = n.counted p
+      ∙ sym (ap (λ (ps : Pages). length (pages_after b ps)) (leaf-whole xs from p 32 ∙ ap (λ (o : Option Node). leaf_part o p 32) here))
 
   newer-has : (q : ℕ) → get_or n.entries (q % 32) None ≡ if_after b (look 0 xs (Some from) q)
   newer-has q = n.has (q % 32) (omega arith) ∙ sym (ap (λ o. if_after b (entry_in o (q % 32))) here)
@@ -115,18 +124,24 @@ module _ (xs : List (Option Node)) (from b : ℕ) (src leaf : Node) (pages : ℕ
   }
 
   -- the leaf is put at a fresh key, and its slots are counted
-  module _ (ys : List (Option Node)) (pool pool1 : Pool) (key : ℕ) (gone : node_at xs key ≡ None) (put : node_at ys key ≡ Some leaf) (rest : (m : ℕ) → m ≢ key → node_at ys m ≡ node_at xs m) where
+  module _ (ys : List (Option Node)) (pool pool1 : Pool) (key : ℕ) (gone : node_at xs key ≡ None) (put : node_at ys key ≡ Some leaf)
+      (rest : (m : ℕ) → m ≢ key → node_at ys m ≡ node_at xs m) where
     put_leaf : node_at ys key ≡ Some (Leaf 1 n.entries)
     put_leaf = put ∙ ap (λ (l : Node). Some l) n.is
 
-    pub tree-newer : ((slot : ℕ) → count_at pool1 slot ≡ count_at pool slot + slots_in slot (Some leaf)) → count_by is_some ys ≤ 2 ^ 26 → IsCounted pool1 → KeepsBytes pool pool1 → KeepsTree xs ys pool pool1 (Some key)
+    pub tree-newer : ((slot : ℕ) → count_at pool1 slot ≡ count_at pool slot + slots_in slot (Some leaf)) → count_by is_some ys ≤ 2 ^ 26
+        → IsCounted pool1 → KeepsBytes pool pool1 → KeepsTree xs ys pool pool1 (Some key)
     tree-newer counts few counted keeps = record {
       shared = λ hands loose s.
-          let slots : (slot : ℕ) → count_at pool1 slot ≡ count_at pool slot + slots_in slot (Some (Leaf 1 n.entries)) = λ slot. counts slot ∙ ap (λ (l : Node). count_at pool slot + slots_in slot (Some l)) n.is in
+          let slots : (slot : ℕ) → count_at pool1 slot ≡ count_at pool slot + slots_in slot (Some (Leaf 1 n.entries)) = λ slot. counts slot
+          ∙ ap (λ (l : Node). count_at pool slot + slots_in slot (Some l)) n.is in
           shared-insert xs ys (count_at pool1) hands loose key (Leaf 1 n.entries)
-          (shared-counts xs (count_at pool) (count_at pool1) (λ m. hands m + names m (Some (Leaf 1 n.entries))) loose (λ slot. loose slot + slots_in slot (Some (Leaf 1 n.entries)))
-          (shared-as xs (count_at pool) hands (λ m. hands m + names m (Some (Leaf 1 n.entries))) loose loose s (λ m. omega arith) (λ slot. refl)) (λ slot. let c = slots slot in omega arith))
-          gone put_leaf rest refl (λ d c e. absurd (some-none c (sym e))) (λ c l kids e. absurd (let no : ⊥ = cc in no)) n.wide (omega arith);
+          (shared-counts xs (count_at pool) (count_at pool1) (λ m. hands m + names m (Some (Leaf 1 n.entries))) loose
+          (λ slot. loose slot + slots_in slot (Some (Leaf 1 n.entries)))
+          (shared-as xs (count_at pool) hands (λ m. hands m + names m (Some (Leaf 1 n.entries))) loose loose s (λ m. omega arith)
+          (λ slot. refl)) (λ slot. let c = slots slot in omega arith))
+          gone put_leaf rest refl (λ d c e. absurd (some-none c (sym e))) (λ c l kids e. absurd (let no : ⊥ = cc in no)) n.wide
+          (omega arith);
       stays = stays-but xs xs ys key gone (stays-self xs) rest;
       places = moved;
       few = few;
@@ -142,7 +157,8 @@ module _ (xs : List (Option Node)) (from b : ℕ) (src leaf : Node) (pages : ℕ
 
     pub newer-some : (root : Root) → root.node ≡ key → root.pages ≡ pages → pages ≢ 0 → HasNewer xs ys from 0 b (Some root)
     newer-some root is size some = record {
-      level_is = λ r e. (let same : root ≡ r = cc in ap (λ (i : Root). level_in (node_at ys i.node)) (sym same) ∙ ap (λ i. level_in (node_at ys i)) is ∙ ap level_in put_leaf);
+      level_is = λ r e. (let same : root ≡ r = cc in ap (λ (i : Root). level_in (node_at ys i.node)) (sym same)
+          ∙ ap (λ i. level_in (node_at ys i)) is ∙ ap level_in put_leaf);
       looks = λ q. ap (λ i. look 0 ys (Some i) q) is ∙ ap (λ o. entry_in o (q % 32)) put_leaf ∙ newer-has q;
       pages = λ p. size ∙ newer-sizes p;
       some = λ r e below. (let same : root ≡ r = cc in let s : root.pages ≡ r.pages = ap (λ (i : Root). i.pages) same in omega arith);

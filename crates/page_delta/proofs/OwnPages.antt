@@ -22,7 +22,8 @@ use Rattle.page_delta.proofs.Rooted.{kept-live, some-eq}
 use Rattle.page_delta.proofs.Seen.{seen, map-seen, held-seen}
 
 -- what counts more than one place does, has another place that counts
-other-place : {X : Type 0} (w : Option X → ℕ) → w None ≡ 0 → (xs : List (Option X)) (key : ℕ) → w (get_or xs key None) < total w xs → (k : ℕ) × (k ≢ key) × (0 < w (get_or xs k None))
+other-place : {X : Type 0} (w : Option X → ℕ) → w None ≡ 0 → (xs : List (Option X)) (key : ℕ) → w (get_or xs key None) < total w xs
+    → (k : ℕ) × (k ≢ key) × (0 < w (get_or xs k None))
 other-place w none [] key more = absurd (omega arith)
 other-place w none (x ∷ xs) zero more = let at = total-place w none xs (omega arith) in (suc at.0, (λ e. omega arith), at.1)
 other-place w none (x ∷ xs) (suc key) more = elim (cases_eq (w x) 0) [
@@ -41,7 +42,8 @@ record Again (nodes : List (Option Node)) (key parent digit : ℕ) : Type 0 wher
   pub child : child_in (node_at nodes node) at ≡ Some key
   pub other : node ≡ parent → at ≡ digit → ⊥
 
-again : (nodes : List (Option Node)) (key p d : ℕ) → ((k : ℕ) (node : Node) → node_at nodes k ≡ Some node → width node ≡ 32) → child_in (node_at nodes p) d ≡ Some key → 1 < total (names key) nodes → Again nodes key p d
+again : (nodes : List (Option Node)) (key p d : ℕ) → ((k : ℕ) (node : Node) → node_at nodes k ≡ Some node → width node ≡ 32)
+    → child_in (node_at nodes p) d ≡ Some key → 1 < total (names key) nodes → Again nodes key p d
 again nodes key p d wide is many = elim (cases_lt (names key (node_at nodes p)) (total (names key) nodes)) [
   | inl less ↦
       let at = other-place (names key) refl nodes p less in
@@ -52,7 +54,8 @@ again nodes key p d wide is many = elim (cases_lt (names key (node_at nodes p)) 
       record { node = p; at = two.0; low = two.1; child = two.2; other = λ same here. two.3 here }
 ]
   where
-    second-digit : (o : Option Node) → ((node : Node) → o ≡ Some node → width node ≡ 32) → child_in o d ≡ Some key → 1 < names key o → (e : ℕ) × (e < 32) × (child_in o e ≡ Some key) × (e ≢ d)
+    second-digit : (o : Option Node) → ((node : Node) → o ≡ Some node → width node ≡ 32) → child_in o d ≡ Some key → 1 < names key o
+        → (e : ℕ) × (e < 32) × (child_in o e ≡ Some key) × (e ≢ d)
     second-digit None broad here two = absurd (omega arith)
     second-digit (Some (Branch c l kids)) broad here two =
         let one_is = once-self key (get_or kids d None) here in
@@ -73,7 +76,8 @@ pub record Steps (nodes : List (Option Node)) (root page : ℕ) (entry : Entry) 
   pub leaf_is : child_in (node_at nodes lower) ((page / 32) % 32) ≡ Some leaf
   pub entry_is : entry_in (node_at nodes leaf) (page % 32) ≡ Some entry
 
-look-child : (level : ℕ) (nodes : List (Option Node)) (o : Option ℕ) (page : ℕ) (e : Entry) → look level nodes o page ≡ Some e → (t : ℕ) × (o ≡ Some t) × (look level nodes (Some t) page ≡ Some e)
+look-child : (level : ℕ) (nodes : List (Option Node)) (o : Option ℕ) (page : ℕ) (e : Entry) → look level nodes o page ≡ Some e
+    → (t : ℕ) × (o ≡ Some t) × (look level nodes (Some t) page ≡ Some e)
 look-child level nodes None page e is = absurd (some-none e (sym is))
 look-child level nodes (Some t) page e is = (t, refl, is)
 
@@ -92,13 +96,15 @@ steps nodes root page e is =
       entry_is = c.2;
     }
 
-module _ (nodes : List (Option Node)) (ids : List (Option Root)) (pool : Pool) (k : IsKept nodes ids) (h : IsHeld nodes pool (λ s. 0)) (id page : ℕ) (low : page < 2 ^ 20) (o : IsOwn (seen nodes ids) id page) where
+module _ (nodes : List (Option Node)) (ids : List (Option Root)) (pool : Pool) (k : IsKept nodes ids) (h : IsHeld nodes pool (λ s. 0))
+    (id page : ℕ) (low : page < 2 ^ 20) (o : IsOwn (seen nodes ids) id page) where
   at-seen : (i q : ℕ) → find q (pages_of (seen nodes ids) i) ≡ find q (pages_in (map_below nodes (root_at ids i)))
   at-seen i q = ap (λ (m : Option Pages). find q (pages_in m)) (map-seen nodes ids i)
 
   pub rooted : (r : Root) × (root_at ids id ≡ Some r)
   rooted = elim (cases-option (root_at ids id)) [
-    | inl none ↦ absurd (some-none o.entry (sym o.found ∙ at-seen id page ∙ ap (λ (r : Option Root). find page (pages_in (map_below nodes r))) none))
+    | inl none ↦ absurd
+        (some-none o.entry (sym o.found ∙ at-seen id page ∙ ap (λ (r : Option Root). find page (pages_in (map_below nodes r))) none))
     | inr some ↦ some
   ]
 
@@ -107,7 +113,8 @@ module _ (nodes : List (Option Node)) (ids : List (Option Root)) (pool : Pool) (
 
   pub way : Steps nodes root page o.entry
   way =
-      steps nodes root page o.entry (sym (find-below nodes root page low) ∙ sym (at-seen id page ∙ ap (λ (r : Option Root). find page (pages_in (map_below nodes r))) rooted.1) ∙ o.found)
+      steps nodes root page o.entry (sym (find-below nodes root page low)
+      ∙ sym (at-seen id page ∙ ap (λ (r : Option Root). find page (pages_in (map_below nodes r))) rooted.1) ∙ o.found)
 
   -- a way from a node of level 3 to an entry with the slot
   record Way : Type 0 where
@@ -131,15 +138,18 @@ module _ (nodes : List (Option Node)) (ids : List (Option Root)) (pool : Pool) (
     pub slot_is : entry.slot ≡ o.entry.slot
 
   -- each root that begins such a way is that of the map, and its page is this one
-  from-root : (w : Way) (other : ℕ) (r : Root) → root_at ids other ≡ Some r → r.node ≡ w.top → (other ≡ id) × (spell w.d3 w.d2 w.d1 w.d0 ≡ page)
+  from-root : (w : Way) (other : ℕ) (r : Root) → root_at ids other ≡ Some r → r.node ≡ w.top
+      → (other ≡ id) × (spell w.d3 w.d2 w.d1 w.d0 ≡ page)
   unfolding spell
   from-root w other r is at =
       let q = spell w.d3 w.d2 w.d1 w.d0 in
       let a = w.low3 in let b = w.low2 in let c = w.low1 in let d = w.low0 in
       let small : q < 2 ^ 20 = omega arith in
-      let found = looked nodes ids k w.leaf w.lower w.upper w.top w.d0 w.d1 w.d2 w.d3 w.entry d c b a w.entry_is w.leaf_is w.lower_is w.upper_is in
+      let found = looked nodes ids k w.leaf w.lower w.upper w.top w.d0 w.d1 w.d2 w.d3 w.entry d c b a w.entry_is w.leaf_is w.lower_is
+      w.upper_is in
       o.only other q w.entry
-      (at-seen other q ∙ ap (λ (r : Option Root). find q (pages_in (map_below nodes r))) is ∙ find-below nodes r.node q small ∙ ap (λ n. look 3 nodes (Some n) q) at ∙ found) w.slot_is
+      (at-seen other q ∙ ap (λ (r : Option Root). find q (pages_in (map_below nodes r))) is ∙ find-below nodes r.node q small
+      ∙ ap (λ n. look 3 nodes (Some n) q) at ∙ found) w.slot_is
 
   -- a way is the one to the page
   record Same (w : Way) : Type 0 where
@@ -206,7 +216,8 @@ module _ (nodes : List (Option Node)) (ids : List (Option Root)) (pool : Pool) (
   ]
 
   -- a node that no other place names is counted once
-  named-once : (key p d : ℕ) → level_in (node_at nodes key) < 3 → child_in (node_at nodes p) d ≡ Some key → (Again nodes key p d → ⊥) → count_in (node_at nodes key) ≡ 1
+  named-once : (key p d : ℕ) → level_in (node_at nodes key) < 3 → child_in (node_at nodes p) d ≡ Some key → (Again nodes key p d → ⊥)
+      → count_in (node_at nodes key) ≡ 1
   named-once key p d below is none = elim (cases_lt 1 (total (names key) nodes)) [
     | inl many ↦ absurd (none (again nodes key p d k.shared.wide is many))
     | inr few ↦
@@ -312,7 +323,8 @@ module _ (nodes : List (Option Node)) (ids : List (Option Root)) (pool : Pool) (
       let t = top_level in
       let none : total (names root) nodes ≡ 0 = total-none (names root) refl nodes (λ p. elim (cases_eq (names root (node_at nodes p)) 0) [
         | inl z ↦ z
-        | inr some ↦ absurd (let n = node-names root (node_at nodes p) (k.shared.wide p) (omega arith) in let s = k.shared.steps p n.digit root n.child in let f = k.shared.flat p in omega arith)
+        | inr some ↦ absurd (let n = node-names root (node_at nodes p) (k.shared.wide p) (omega arith) in
+            let s = k.shared.steps p n.digit root n.child in let f = k.shared.flat p in omega arith)
       ]) in
       let count = k.shared.counted root in
       let pos = k.shared.alive root (kept-live nodes ids id rooted.0 k rooted.1) in
@@ -407,8 +419,10 @@ module _ (nodes : List (Option Node)) (ids : List (Option Root)) (pool : Pool) (
   }
 
 -- the place of a page that is the map's own, by what a contract sees
-pub own-found : (nodes : List (Option Node)) (ids : List (Option Root)) (pool : Pool) (deltas : Deltas) (key id page : ℕ) → seen nodes ids ≡ deltas → key ≡ id
-    → IsKept nodes ids → Holds pool deltas → page < 2 ^ 20 → IsOwn deltas id page → (leaf : ℕ) × (slot : ℕ) × IsOwnPlace nodes ids pool key page leaf slot
+pub own-found : (nodes : List (Option Node)) (ids : List (Option Root)) (pool : Pool) (deltas : Deltas) (key id page : ℕ)
+    → seen nodes ids ≡ deltas → key ≡ id
+    → IsKept nodes ids → Holds pool deltas → page < 2 ^ 20 → IsOwn deltas id page
+    → (leaf : ℕ) × (slot : ℕ) × IsOwnPlace nodes ids pool key page leaf slot
 own-found nodes ids pool deltas key id page is same k h low o =
     let h0 = held-seen nodes ids pool (subst (λ d. Holds pool d) (sym is) h) in
     let mine = subst (λ d. IsOwn d key page) (sym is) (subst (λ i. IsOwn deltas i page) (sym same) o) in

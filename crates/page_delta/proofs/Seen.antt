@@ -19,7 +19,8 @@ use Rattle.page_delta.proofs.Lookups.{find-below, find-past, below-rises}
 use Rattle.page_delta.proofs.Pools.{live-of-count}
 use Rattle.page_delta.proofs.Reached.{reached}
 
-pub get-map : {X Y : Type 0} (f : Option X → Option Y) → f None ≡ None → (xs : List (Option X)) (k : ℕ) → get_or (map f xs) k None ≡ f (get_or xs k None)
+pub get-map : {X Y : Type 0} (f : Option X → Option Y) → f None ≡ None → (xs : List (Option X)) (k : ℕ)
+    → get_or (map f xs) k None ≡ f (get_or xs k None)
 get-map f none [] k = sym none
 get-map f none (x ∷ xs) zero = refl
 get-map f none (x ∷ xs) (suc k) = get-map f none xs k
@@ -31,7 +32,8 @@ total-leaves slot (x ∷ xs) = ap (λ n. uses_in slot (leaf_of x) + n) (total-le
 abbrev pub seen : List (Option Node) → List (Option Root) → Deltas
 seen nodes ids = record { maps = map (map_below nodes) ids; leaves = map leaf_of nodes; nodes = count_by is_some nodes }
 
-pub map-seen : (nodes : List (Option Node)) (ids : List (Option Root)) (id : ℕ) → map_of (seen nodes ids) id ≡ map_below nodes (root_at ids id)
+pub map-seen : (nodes : List (Option Node)) (ids : List (Option Root)) (id : ℕ)
+    → map_of (seen nodes ids) id ≡ map_below nodes (root_at ids id)
 map-seen nodes ids id = get-map (map_below nodes) refl ids id
 
 map-some : (nodes : List (Option Node)) (o : Option Root) → IsSome (map_below nodes o) → IsSome o
@@ -49,13 +51,16 @@ seen-live nodes ids id live = map-some nodes (root_at ids id) (subst (λ (o : Op
 pub live-seen : (nodes : List (Option Node)) (ids : List (Option Root)) (id : ℕ) → IsSome (root_at ids id) → IsLive (seen nodes ids) id
 live-seen nodes ids id live = subst (λ (o : Option Pages). IsSome o) (sym (map-seen nodes ids id)) (some-map nodes (root_at ids id) live)
 
-pub held-seen : (nodes : List (Option Node)) (ids : List (Option Root)) (pool : Pool) → Holds pool (seen nodes ids) → IsHeld nodes pool (λ slot. 0)
+pub held-seen : (nodes : List (Option Node)) (ids : List (Option Root)) (pool : Pool) → Holds pool (seen nodes ids)
+    → IsHeld nodes pool (λ slot. 0)
 held-seen nodes ids pool h = record {
-  counts = λ slot. let a = h.counts slot in let b = total-leaves slot nodes in let same = places-nodes slot (map leaf_of nodes) (h.once slot) in omega arith;
+  counts = λ slot. let a = h.counts slot in let b = total-leaves slot nodes in
+      let same = places-nodes slot (map leaf_of nodes) (h.once slot) in omega arith;
   counted = h.live;
 }
 
-pub seen-adds : (n n' : List (Option Node)) (ids ids' : List (Option Root)) (id : ℕ) (pages : Pages) → AddsRoot n n' ids ids' id pages → Adds (seen n ids) (seen n' ids') id pages
+pub seen-adds : (n n' : List (Option Node)) (ids ids' : List (Option Root)) (id : ℕ) (pages : Pages) → AddsRoot n n' ids ids' id pages
+    → Adds (seen n ids) (seen n' ids') id pages
 seen-adds n n' ids ids' id pages a = record {
   fresh = map-seen n ids id ∙ ap (map_below n) a.fresh;
   here = map-seen n' ids' id ∙ a.here;
@@ -63,13 +68,15 @@ seen-adds n n' ids ids' id pages a = record {
 }
 
 -- what a tree has at a page stands in a node
-pub at-leaf : (nodes : List (Option Node)) (level : ℕ) (o : Option ℕ) (q : ℕ) (e : Entry) → look level nodes o q ≡ Some e → (k : ℕ) × (entry_in (node_at nodes k) (q % 32) ≡ Some e)
+pub at-leaf : (nodes : List (Option Node)) (level : ℕ) (o : Option ℕ) (q : ℕ) (e : Entry) → look level nodes o q ≡ Some e
+    → (k : ℕ) × (entry_in (node_at nodes k) (q % 32) ≡ Some e)
 at-leaf nodes level None q e is = absurd (some-none e (sym is))
 at-leaf nodes zero (Some k) q e is = (k, is)
 at-leaf nodes (suc level) (Some k) q e is = at-leaf nodes level (child_in (node_at nodes k) ((q / 32 ^ suc level) % 32)) q e is
 
 -- what the map of a root has, is held
-pub find-held : (nodes : List (Option Node)) (ids : List (Option Root)) (pool : Pool) (loose : ℕ → ℕ) (o : Option Root) (q : ℕ) (e : Entry) → IsHeld nodes pool loose → find q (pages_in (map_below nodes o)) ≡ Some e → 0 < count_at pool e.slot
+pub find-held : (nodes : List (Option Node)) (ids : List (Option Root)) (pool : Pool) (loose : ℕ → ℕ) (o : Option Root) (q : ℕ) (e : Entry)
+    → IsHeld nodes pool loose → find q (pages_in (map_below nodes o)) ≡ Some e → 0 < count_at pool e.slot
 find-held nodes ids pool loose None q e h is = absurd (some-none e (sym is))
 find-held nodes ids pool loose (Some r) q e h is = elim (cases_lt q (2 ^ 20)) [
   | inl low ↦
@@ -81,16 +88,21 @@ find-held nodes ids pool loose (Some r) q e h is = elim (cases_lt q (2 ^ 20)) [
   | inr high ↦ absurd (some-none e (sym is ∙ find-past nodes r.node q (omega arith)))
 ]
 
-seen-once : (nodes : List (Option Node)) (ids : List (Option Root)) → IsKept nodes ids → (slot node : ℕ) → uses_in slot (get_or (map leaf_of nodes) node None) ≤ 1
-seen-once nodes ids k slot node = let once = once-placed nodes k.placed slot node in let same = ap (uses_in slot) (get-map leaf_of refl nodes node) in omega arith
+seen-once : (nodes : List (Option Node)) (ids : List (Option Root)) → IsKept nodes ids → (slot node : ℕ)
+    → uses_in slot (get_or (map leaf_of nodes) node None) ≤ 1
+seen-once nodes ids k slot node = let once = once-placed nodes k.placed slot node in
+    let same = ap (uses_in slot) (get-map leaf_of refl nodes node) in omega arith
 
-pub seen-held : (nodes : List (Option Node)) (ids : List (Option Root)) (pool : Pool) → IsKept nodes ids → IsHeld nodes pool (λ slot. 0) → Holds pool (seen nodes ids)
+pub seen-held : (nodes : List (Option Node)) (ids : List (Option Root)) (pool : Pool) → IsKept nodes ids → IsHeld nodes pool (λ slot. 0)
+    → Holds pool (seen nodes ids)
 seen-held nodes ids pool k h = record {
-  counts = λ slot. let a = h.counts slot in let b = total-leaves slot nodes in let same = places-nodes slot (map leaf_of nodes) (seen-once nodes ids k slot) in omega arith;
+  counts = λ slot. let a = h.counts slot in let b = total-leaves slot nodes in
+      let same = places-nodes slot (map leaf_of nodes) (seen-once nodes ids k slot) in omega arith;
   once = seen-once nodes ids k;
   live = h.counted;
   found = λ id page entry is.
-      live-of-count pool entry.slot (find-held nodes ids pool (λ slot. 0) (root_at ids id) page entry h (ap (λ (m : Option Pages). find page (pages_in m)) (sym (map-seen nodes ids id)) ∙ is));
+      live-of-count pool entry.slot (find-held nodes ids pool (λ slot. 0) (root_at ids id) page entry h
+      (ap (λ (m : Option Pages). find page (pages_in m)) (sym (map-seen nodes ids id)) ∙ is));
   used = λ slot live.
       let some = h.counted slot live in
       let count = h.counts slot in
@@ -105,7 +117,10 @@ seen-held nodes ids pool k h = record {
 }
 
 -- maps that are as before read as before, where what is counted has its bytes
-pub reads-same : (n n' : List (Option Node)) (ids ids' : List (Option Root)) (pool pool' : Pool) (loose : ℕ → ℕ) (id q : ℕ) → find q (pages_in (map_below n' (root_at ids' id))) ≡ find q (pages_in (map_below n (root_at ids id))) → IsHeld n' pool' loose → ((e : Entry) → find q (pages_in (map_below n (root_at ids id))) ≡ Some e → 0 < count_at pool' e.slot → bytes_at pool' e.slot ≡ bytes_at pool e.slot) → reads pool' (seen n' ids') id q ≡ reads pool (seen n ids) id q
+pub reads-same : (n n' : List (Option Node)) (ids ids' : List (Option Root)) (pool pool' : Pool) (loose : ℕ → ℕ) (id q : ℕ)
+    → find q (pages_in (map_below n' (root_at ids' id))) ≡ find q (pages_in (map_below n (root_at ids id))) → IsHeld n' pool' loose
+    → ((e : Entry) → find q (pages_in (map_below n (root_at ids id))) ≡ Some e → 0 < count_at pool' e.slot
+    → bytes_at pool' e.slot ≡ bytes_at pool e.slot) → reads pool' (seen n' ids') id q ≡ reads pool (seen n ids) id q
 reads-same n n' ids ids' pool pool' loose id q same h keeps =
     ap (λ (m : Option Pages). read_of pool' (find q (pages_in m))) (map-seen n' ids' id)
     ∙ ap (λ (o : Option Entry). read_of pool' o) same
@@ -123,40 +138,52 @@ none-used [] none = refl
 none-used (None ∷ rest) none = none-used rest (λ k. none (suc k))
 none-used (Some p ∷ rest) none = absurd (some-none p (none 0))
 
-pub unused : (pool : Pool) → ((slot : ℕ) → IsLiveSlot pool slot → 0 < count_at pool slot) → ((slot : ℕ) → count_at pool slot ≡ 0) → used_in pool.slots ≡ 0
+pub unused : (pool : Pool) → ((slot : ℕ) → IsLiveSlot pool slot → 0 < count_at pool slot) → ((slot : ℕ) → count_at pool slot ≡ 0)
+    → used_in pool.slots ≡ 0
 unused pool counted none = none-used pool.slots (λ k. elim (cases-option (get_or pool.slots k None)) [
   | inl none ↦ none
   | inr some ↦ absurd (let pos = counted k (some-live (get_or pool.slots k None) some.0 some.1) in let z = none k in omega arith)
 ])
 
 -- no id is live
-pub all-dead : (nodes : List (Option Node)) (ids : List (Option Root)) → ((id : ℕ) → map_of (seen nodes ids) id ≡ None) → (id : ℕ) → root_at ids id ≡ None
+pub all-dead : (nodes : List (Option Node)) (ids : List (Option Root)) → ((id : ℕ) → map_of (seen nodes ids) id ≡ None) → (id : ℕ)
+    → root_at ids id ≡ None
 all-dead nodes ids none id = elim (cases-option (root_at ids id)) [
   | inl gone ↦ gone
-  | inr some ↦ absurd (some-none (pages_below nodes some.0.node) (sym (ap (map_below nodes) some.1) ∙ sym (map-seen nodes ids id) ∙ none id))
+  | inr some ↦ absurd (some-none (pages_below nodes some.0.node)
+      (sym (ap (map_below nodes) some.1) ∙ sym (map-seen nodes ids id) ∙ none id))
 ]
 
-pub get-found : (nodes : List (Option Node)) (ids : List (Option Root)) (id : ℕ) (root : Root) (page : ℕ) → root_at ids id ≡ Some root → page < 2 ^ 20 → find page (pages_of (seen nodes ids) id) ≡ look 3 nodes (Some root.node) page
-get-found nodes ids id root page is low = ap (λ (m : Option Pages). find page (pages_in m)) (map-seen nodes ids id ∙ ap (map_below nodes) is) ∙ find-below nodes root.node page low
+pub get-found : (nodes : List (Option Node)) (ids : List (Option Root)) (id : ℕ) (root : Root) (page : ℕ) → root_at ids id ≡ Some root
+    → page < 2 ^ 20 → find page (pages_of (seen nodes ids) id) ≡ look 3 nodes (Some root.node) page
+get-found nodes ids id root page is low = ap (λ (m : Option Pages). find page (pages_in m))
+    (map-seen nodes ids id ∙ ap (map_below nodes) is) ∙ find-below nodes root.node page low
 
-pub get-past : (nodes : List (Option Node)) (ids : List (Option Root)) (id : ℕ) (root : Root) (page : ℕ) → root_at ids id ≡ Some root → 2 ^ 20 ≤ page → find page (pages_of (seen nodes ids) id) ≡ None
-get-past nodes ids id root page is high = ap (λ (m : Option Pages). find page (pages_in m)) (map-seen nodes ids id ∙ ap (map_below nodes) is) ∙ find-past nodes root.node page high
+pub get-past : (nodes : List (Option Node)) (ids : List (Option Root)) (id : ℕ) (root : Root) (page : ℕ) → root_at ids id ≡ Some root
+    → 2 ^ 20 ≤ page → find page (pages_of (seen nodes ids) id) ≡ None
+get-past nodes ids id root page is high = ap (λ (m : Option Pages). find page (pages_in m))
+    (map-seen nodes ids id ∙ ap (map_below nodes) is) ∙ find-past nodes root.node page high
 
-pub seen-held-same : (n n' : List (Option Node)) (ids ids' : List (Option Root)) (pool : Pool) → Holds pool (seen n ids) → IsKept n' ids' → ((slot : ℕ) → total (slots_in slot) n' ≡ total (slots_in slot) n) → Holds pool (seen n' ids')
+pub seen-held-same : (n n' : List (Option Node)) (ids ids' : List (Option Root)) (pool : Pool) → Holds pool (seen n ids) → IsKept n' ids'
+    → ((slot : ℕ) → total (slots_in slot) n' ≡ total (slots_in slot) n) → Holds pool (seen n' ids')
 seen-held-same n n' ids ids' pool h k same =
     let h0 = held-seen n ids pool h in
     seen-held n' ids' pool k (record { counts = λ slot. let c = h0.counts slot in let e = same slot in omega arith; counted = h0.counted })
 
-pub seen-unchanged : (n n' : List (Option Node)) (ids ids' : List (Option Root)) (pool : Pool) → n' ≡ n → ids' ≡ ids → Holds pool (seen n ids) → Holds pool (seen n' ids')
+pub seen-unchanged : (n n' : List (Option Node)) (ids ids' : List (Option Root)) (pool : Pool) → n' ≡ n → ids' ≡ ids
+    → Holds pool (seen n ids) → Holds pool (seen n' ids')
 seen-unchanged n n' ids ids' pool same same_ids h = rw (same, same_ids) h
 
 -- the map of an id rises
-pub seen-rising : (nodes : List (Option Node)) (ids : List (Option Root)) (id : ℕ) (root : Root) → root_at ids id ≡ Some root → RiseFrom 0 (pages_of (seen nodes ids) id)
-seen-rising nodes ids id root is = subst (λ (m : Option Pages). RiseFrom 0 (pages_in m)) (sym (map-seen nodes ids id ∙ ap (map_below nodes) is)) (below-rises nodes root.node)
+pub seen-rising : (nodes : List (Option Node)) (ids : List (Option Root)) (id : ℕ) (root : Root) → root_at ids id ≡ Some root
+    → RiseFrom 0 (pages_of (seen nodes ids) id)
+seen-rising nodes ids id root is = subst (λ (m : Option Pages). RiseFrom 0 (pages_in m))
+    (sym (map-seen nodes ids id ∙ ap (map_below nodes) is)) (below-rises nodes root.node)
 
 -- a page that was put is the map's own, where no other page had its slot
 pub own-put : (n n' : List (Option Node)) (ids ids' : List (Option Root)) (id page : ℕ) (entry : Entry) → PutsAt n n' ids ids' id page entry
-    → ((other place : ℕ) (e : Entry) → find place (pages_in (map_below n (root_at ids other))) ≡ Some e → (other ≡ id → place ≡ page → ⊥) → e.slot ≢ entry.slot)
+    → ((other place : ℕ) (e : Entry) → find place (pages_in (map_below n (root_at ids other))) ≡ Some e → (other ≡ id → place ≡ page → ⊥)
+    → e.slot ≢ entry.slot)
     → find page (pages_in (map_below n' (root_at ids' id))) ≡ Some entry → IsOwn (seen n' ids') id page
 own-put n n' ids ids' id page entry p alone here = record {
   entry = entry;
@@ -166,7 +193,8 @@ own-put n n' ids ids' id page entry p alone here = record {
       | inl b ↦ (a, b)
       | inr far ↦
           let test = other-test place page far in
-          let before : find place (pages_in (map_below n (root_at ids id))) ≡ Some e = sym (p.found place ∙ rw test refl) ∙ sym (at id place) ∙ ap (λ i. find place (pages_of (seen n' ids') i)) (sym a) ∙ has in
+          let before : find place (pages_in (map_below n (root_at ids id))) ≡ Some e = sym (p.found place ∙ rw test refl)
+          ∙ sym (at id place) ∙ ap (λ i. find place (pages_of (seen n' ids') i)) (sym a) ∙ has in
           absurd (alone id place e before (λ _ b. far b) same)
     ]
     | inr ne ↦

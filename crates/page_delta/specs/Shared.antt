@@ -133,3 +133,10 @@ pub record IsOwnLeaf (nodes : List (Option Node)) (root page leaf : ℕ) : Type 
   pub own_upper : count_in (node_at nodes upper) ≡ 1
   pub own_lower : count_in (node_at nodes lower) ≡ 1
   pub own_leaf : count_in (node_at nodes leaf) ≡ 1
+
+-- an entry, whose slot was counted loose, was put at a page of a tree, and the slot of what was there is counted loose
+pub record Inserts (old new : List (Option Node)) (old_pool new_pool : Pool) (root page : ℕ) (entry : Entry) : Type 0 where
+  pub shared : SwapsEntry old new (count_at old_pool) (count_at new_pool) (Some entry) (look 3 old (Some root) page)
+  pub differs : Differs 3 old new root page entry
+  pub placed : IsPlaced old → StandsAt old entry.slot (page % 32) → IsPlaced new
+  pub levels : KeepsLevels old new

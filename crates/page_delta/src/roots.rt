@@ -122,9 +122,9 @@ pub(crate) fn fork_root(
     ensures err_ids { OnErr result (ids.new.slots ≡ ids.old.slots) }
 {
     let fork = make_id(ids)?;
-    let Root { node, pages } = ids[id as usize];
-    raise(nodes, node);
-    ids.insert_reserved(Root { node, pages });
+    let root = ids[id as usize];
+    raise(nodes, root.node);
+    ids.insert_reserved(root);
     Ok(fork)
 }
 

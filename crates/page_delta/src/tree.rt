@@ -9,7 +9,7 @@ ghost use Rattle.page_delta.specs.declared.node.Node.TheVariants.{Leaf};
 ghost use Rattle.page_delta.specs.Totals.{total};
 ghost use Rattle.page_delta.specs.Delta.{uses};
 ghost use Rattle.page_delta.specs.Nodes.{node_at, child_in, entry_in, width, count_in, level_in, recounted, with_child, with_entry, once, names, with_node, look};
-ghost use Rattle.page_delta.specs.Shared.{slots_in, IsShared, StandsAt, IsPlaced, IsCounted, IsClosed, Stands, SameLooks, KeepsBytes, KeepsLevels, Shrinks, Grows, Differs, Owned, IsOwnLeaf, SwapsEntry};
+ghost use Rattle.page_delta.specs.Shared.{slots_in, IsShared, IsCounted, IsClosed, Stands, SameLooks, KeepsBytes, Shrinks, Grows, Owned, IsOwnLeaf, Inserts};
 
 use crate::entry::Entry;
 use crate::node::Node;
@@ -277,10 +277,7 @@ pub(crate) fn insert(
     requires own { count_in (node_at nodes.old.slots root) ≡ 1 }
     requires room { HasRoomFor nodes.old 3 }
     requires few { slab_len nodes.old + 3 ≤ 2 ^ 26 }
-    ensures shared { SwapsEntry nodes.old.slots nodes.new.slots (count_at pool.old) (count_at pool.new) (Some entry) (look 3 nodes.old.slots (Some root) page) }
-    ensures differs { Differs 3 nodes.old.slots nodes.new.slots root page entry }
-    ensures placed { IsPlaced nodes.old.slots → StandsAt nodes.old.slots entry.slot (page % 32) → IsPlaced nodes.new.slots }
-    ensures levels { KeepsLevels nodes.old.slots nodes.new.slots }
+    ensures inserts { Inserts nodes.old.slots nodes.new.slots pool.old pool.new root page entry }
     ensures grows { Grows nodes.old nodes.new 3 }
     ensures counted { IsCounted pool.new }
     ensures keeps { KeepsBytes pool.old pool.new }

@@ -38,8 +38,9 @@ impl Model for PageWriter {
 }
 
 impl PageWriter {
-    /// Begins a page file: creates it, still empty, since the index is written with the first page. There is no file of this number yet.
-    /// Fault where the disk failed: then there is no such file, or it is loose. Memory where memory ran out: then the disk is as before.
+    /// Begins a page file: creates it, still empty, since the index is written with the first page. There is no file of this number
+    /// yet. Fault where the disk failed: then there is no such file, or it is loose. Memory where memory ran out: then the disk is
+    /// as before.
     pub fn begin<D: Disk>(
         alloc: Global,
         disk: &mut D,
@@ -68,7 +69,8 @@ impl PageWriter {
         })
     }
 
-    /// Adds the bytes of the next page of the index, and the index before those of the first one, in one call of the disk. Fewer than all were added, and the file is as this writer left it.
+    /// Adds the bytes of the next page of the index, and the index before those of the first one, in one call of the disk.
+    /// Fewer than all were added, and the file is as this writer left it.
     /// Fault where the disk failed, Memory where memory ran out: then the disk is as before.
     pub fn add<D: Disk>(
         &mut self,
@@ -115,6 +117,7 @@ impl PageWriter {
         disk.seal(alloc, Name::Page(self.number))?;
         Ok(PageFile::new(self.number, self.index))
     }
+
     // Appends the next page, and the index before the first one.
     fn append_next<D: Disk>(
         &self,

@@ -8,3 +8,4 @@ pub mod Parts
 pub mod Neighbours
 pub mod Walked
 pub mod Witnesses
+pub mod Once

@@ -37,6 +37,11 @@ Checks root text path (Err (WrongRoot hash)) =
     (t : Tree) × (read_tree text ≡ Ok t) × (hash ≡ reconstruct t) × (hash ≢ root)
 Checks root text path (Err Memory) = Unit {0}
 
+-- there was memory enough
+abbrev pub IsAnswered : Result Checked WitnessError → Type 0
+IsAnswered (Err Memory) = ⊥
+IsAnswered result = Unit {0}
+
 -- what was told of a path, the tree of every valid state with this root tells too; or a string hashed for the tree in
 -- the text and another one hashed for the state's tree have one hash
 abbrev pub TellsTruth : Bytes → Bytes → List Bytes → Checked → Type 0

@@ -4,6 +4,7 @@
 mod checking;
 mod error;
 mod fields;
+mod laws;
 mod level;
 mod looking;
 mod reading;
@@ -14,6 +15,7 @@ mod writing;
 
 pub use checking::{Checked, check};
 pub use error::WitnessError;
+pub use laws::a_check_has_one_answer;
 pub use looking::{Looked, lookup};
 pub use reading::from_cbor;
 pub use showing::{witness, witness_of_state};

@@ -1,4 +1,4 @@
-use Rattle.height_store.proofs.Once.{opened_once, gains_once, purged_once, next_once, page_once}
+use Rattle.height_store.proofs.Once.{opened_once, gains_once, purged_once, next_once, page_once, range_once}
 use Rattle.height_store.proofs.laws.store_calls_have_one_answer.Goals as goal
 
 pub returns-clause-opens : goal.returns-clause-opens
@@ -15,3 +15,6 @@ returns-clause-next c = next_once
 
 pub returns-clause-reads : goal.returns-clause-reads
 returns-clause-reads c = page_once
+
+pub returns-clause-ranges : goal.returns-clause-ranges
+returns-clause-ranges c = range_once

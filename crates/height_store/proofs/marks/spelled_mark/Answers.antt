@@ -1,5 +1,4 @@
-use Rattle.std.proofs.Common.{ℕ, Err, sym, subst}
-use Rattle.std.specs.List.{AllByRecursion}
+use Rattle.std.proofs.Common.{Err, subst}
 use Rattle.mark_file.specs.Spells.{DecodesBoth}
 use Rattle.height_store.proofs.marks.spelled_mark.Goals as goal
 

@@ -14,3 +14,6 @@ returns-clause-bytes g c = λ told h p memory at shows of.
     let there = memory_shown (g.D.Disk.view c.args.disk.now).state.files h p c.args.file memory shows of in
     c.from_vec.ensures ∙ c.in_ok-bytes.ensures.bytes told h there.0 there.1 there.2 at there.3 there.4 there.5
     ∙ ap (λ (bytes : Bytes). take c.args.len (drop c.args.offset bytes)) (sym there.6)
+
+pub returns-clause-layers : goal.returns-clause-layers
+returns-clause-layers g c = λ told h m stack layers at there named are. c.from_vec.ensures ∙ c.in_ok-bytes.ensures.bytes told h m stack layers at there named are

@@ -16,9 +16,16 @@ loop-digit-preserved c =
     let before = pages_after c.args.b (leaf_part leaf c.args.prefix c.loop-digit.digit) in
     elim c.match-entry.branch [
       | in-Some+then-entry-b+in_ok-push w ↦ rw w.pages-is (
-          found-more old c.loop-digit.pages.items w.push.new.self.items before ((c.args.prefix * 32 + c.loop-digit.digit) ∷ []) (pages_after c.args.b (leaf_part leaf c.args.prefix (c.loop-digit.digit + 1))) c.loop-digit.invariant w.in_ok-push.ensures.items
-          (leaf-new c.args.b leaf c.args.prefix c.loop-digit.digit w.in-Some.entry low (sym c.entry.ensures ∙ w.in-Some.is) w.if-entry-b.true))
+          found-more old c.loop-digit.pages.items w.push.new.self.items before ((c.args.prefix * 32 + c.loop-digit.digit) ∷ [])
+          (pages_after c.args.b (leaf_part leaf c.args.prefix (c.loop-digit.digit + 1))) c.loop-digit.invariant
+          w.in_ok-push.ensures.items
+          (leaf-new c.args.b leaf c.args.prefix c.loop-digit.digit w.in-Some.entry low
+          (sym c.entry.ensures ∙ w.in-Some.is) w.if-entry-b.true))
       | in-Some+else-entry-b w ↦ rw w.pages-is (
-          c.loop-digit.invariant ∙ ap (λ (xs : List ℕ). old ++ xs) (sym (leaf-old c.args.b leaf c.args.prefix c.loop-digit.digit w.in-Some.entry low (sym c.entry.ensures ∙ w.in-Some.is) w.if-entry-b.false)))
-      | in_default w ↦ rw w.pages-is (c.loop-digit.invariant ∙ ap (λ (xs : List ℕ). old ++ xs) (sym (leaf-none c.args.b leaf c.args.prefix c.loop-digit.digit low (sym c.entry.ensures ∙ w.in_default.is))))
+          c.loop-digit.invariant ∙ ap (λ (xs : List ℕ). old ++ xs)
+          (sym (leaf-old c.args.b leaf c.args.prefix c.loop-digit.digit w.in-Some.entry low
+          (sym c.entry.ensures ∙ w.in-Some.is) w.if-entry-b.false)))
+      | in_default w ↦ rw w.pages-is (c.loop-digit.invariant
+          ∙ ap (λ (xs : List ℕ). old ++ xs)
+          (sym (leaf-none c.args.b leaf c.args.prefix c.loop-digit.digit low (sym c.entry.ensures ∙ w.in_default.is))))
     ]

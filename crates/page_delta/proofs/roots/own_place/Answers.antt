@@ -11,9 +11,12 @@ pub own_leaf-requires-clause-closed : goal.own_leaf-requires-clause-closed
 own_leaf-requires-clause-closed c = kept-closed c.args.nodes.now.slots c.args.ids.now.slots c.requires.kept
 
 pub count-requires : goal.count-requires
-count-requires c = placed-live c.args.nodes.now.slots c.args.pool.now c.in_ok-leaf.leaf (c.args.page % 32) c.in_ok-entry.entry c.requires.held (ap (λ o. entry_in o (c.args.page % 32)) c.index-2.ensures ∙ sym c.in_ok-entry.ensures)
+count-requires c = placed-live c.args.nodes.now.slots c.args.pool.now c.in_ok-leaf.leaf
+    (c.args.page % 32) c.in_ok-entry.entry c.requires.held
+    (ap (λ o. entry_in o (c.args.page % 32)) c.index-2.ensures ∙ sym c.in_ok-entry.ensures)
 
 pub returns-in_err-leaf-clause-some : goal.returns-in_err-leaf-clause-some
 returns-in_err-leaf-clause-some c = λ leaf slot o.
     let same = some-eq o.root c.index.result.now (sym o.root_is ∙ c.index.ensures) in
-    absurd (not-some c.own_leaf.result c.in_err-leaf.was (c.own_leaf.ensures.some leaf (subst (λ (r : Root). IsOwnLeaf c.args.nodes.now.slots r.node c.args.page leaf) same o.leaf_is)))
+    absurd (not-some c.own_leaf.result c.in_err-leaf.was
+    (c.own_leaf.ensures.some leaf (subst (λ (r : Root). IsOwnLeaf c.args.nodes.now.slots r.node c.args.page leaf) same o.leaf_is)))

@@ -11,63 +11,95 @@ use Rattle.page_delta.proofs.InPlace.{kept-in-place, held-in-place, sets-in-plac
 use Rattle.page_delta.proofs.deltas.Deltas.set.Goals as goal
 
 pub own_place-requires-clause-held : goal.own_place-requires-clause-held
-own_place-requires-clause-held c = held-seen c.self.inside.nodes.slots c.self.inside.ids.slots c.args.pool.now (subst (λ d. Holds c.args.pool.now d) (sym c.self.view_is) c.requires.holds)
+own_place-requires-clause-held c = held-seen c.self.inside.nodes.slots c.self.inside.ids.slots c.args.pool.now
+    (subst (λ d. Holds c.args.pool.now d) (sym c.self.view_is) c.requires.holds)
 
 pub invariant_of-self : goal.invariant_of-self
 invariant_of-self c =
-    let h0 = held-seen c.self.inside.nodes.slots c.self.inside.ids.slots c.args.pool.now (subst (λ d. Holds c.args.pool.now d) (sym c.self.view_is) c.requires.holds) in
+    let h0 = held-seen c.self.inside.nodes.slots c.self.inside.ids.slots c.args.pool.now
+    (subst (λ d. Holds c.args.pool.now d) (sym c.self.view_is) c.requires.holds) in
     let entry : Entry = record { slot = c.in-Some.own.slot; stamp = c.args.stamp } in
-    kept-in-place c.self.inside.nodes.slots c.self.inside.ids.slots c.args.pool.now c.id.inside.0 c.args.page c.in-Some.own.leaf c.in-Some.own.slot c.self.invariant h0 c.requires.page c.in-Some.ensures.own c.place.new.nodes.slots entry c.args.bytes.now refl c.place.ensures.now c.place.ensures.rest (omega (arith, c.place.ensures.grows.len, c.self.invariant.few_nodes))
+    kept-in-place c.self.inside.nodes.slots c.self.inside.ids.slots c.args.pool.now c.id.inside.0 c.args.page c.in-Some.own.leaf
+    c.in-Some.own.slot c.self.invariant h0 c.requires.page c.in-Some.ensures.own c.place.new.nodes.slots entry c.args.bytes.now refl
+    c.place.ensures.now c.place.ensures.rest (omega (arith, c.place.ensures.grows.len, c.self.invariant.few_nodes))
 
 pub returns-in-Some-clause-set : goal.returns-in-Some-clause-set
 returns-in-Some-clause-set c =
-    let h0 = held-seen c.self.inside.nodes.slots c.self.inside.ids.slots c.args.pool.now (subst (λ d. Holds c.args.pool.now d) (sym c.self.view_is) c.requires.holds) in
+    let h0 = held-seen c.self.inside.nodes.slots c.self.inside.ids.slots c.args.pool.now
+    (subst (λ d. Holds c.args.pool.now d) (sym c.self.view_is) c.requires.holds) in
     let entry : Entry = record { slot = c.in-Some.own.slot; stamp = c.args.stamp } in
-    rw (← c.self.view_is, ← c.id.view_is) (sets-in-place c.self.inside.nodes.slots c.self.inside.ids.slots c.args.pool.now c.id.inside.0 c.args.page c.in-Some.own.leaf c.in-Some.own.slot c.self.invariant h0 c.requires.page c.in-Some.ensures.own c.place.new.nodes.slots entry c.args.bytes.now refl c.place.ensures.now c.place.ensures.rest (omega (arith, c.place.ensures.grows.len, c.self.invariant.few_nodes)))
+    rw (← c.self.view_is, ← c.id.view_is)
+    (sets-in-place c.self.inside.nodes.slots c.self.inside.ids.slots c.args.pool.now c.id.inside.0 c.args.page c.in-Some.own.leaf
+    c.in-Some.own.slot c.self.invariant h0 c.requires.page c.in-Some.ensures.own c.place.new.nodes.slots entry c.args.bytes.now refl
+    c.place.ensures.now c.place.ensures.rest (omega (arith, c.place.ensures.grows.len, c.self.invariant.few_nodes)))
 
 pub returns-in-Some-clause-holds : goal.returns-in-Some-clause-holds
 returns-in-Some-clause-holds c =
-    let h0 = held-seen c.self.inside.nodes.slots c.self.inside.ids.slots c.args.pool.now (subst (λ d. Holds c.args.pool.now d) (sym c.self.view_is) c.requires.holds) in
+    let h0 = held-seen c.self.inside.nodes.slots c.self.inside.ids.slots c.args.pool.now
+    (subst (λ d. Holds c.args.pool.now d) (sym c.self.view_is) c.requires.holds) in
     let entry : Entry = record { slot = c.in-Some.own.slot; stamp = c.args.stamp } in
-    seen-held c.place.new.nodes.slots c.self.inside.ids.slots (with_bytes c.args.pool.now c.in-Some.own.slot c.args.bytes.now) (kept-in-place c.self.inside.nodes.slots c.self.inside.ids.slots c.args.pool.now c.id.inside.0 c.args.page c.in-Some.own.leaf c.in-Some.own.slot c.self.invariant h0 c.requires.page c.in-Some.ensures.own c.place.new.nodes.slots entry c.args.bytes.now refl c.place.ensures.now c.place.ensures.rest (omega (arith, c.place.ensures.grows.len, c.self.invariant.few_nodes))) (held-in-place c.self.inside.nodes.slots c.self.inside.ids.slots c.args.pool.now c.id.inside.0 c.args.page c.in-Some.own.leaf c.in-Some.own.slot c.self.invariant h0 c.requires.page c.in-Some.ensures.own c.place.new.nodes.slots entry c.args.bytes.now refl c.place.ensures.now c.place.ensures.rest (omega (arith, c.place.ensures.grows.len, c.self.invariant.few_nodes)))
+    seen-held c.place.new.nodes.slots c.self.inside.ids.slots (with_bytes c.args.pool.now c.in-Some.own.slot c.args.bytes.now)
+    (kept-in-place c.self.inside.nodes.slots c.self.inside.ids.slots c.args.pool.now c.id.inside.0 c.args.page c.in-Some.own.leaf
+    c.in-Some.own.slot c.self.invariant h0 c.requires.page c.in-Some.ensures.own c.place.new.nodes.slots entry c.args.bytes.now refl
+    c.place.ensures.now c.place.ensures.rest (omega (arith, c.place.ensures.grows.len, c.self.invariant.few_nodes)))
+    (held-in-place c.self.inside.nodes.slots c.self.inside.ids.slots c.args.pool.now c.id.inside.0 c.args.page c.in-Some.own.leaf
+    c.in-Some.own.slot c.self.invariant h0 c.requires.page c.in-Some.ensures.own c.place.new.nodes.slots entry c.args.bytes.now refl
+    c.place.ensures.now c.place.ensures.rest (omega (arith, c.place.ensures.grows.len, c.self.invariant.few_nodes)))
 
 pub put_entry-requires-clause-held : goal.put_entry-requires-clause-held
 put_entry-requires-clause-held c =
-    let h0 = held-seen c.self.inside.nodes.slots c.self.inside.ids.slots c.args.pool.now (subst (λ d. Holds c.args.pool.now d) (sym c.self.view_is) c.requires.holds) in
+    let h0 = held-seen c.self.inside.nodes.slots c.self.inside.ids.slots c.args.pool.now
+    (subst (λ d. Holds c.args.pool.now d) (sym c.self.view_is) c.requires.holds) in
     let entry : Entry = record { slot = c.put-slot.result; stamp = c.args.stamp } in
-    rw c.make_room.ensures.nodes (held-new c.args.pool.now c.reserve.new.self c.put-slot.new.self c.put-slot.result (1 - c.args.pool.now.spare) c.args.bytes.now c.in_ok-reserve.ensures.ok c.put-slot.ensures.free c.put-slot.ensures.within c.put-slot.ensures.put c.self.inside.nodes.slots entry refl h0)
+    rw c.make_room.ensures.nodes (held-new c.args.pool.now c.reserve.new.self c.put-slot.new.self c.put-slot.result
+    (1 - c.args.pool.now.spare) c.args.bytes.now c.in_ok-reserve.ensures.ok c.put-slot.ensures.free c.put-slot.ensures.within
+    c.put-slot.ensures.put c.self.inside.nodes.slots entry refl h0)
 
 pub put_entry-requires-clause-placed : goal.put_entry-requires-clause-placed
 put_entry-requires-clause-placed c =
-    let h0 = held-seen c.self.inside.nodes.slots c.self.inside.ids.slots c.args.pool.now (subst (λ d. Holds c.args.pool.now d) (sym c.self.view_is) c.requires.holds) in
-    let free = slot-free c.args.pool.now c.reserve.new.self c.put-slot.new.self c.put-slot.result (1 - c.args.pool.now.spare) c.args.bytes.now c.in_ok-reserve.ensures.ok c.put-slot.ensures.free c.put-slot.ensures.within c.put-slot.ensures.put in
-    rw c.make_room.ensures.nodes (stands-free c.self.inside.nodes.slots c.args.pool.now (λ s. 0) c.put-slot.result (c.args.page % 32) h0 free)
+    let h0 = held-seen c.self.inside.nodes.slots c.self.inside.ids.slots c.args.pool.now
+    (subst (λ d. Holds c.args.pool.now d) (sym c.self.view_is) c.requires.holds) in
+    let free = slot-free c.args.pool.now c.reserve.new.self c.put-slot.new.self c.put-slot.result
+    (1 - c.args.pool.now.spare) c.args.bytes.now c.in_ok-reserve.ensures.ok c.put-slot.ensures.free c.put-slot.ensures.within
+    c.put-slot.ensures.put in
+    rw c.make_room.ensures.nodes (stands-free c.self.inside.nodes.slots c.args.pool.now (λ s. 0) c.put-slot.result
+    (c.args.page % 32) h0 free)
 
 pub returns-clause-set : goal.returns-clause-set
 returns-clause-set c =
-    let h0 = held-seen c.self.inside.nodes.slots c.self.inside.ids.slots c.args.pool.now (subst (λ d. Holds c.args.pool.now d) (sym c.self.view_is) c.requires.holds) in
+    let h0 = held-seen c.self.inside.nodes.slots c.self.inside.ids.slots c.args.pool.now
+    (subst (λ d. Holds c.args.pool.now d) (sym c.self.view_is) c.requires.holds) in
     let entry : Entry = record { slot = c.put-slot.result; stamp = c.args.stamp } in
     let put = rw c.make_room.ensures.nodes at c.put_entry.ensures.put in
-    rw (← c.self.view_is, ← c.id.view_is) (sets c.args.pool.now c.reserve.new.self c.put-slot.new.self c.put-slot.result (1 - c.args.pool.now.spare) c.args.bytes.now c.in_ok-reserve.ensures.ok c.put-slot.ensures.free c.put-slot.ensures.within c.put-slot.ensures.put c.self.inside.nodes.slots c.put_entry.new.nodes.slots c.self.inside.ids.slots c.put_entry.new.ids.slots c.put_entry.new.pool c.id.inside.0 c.args.page c.args.stamp entry refl refl h0 c.put_entry.ensures.held put c.put_entry.ensures.keeps)
+    rw (← c.self.view_is, ← c.id.view_is) (sets c.args.pool.now c.reserve.new.self c.put-slot.new.self c.put-slot.result
+    (1 - c.args.pool.now.spare) c.args.bytes.now c.in_ok-reserve.ensures.ok c.put-slot.ensures.free c.put-slot.ensures.within
+    c.put-slot.ensures.put c.self.inside.nodes.slots c.put_entry.new.nodes.slots c.self.inside.ids.slots c.put_entry.new.ids.slots
+    c.put_entry.new.pool c.id.inside.0 c.args.page c.args.stamp entry refl refl h0 c.put_entry.ensures.held put
+    c.put_entry.ensures.keeps)
 
 pub returns-clause-holds : goal.returns-clause-holds
-returns-clause-holds c = seen-held c.put_entry.new.nodes.slots c.put_entry.new.ids.slots c.put_entry.new.pool c.put_entry.ensures.kept c.put_entry.ensures.held
+returns-clause-holds c = seen-held c.put_entry.new.nodes.slots c.put_entry.new.ids.slots c.put_entry.new.pool c.put_entry.ensures.kept
+    c.put_entry.ensures.held
 
 pub returns-in_err-make_room-clause-holds : goal.returns-in_err-make_room-clause-holds
 returns-in_err-make_room-clause-holds c =
-    seen-unchanged c.self.inside.nodes.slots c.make_room.new.nodes.slots c.self.inside.ids.slots c.self.inside.ids.slots c.args.pool.now c.make_room.ensures.nodes refl (subst (λ d. Holds c.args.pool.now d) (sym c.self.view_is) c.requires.holds)
+    seen-unchanged c.self.inside.nodes.slots c.make_room.new.nodes.slots c.self.inside.ids.slots c.self.inside.ids.slots c.args.pool.now
+    c.make_room.ensures.nodes refl (subst (λ d. Holds c.args.pool.now d) (sym c.self.view_is) c.requires.holds)
 
 pub returns-in_err-reserve-clause-holds : goal.returns-in_err-reserve-clause-holds
 returns-in_err-reserve-clause-holds c =
-    let same = seen-unchanged c.self.inside.nodes.slots c.make_room.new.nodes.slots c.self.inside.ids.slots c.self.inside.ids.slots c.args.pool.now c.make_room.ensures.nodes refl (subst (λ d. Holds c.args.pool.now d) (sym c.self.view_is) c.requires.holds) in
+    let same = seen-unchanged c.self.inside.nodes.slots c.make_room.new.nodes.slots c.self.inside.ids.slots c.self.inside.ids.slots
+    c.args.pool.now c.make_room.ensures.nodes refl (subst (λ d. Holds c.args.pool.now d) (sym c.self.view_is) c.requires.holds) in
     rw c.in_err-reserve.ensures.err same
 
 pub returns-in_err-make_room-clause-own : goal.returns-in_err-make_room-clause-own
 returns-in_err-make_room-clause-own c = λ own.
-    let p = own-found c.self.inside.nodes.slots c.self.inside.ids.slots c.args.pool.now c.args.self.now c.id.inside.0 c.args.id c.args.page c.self.view_is c.id.view_is c.self.invariant c.requires.holds c.requires.page own in
+    let p = own-found c.self.inside.nodes.slots c.self.inside.ids.slots c.args.pool.now c.args.self.now c.id.inside.0 c.args.id c.args.page
+    c.self.view_is c.id.view_is c.self.invariant c.requires.holds c.requires.page own in
     absurd (not-some c.own_place.result c.in_default.is (c.own_place.ensures.some p.0 p.1 p.2))
 
 pub returns-in_err-reserve-clause-own : goal.returns-in_err-reserve-clause-own
 returns-in_err-reserve-clause-own c = λ own.
-    let p = own-found c.self.inside.nodes.slots c.self.inside.ids.slots c.args.pool.now c.args.self.now c.id.inside.0 c.args.id c.args.page c.self.view_is c.id.view_is c.self.invariant c.requires.holds c.requires.page own in
+    let p = own-found c.self.inside.nodes.slots c.self.inside.ids.slots c.args.pool.now c.args.self.now c.id.inside.0 c.args.id c.args.page
+    c.self.view_is c.id.view_is c.self.invariant c.requires.holds c.requires.page own in
     absurd (not-some c.own_place.result c.in_default.is (c.own_place.ensures.some p.0 p.1 p.2))

@@ -1,5 +1,5 @@
 use Rattle.std.proofs.Common.{◌≡◌, ◌+◌, ◌*◌, ◌≤◌, ℕ, ◌<◌, length, slice_index}
-use Rattle.hash_lanes.proofs.chunks.starts.Given as goal
+use Rattle.hash_domain.proofs.all_chunks.starts.Given as goal
 
 abbrev pub invariant-lanes : goal.invariant-lanes
 invariant-lanes l = (length l.starts ≡ 8)

@@ -4,12 +4,13 @@ ghost use Rattle.std.specs.Prelude.{◌≡◌, ℕ, ◌+◌, ◌*◌, ◌^◌, �
 ghost use Rattle.format_spec.specs.Bytes.{part_count};
 ghost use Rattle.format_spec.specs.declared.limits.TheConstants.{CHUNK_SIZE as chunk_size};
 ghost use Rattle.state_spec.specs.Manifest.{chunk_hashes as hashes_of_chunks};
-ghost use Rattle.hash_lanes.specs.Counted.{HasFirst};
+ghost use Rattle.hash_domain.specs.Counted.{HasFirst};
 
-use crate::messages::{digest, hash_chunks};
+use crate::chunks::chunk_hash;
+use crate::hash32::Hash32;
 use byte_codec::NoMemory;
 use format_spec::CHUNK_SIZE;
-use hash_domain::{Hash32, chunk_hash};
+use hash_lanes::{digest, hash_chunks};
 use std::alloc::Global;
 
 /// The chunks that are hashed side by side.
@@ -32,7 +33,8 @@ pub fn chunk_hashes(alloc: Global, bytes: &[u8]) -> Result<Vec<Hash32>, NoMemory
 // Adds the hashes of eight chunks, or of those that are left.
 fn add_group(hashes: &mut Vec<Hash32>, bytes: &[u8], first: usize) -> Result<(), NoMemory>
     requires { first < part_count chunk_size (length bytes.now) }
-    ensures { OnOk result (HasFirst hashes.old.items bytes.now first → HasFirst hashes.new.items bytes.now (min (first + 8) (part_count chunk_size (length bytes.now)))) }
+    ensures { OnOk result (HasFirst hashes.old.items bytes.now first
+        → HasFirst hashes.new.items bytes.now (min (first + 8) (part_count chunk_size (length bytes.now)))) }
 {
     let left = bytes.len() - CHUNK_SIZE * first;
     let last = first + left.div_ceil(CHUNK_SIZE).min(LANES);
@@ -79,7 +81,7 @@ fn add_lanes(
     let starts = starts(first, count);
     let state = hash_chunks(bytes, &starts, CHUNK_SIZE);
     'lanes: for j in 0..count {
-        hashes.push(digest(&state, j))?;
+        hashes.push(Hash32(digest(&state, j)))?;
     }
     Ok(())
 }

@@ -1,7 +1,7 @@
 use Rattle.std.proofs.Common.{◌∙◌, ◌+◌, arith, slice_index}
 use Rattle.hash_lanes.specs.Lanes.{lane}
-use Rattle.hash_lanes.proofs.Counting.{first_more, first_at, digest_is}
-use Rattle.hash_lanes.proofs.chunks.add_lanes.Goals as goal
+use Rattle.hash_domain.proofs.Counting.{first_more, first_at, digest_is}
+use Rattle.hash_domain.proofs.all_chunks.add_lanes.Goals as goal
 
 pub lanes-preserved : goal.lanes-preserved
 lanes-preserved c so_far =

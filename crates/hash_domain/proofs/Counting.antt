@@ -7,7 +7,7 @@ use Rattle.format_spec.specs.Bytes.{Bytes, parts, part_count}
 use Rattle.format_spec.specs.Hashes.{chunk_hash, chunk_string}
 use Rattle.sha2.specs.Sha256.{digest_bytes, final_hash, initial_hash_256, sha256}
 use Rattle.state_spec.specs.Manifest.{chunk_hashes}
-use Rattle.hash_lanes.specs.Counted.{HasFirst}
+use Rattle.hash_domain.specs.Counted.{HasFirst}
 
 -- one number more
 pub range_push : (k a : ℕ) → range_with_len a (k + 1) ≡ range_with_len a k ++ (a + k) ∷ []

@@ -1,7 +1,7 @@
 use Rattle.std.proofs.Common.{◌∙◌, ◌*◌, ap, arith, take, drop, ◌≡◌}
 use Rattle.format_spec.specs.Hashes.{chunk_hash}
-use Rattle.hash_lanes.proofs.Counting.{first_more, cut_chunk}
-use Rattle.hash_lanes.proofs.chunks.add_each.Goals as goal
+use Rattle.hash_domain.proofs.Counting.{first_more, cut_chunk}
+use Rattle.hash_domain.proofs.all_chunks.add_each.Goals as goal
 
 pub chunks-preserved : goal.chunks-preserved
 chunks-preserved c so_far =

@@ -1,8 +1,7 @@
-use crate::chunk_hashes;
-use crate::messages::{digest, hash_chunks};
+use crate::{Hash32, chunk_hash, chunk_hashes};
 use byte_codec::NoMemory;
 use format_spec::CHUNK_SIZE;
-use hash_domain::{Hash32, chunk_hash};
+use hash_lanes::{digest, hash_chunks};
 use std::alloc::Global;
 
 // Bytes of which no two places near one another begin alike.
@@ -26,7 +25,7 @@ fn are_right(bytes: &[u8], size: usize) -> bool {
     let mut right = true;
     for j in 0..8 {
         let chunk = &bytes[starts[j]..starts[j] + size];
-        right = right && digest(&state, j) == chunk_hash(chunk);
+        right = right && Hash32(digest(&state, j)) == chunk_hash(chunk);
     }
     right
 }
