@@ -19,7 +19,7 @@ use Rattle.state_spec.specs.State.{is_path, is_reserved, FitsEntry}
 use Rattle.std.proofs.Common.{codes}
 use Rattle.format_spec.proofs.Lists.{all_weaker}
 use Rattle.format_spec.proofs.Ascending.{less_is}
-use Rattle.sys_state.specs.System.{System, IsKept}
+use Rattle.sys_state.specs.System.{System, IsWithinLimits}
 use Rattle.hash_tree.proofs.Putting.{Entry, total, GoesOn}
 use Rattle.hash_tree.proofs.Lists.{all_join, all_parts, all_at, take_sum, take_all, some_at, drop_found}
 
@@ -261,7 +261,7 @@ alike a b r is k = (bytes_eq-Decides a b).0 (go (bytes_eq a b) (sym is ∙ k))
 
 -- ---- where labels above another begin
 
-pub kept_level : (s : System) (from : ℕ) → IsKept s → from ≤ length s.entries → IsLevel (level 0 from (length s.entries) s.entries)
+pub kept_level : (s : System) (from : ℕ) → IsWithinLimits s → from ≤ length s.entries → IsLevel (level 0 from (length s.entries) s.entries)
 kept_level s from kept le =
     let all : IsLevel s.entries = record {
       in_order = in_order_from s.entries kept.system.paths_ascend kept.system.paths_apart;
@@ -322,13 +322,13 @@ not_greater_by r o a b l is by same h gt =
     let test : is_gt o ≡ true = ap is_gt greater in
     absurd cc
 
-pub level_within : (s : System) (from to : ℕ) → IsKept s → from ≤ to → to ≤ length s.entries → IsLevel (level 0 from to s.entries)
+pub level_within : (s : System) (from to : ℕ) → IsWithinLimits s → from ≤ to → to ≤ length s.entries → IsLevel (level 0 from to s.entries)
 level_within s from to kept le within =
     (parts_are_levels (level 0 from to s.entries) (level 0 to (length s.entries) s.entries)
     (subst IsLevel (level_parts 0 from to (length s.entries) s.entries le within) (kept_level s from kept (omega arith)))).0
 
 -- the labels that no path begins with
-free_of : (l : Bytes) → ((p : List Bytes) → is_reserved (l ∷ p) ≡ true) → (s : System) → IsKept s → AllByRecursion (Misses l) s.entries
+free_of : (l : Bytes) → ((p : List Bytes) → is_reserved (l ∷ p) ≡ true) → (s : System) → IsWithinLimits s → AllByRecursion (Misses l) s.entries
 free_of l reserved s kept =
     all_weaker FitsEntry (Misses l) (λ e f p is. clash (is_reserved e.0) (ap is_reserved is ∙ reserved p) f.free) s.entries kept.system.entries_fit
   where
@@ -336,8 +336,8 @@ free_of l reserved s kept =
     clash true h k = absurd cc
     clash false h k = absurd cc
 
-pub free_of_canister : (s : System) → IsKept s → AllByRecursion (Misses (codes "canister")) s.entries
+pub free_of_canister : (s : System) → IsWithinLimits s → AllByRecursion (Misses (codes "canister")) s.entries
 free_of_canister s kept = free_of (codes "canister") (λ p. refl) s kept
 
-pub free_of_time : (s : System) → IsKept s → AllByRecursion (Misses (codes "time")) s.entries
+pub free_of_time : (s : System) → IsWithinLimits s → AllByRecursion (Misses (codes "time")) s.entries
 free_of_time s kept = free_of (codes "time") (λ p. refl) s kept

@@ -7,7 +7,7 @@ use Rattle.store_spec.specs.Image.{Published}
 use Rattle.disk_model.specs.declared.name.Name.{Name}
 use Rattle.disk_model.specs.declared.name.Name.TheVariants as name
 use Rattle.disk_model.specs.Files.{Files, same_name}
-use Rattle.page_file.specs.Files.{NumberedFile, IsKept}
+use Rattle.page_file.specs.Files.{NumberedFile, IsAsKnown}
 use Rattle.height_store.specs.Store.{StoredHeight, mark_names, is_needed}
 use Rattle.height_store.specs.Kept.{ShowsHeight}
 use Rattle.height_store.specs.Laws.{made_apart}
@@ -28,10 +28,10 @@ height_carried f g h p mark pages shows = record {
 }
 
 -- page files are kept where they read the same
-pub stacks_carried : (f g : Files) → ((n : ℕ) → g (name.Page n) ≡ f (name.Page n)) → (stacks : List (List NumberedFile)) → AllByRecursion (AllByRecursion (IsKept f)) stacks → AllByRecursion (AllByRecursion (IsKept g)) stacks
-stacks_carried f g same stacks kept = all_weaker (AllByRecursion (IsKept f)) (AllByRecursion (IsKept g)) (λ stack all. all_weaker (IsKept f) (IsKept g) one stack all) stacks kept
+pub stacks_carried : (f g : Files) → ((n : ℕ) → g (name.Page n) ≡ f (name.Page n)) → (stacks : List (List NumberedFile)) → AllByRecursion (AllByRecursion (IsAsKnown f)) stacks → AllByRecursion (AllByRecursion (IsAsKnown g)) stacks
+stacks_carried f g same stacks kept = all_weaker (AllByRecursion (IsAsKnown f)) (AllByRecursion (IsAsKnown g)) (λ stack all. all_weaker (IsAsKnown f) (IsAsKnown g) one stack all) stacks kept
   where
-    one : (file : NumberedFile) → IsKept f file → IsKept g file
+    one : (file : NumberedFile) → IsAsKnown f file → IsAsKnown g file
     one file kept = (kept.0, record { text = kept.1.text; there = same file.number ∙ kept.1.there; good = kept.1.good })
 
 -- neither a draft nor a stage file is needed

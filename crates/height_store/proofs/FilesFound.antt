@@ -16,7 +16,7 @@ use Rattle.page_spec.specs.PageFile.{PageIndex}
 use Rattle.disk_model.specs.Files.{Files}
 use Rattle.page_file.specs.declared.error.PageError.{PageError}
 use Rattle.page_file.specs.declared.error.PageError.TheVariants as errors
-use Rattle.page_file.specs.Files.{NumberedFile, IsKept, IsBadPage}
+use Rattle.page_file.specs.Files.{NumberedFile, IsAsKnown, IsBadPage}
 use Rattle.page_file.proofs.Unique.{only_index}
 use Rattle.height_store.specs.declared.error.StoreError.{StoreError}
 use Rattle.height_store.specs.declared.error.StoreError.TheVariants.{BadPage}
@@ -183,7 +183,7 @@ pub not_there : (files : Files) (n pages : ℕ) → IsBadPage files n → IsGood
 not_there files n pages bad good = bad good.0 good.1 good.2
 
 -- a page file with too many memory pages
-pub too_many : (files : Files) (n pages : ℕ) (file : NumberedFile) → file.number ≡ n → IsKept files file → pages < file.index.memory → IsGoodNaming files (n, pages) → ⊥
+pub too_many : (files : Files) (n pages : ℕ) (file : NumberedFile) → file.number ≡ n → IsAsKnown files file → pages < file.index.memory → IsGoodNaming files (n, pages) → ⊥
 too_many files n pages file is kept more good =
     let same = only_index files n file.number file.index good.0 good.1 is kept good.2 in
     omega (arith, more, good.3, ap (λ (i : PageIndex). i.memory) same)
@@ -192,8 +192,8 @@ pub refused : {T : Type 0} (result : Result T StoreError) (number n pages memory
 refused (Ok x) number n pages memory h is = absurd (cc)
 refused (Err e) number n pages memory h is = h.1
 
-pub kept_of : (files : Files) (xs : List NumberedFile) (n : ℕ) (file : NumberedFile) → AllByRecursion (IsKept files) xs → IsFileOf xs n file → IsKept files file
-kept_of files xs n file all of = All-contains (IsKept files) xs file (All-from_recursion (IsKept files) xs all) of.there
+pub kept_of : (files : Files) (xs : List NumberedFile) (n : ℕ) (file : NumberedFile) → AllByRecursion (IsAsKnown files) xs → IsFileOf xs n file → IsAsKnown files file
+kept_of files xs n file all of = All-contains (IsAsKnown files) xs file (All-from_recursion (IsAsKnown files) xs all) of.there
 
 pub on_ok : {T : Type 0} (result : Result T StoreError) (P : Type 0) → P → OnOk result P
 on_ok (Ok x) P h = h

@@ -24,7 +24,7 @@ use Rattle.disk_model.specs.View.{DiskView, LeavesOnly}
 use Rattle.disk_model.specs.Laws.{IsSound, same_name_eq, same_name_refl, replaced_here, replaced_apart}
 use Rattle.disk_model.specs.Moments.{at_start, weaker}
 use Rattle.disk_model.specs.Frame.{TouchesOnly}
-use Rattle.page_file.specs.Files.{NumberedFile, IsKept}
+use Rattle.page_file.specs.Files.{NumberedFile, IsAsKnown}
 use Rattle.height_store.specs.Store.{Store, StoredHeight, IsHeight, IsStore, heights_in, mark_names, is_named, is_needed}
 use Rattle.height_store.specs.Kept.{IsReadable, IsWritable, HasMark, HasStacks, IsMadeOf, HasFirmPages, ShowsHeight, ShowsHeights, KeepsHeights, StandsForEither}
 use Rattle.height_store.specs.Laws.{kept_stands, shown_stands, shown_depends, settled_keeps, made_apart}
@@ -194,7 +194,7 @@ module _ (store : Store) (old new : DiskView) (h : StoredHeight) (written : HasW
   pages : (n : ℕ) → new.state.files (name.Page n) ≡ old.state.files (name.Page n)
   pages n = reads_after h.mark.height (mark_text h.mark) old new written touches (name.Page n) refl
 
-  pub readable_push : IsReadable store.heights old.state.files → AreBelow h.mark.height store.heights → AllByRecursion (AllByRecursion (IsKept old.state.files)) h.stacks → IsReadable (store.heights ++ h ∷ []) new.state.files
+  pub readable_push : IsReadable store.heights old.state.files → AreBelow h.mark.height store.heights → AllByRecursion (AllByRecursion (IsAsKnown old.state.files)) h.stacks → IsReadable (store.heights ++ h ∷ []) new.state.files
   readable_push readable below kept = record {
     listed = subst (IsListing kind.Mark new.state.files) (sym (heights_push store.heights h)) (listing_push old.state.files new.state.files (heights_in store.heights) h.mark.height (mark_text h.mark) (numbers_below h.mark.height store.heights below) readable.listed marks);
     marks = all_join (HasMark new.state.files) store.heights (h ∷ []) (all_weaker (λ x. (x.mark.height < h.mark.height) × HasMark old.state.files x) (HasMark new.state.files)

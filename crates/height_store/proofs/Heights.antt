@@ -10,7 +10,7 @@ use Rattle.state_spec.specs.Files.{memories_in}
 use Rattle.sys_state.specs.System.{part_of}
 use Rattle.page_spec.specs.Layers.{Layer, page_from}
 use Rattle.disk_model.specs.Files.{Files}
-use Rattle.page_file.specs.Files.{NumberedFile, IsKept}
+use Rattle.page_file.specs.Files.{NumberedFile, IsAsKnown}
 use Rattle.layer_stack.specs.Stacks.{AreLayers}
 use Rattle.height_store.specs.Kept.{HasStacks}
 use Rattle.height_store.specs.Store.{StoredHeight, IsHeight, FitsPages, height_at}
@@ -41,9 +41,9 @@ has_stack hs height file page h is good within =
     omega (arith, within_some (memories_in (part_of h.system)) file page here, AllZip-long FitsPages h.stacks (memories_in (part_of h.system)) good.parts.fits)
 
 pub stack_kept : (files : Files) (hs : List StoredHeight) (height file : ℕ) (h : StoredHeight) (stack : List NumberedFile) → Some h ≡ height_at hs height → AllByRecursion (HasStacks files) hs → file < length h.stacks → stack ≡ get_or h.stacks file stack
-    → AllByRecursion (IsKept files) stack
+    → AllByRecursion (IsAsKnown files) stack
 stack_kept files hs height file h stack is all lt at =
-    let P = AllByRecursion (IsKept files) in
+    let P = AllByRecursion (IsAsKnown files) in
     subst P (sym at) (All-get_or P h.stacks file stack lt (All-from_recursion P h.stacks (found_has (HasStacks files) _ hs h (sym is) all)))
 
 -- the page that the stack has is that of the memory's layers

@@ -18,7 +18,7 @@ use Rattle.store_spec.proofs.Marks.{mark_once}
 use Rattle.disk_model.specs.declared.name.Kind.TheVariants as kind
 use Rattle.disk_model.specs.declared.name.Name.TheVariants as name
 use Rattle.disk_model.specs.Files.{Files}
-use Rattle.page_file.specs.Files.{NumberedFile, IsKept}
+use Rattle.page_file.specs.Files.{NumberedFile, IsAsKnown}
 use Rattle.page_file.proofs.Unique.{same_file}
 use Rattle.layer_stack.specs.Laws.{kept_have_layers}
 use Rattle.mark_file.proofs.Once.{one_system}
@@ -53,7 +53,7 @@ module _ (files : Files) where
       let text : mark_text m ≡ mark_text n = some_is (mark_text m) (mark_text n) (sym there ∙ ap (λ (k : ℕ). files (name.Mark k)) height ∙ other) in
       mark_once m.height n.height (mark_text m) m n s t (record { spelled = refl; good = good; of_height = refl }) (record { spelled = text; good = good'; of_height = refl })
 
-  same_stack : (xs ys : List NumberedFile) → numbers_of xs ≡ numbers_of ys → AllByRecursion (IsKept files) xs → AllByRecursion (IsKept files) ys → xs ≡ ys
+  same_stack : (xs ys : List NumberedFile) → numbers_of xs ≡ numbers_of ys → AllByRecursion (IsAsKnown files) xs → AllByRecursion (IsAsKnown files) ys → xs ≡ ys
   same_stack [] [] same kept other = refl
   same_stack [] (y ∷ ys) same kept other = absurd cc
   same_stack (x ∷ xs) [] same kept other = absurd cc
@@ -61,7 +61,7 @@ module _ (files : Files) where
       let parts = heads x.number y.number (numbers_of xs) (numbers_of ys) same in
       λ i. same_file files x.number x y refl (sym parts.0) kept.0 other.0 i ∷ same_stack xs ys parts.1 kept.1 other.1 i
 
-  same_stacks : (xs ys : List (List NumberedFile)) → map numbers_of xs ≡ map numbers_of ys → AllByRecursion (AllByRecursion (IsKept files)) xs → AllByRecursion (AllByRecursion (IsKept files)) ys → xs ≡ ys
+  same_stacks : (xs ys : List (List NumberedFile)) → map numbers_of xs ≡ map numbers_of ys → AllByRecursion (AllByRecursion (IsAsKnown files)) xs → AllByRecursion (AllByRecursion (IsAsKnown files)) ys → xs ≡ ys
   same_stacks [] [] same kept other = refl
   same_stacks [] (y ∷ ys) same kept other = absurd cc
   same_stacks (x ∷ xs) [] same kept other = absurd cc

@@ -17,11 +17,11 @@ use Rattle.disk_model.specs.Laws.{IsSound, or_false, settled_is_settled}
 use Rattle.disk_model.specs.Moments.{one_call, then, weaker}
 use Rattle.disk_model.specs.Frame.{TouchesOnly}
 use Rattle.disk_model.specs.Looking.{OnlyLooks, looks_leave}
-use Rattle.page_file.specs.Files.{NumberedFile, IsKept}
+use Rattle.page_file.specs.Files.{NumberedFile, IsAsKnown}
 use Rattle.store_spec.proofs.Images.{listing_once}
 use Rattle.height_store.specs.Bad.{marks_bytes}
 use Rattle.height_store.specs.Found.{IsFound, is_stray}
-use Rattle.height_store.specs.Kept.{IsOver, HasMark, KeepsHeights, StandsForSome, StandsAsBefore}
+use Rattle.height_store.specs.Kept.{MatchesFiles, HasMark, KeepsHeights, StandsForSome, StandsAsBefore}
 use Rattle.height_store.specs.Entry.{needed_firm}
 use Rattle.height_store.specs.Standing.{heights_shown}
 use Rattle.height_store.specs.Laws.{settled_keeps, kept_apart, stands_apart}
@@ -67,7 +67,7 @@ module _ (hs : List StoredHeight) (named : List ℕ) (names : (n : ℕ) → list
   needed_apart (name.Stage n) needed = absurd (false≢true needed)
 
 -- page files of these numbers are where they were
-kept_on : (files now : Files) (pages : List NumberedFile) → ((n : ℕ) → list_any (nat_eq n) (numbers_of pages) ≡ true → now (name.Page n) ≡ files (name.Page n)) → AllByRecursion (IsKept files) pages → AllByRecursion (IsKept now) pages
+kept_on : (files now : Files) (pages : List NumberedFile) → ((n : ℕ) → list_any (nat_eq n) (numbers_of pages) ≡ true → now (name.Page n) ≡ files (name.Page n)) → AllByRecursion (IsAsKnown files) pages → AllByRecursion (IsAsKnown now) pages
 kept_on files now [] same kept = tt
 kept_on files now (file ∷ pages) same kept =
     let has = kept.0.1 in (
@@ -75,7 +75,7 @@ kept_on files now (file ∷ pages) same kept =
       kept_on files now pages (λ n h. same n (or_right (nat_eq n file.number) (list_any (nat_eq n) (numbers_of pages)) h)) kept.1,
     )
 
-kept_there : (files : Files) (pages : List NumberedFile) (n : ℕ) → AllByRecursion (IsKept files) pages → list_any (nat_eq n) (numbers_of pages) ≡ true → is_some (files (name.Page n)) ≡ true
+kept_there : (files : Files) (pages : List NumberedFile) (n : ℕ) → AllByRecursion (IsAsKnown files) pages → list_any (nat_eq n) (numbers_of pages) ≡ true → is_some (files (name.Page n)) ≡ true
 kept_there files [] n kept h = absurd (false≢true h)
 kept_there files (file ∷ pages) n kept h = elim (cases_Bool (nat_eq n file.number)) [
   | inl same ↦ ap (λ (k : ℕ). is_some (files (name.Page k))) (exact_unsigned_eq n file.number same) ∙ ap is_some kept.0.1.there
@@ -93,10 +93,10 @@ module _ (store : Store) (files : Files) (seen new : DiskView) (same : seen.stat
   reads_same : (q : Name) → is_stray store.named q ≡ false → new.state.files q ≡ files q
   reads_same q apart = touches.reads q apart ∙ ap (λ (f : Files). f q) same
 
-  still_kept : AllByRecursion (IsKept new.state.files) found.pages
+  still_kept : AllByRecursion (IsAsKnown new.state.files) found.pages
   still_kept = kept_on files new.state.files found.pages (λ n h. reads_same (name.Page n) (ap not (ap (list_any (nat_eq n)) (sym found.once) ∙ h))) found.kept
 
-  pub opened_over : IsOver store new.state.files
+  pub opened_over : MatchesFiles store new.state.files
   opened_over = record {
     readable = record {
       listed = listing_kept kind.Mark files new.state.files _ (λ n. reads_same (name.Mark n) refl) found.listed;

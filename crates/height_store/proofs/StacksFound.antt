@@ -10,7 +10,7 @@ use Rattle.state_spec.specs.State.{SystemPart}
 use Rattle.state_spec.specs.Files.{memories_in}
 use Rattle.store_spec.specs.Mark.{Mark, MarkMemory, FitsMemory, IsMark}
 use Rattle.disk_model.specs.Files.{Files}
-use Rattle.page_file.specs.Files.{NumberedFile, IsKept}
+use Rattle.page_file.specs.Files.{NumberedFile, IsAsKnown}
 use Rattle.height_store.specs.Bad.{memory_namings, mark_namings, namings}
 use Rattle.height_store.specs.Kept.{HasStacks}
 use Rattle.height_store.specs.Opened.{FitNamings, ReadMark, parts_of}
@@ -72,11 +72,11 @@ module _ (files : List NumberedFile) where
       let numbers = same ∙ ap (map (λ (m : MarkMemory). m.layers)) is in
       record { mark = good; numbers = numbers; fits = fits_memories stacks m.memories (memories_in s) good.memories_fit numbers among fits }
 
-  kept_stack : (all : Files) (stack : List NumberedFile) → AllByRecursion (IsKept all) files → AllByRecursion (Contains files) stack → AllByRecursion (IsKept all) stack
+  kept_stack : (all : Files) (stack : List NumberedFile) → AllByRecursion (IsAsKnown all) files → AllByRecursion (Contains files) stack → AllByRecursion (IsAsKnown all) stack
   kept_stack all [] kept among = tt
-  kept_stack all (file ∷ stack) kept among = (All-contains (IsKept all) files file (All-from_recursion (IsKept all) files kept) among.0, kept_stack all stack kept among.1)
+  kept_stack all (file ∷ stack) kept among = (All-contains (IsAsKnown all) files file (All-from_recursion (IsAsKnown all) files kept) among.0, kept_stack all stack kept among.1)
 
-  pub kept_stacks : (all : Files) (stacks : List (List NumberedFile)) → AllByRecursion (IsKept all) files → AllByRecursion (AllByRecursion (Contains files)) stacks → AllByRecursion (AllByRecursion (IsKept all)) stacks
+  pub kept_stacks : (all : Files) (stacks : List (List NumberedFile)) → AllByRecursion (IsAsKnown all) files → AllByRecursion (AllByRecursion (Contains files)) stacks → AllByRecursion (AllByRecursion (IsAsKnown all)) stacks
   kept_stacks all [] kept among = tt
   kept_stacks all (stack ∷ stacks) kept among = (kept_stack all stack kept among.0, kept_stacks all stacks kept among.1)
 

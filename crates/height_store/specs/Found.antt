@@ -5,7 +5,7 @@ use Rattle.disk_model.specs.declared.name.Kind.TheVariants as kind
 use Rattle.disk_model.specs.declared.name.Name.{Name}
 use Rattle.disk_model.specs.declared.name.Name.TheVariants as name
 use Rattle.disk_model.specs.Files.{Files, IsListing}
-use Rattle.page_file.specs.Files.{NumberedFile, IsKept}
+use Rattle.page_file.specs.Files.{NumberedFile, IsAsKnown}
 use Rattle.height_store.specs.Kept.{HasMark, HasStacks}
 use Rattle.height_store.specs.Store.{Store, heights_in}
 
@@ -15,8 +15,8 @@ pub record IsFound (store : Store) (files : Files) : Type 0 where
   pub marks : AllByRecursion (HasMark files) store.heights
   pub pages : List NumberedFile
   pub once : map (λ file. file.number) pages ≡ store.named
-  pub kept : AllByRecursion (IsKept files) pages
-  pub stacks : (all : Files) → AllByRecursion (IsKept all) pages → AllByRecursion (HasStacks all) store.heights
+  pub kept : AllByRecursion (IsAsKnown files) pages
+  pub stacks : (all : Files) → AllByRecursion (IsAsKnown all) pages → AllByRecursion (HasStacks all) store.heights
 
 -- no mark, and no page file of these numbers
 abbrev pub is_stray : List ℕ → Name → Bool

@@ -13,7 +13,7 @@ use Rattle.disk_model.specs.declared.name.Name.TheVariants as name
 use Rattle.disk_model.specs.Files.{Files, IsListing}
 use Rattle.disk_model.specs.State.{DiskState, IsImageNow}
 use Rattle.disk_model.specs.View.{EachImage}
-use Rattle.page_file.specs.Files.{NumberedFile, IsKept}
+use Rattle.page_file.specs.Files.{NumberedFile, IsAsKnown}
 use Rattle.layer_stack.specs.Stacks.{AreLayers}
 use Rattle.height_store.specs.Store.{Store, StoredHeight, FitsMark, IsHeight, heights_in, mark_names, is_needed, is_used}
 
@@ -23,7 +23,7 @@ abbrev pub HasMark : Files → StoredHeight → Type 0
 HasMark files h = files (name.Mark h.mark.height) ≡ Some (mark_text h.mark)
 
 abbrev pub HasStacks : Files → StoredHeight → Type 0
-HasStacks files h = AllByRecursion (AllByRecursion (IsKept files)) h.stacks
+HasStacks files h = AllByRecursion (AllByRecursion (IsAsKnown files)) h.stacks
 
 -- What reading needs: the marks are those of these heights, and the page files that they name are there.
 pub record IsReadable (hs : List StoredHeight) (files : Files) : Type 0 where
@@ -41,7 +41,7 @@ pub record IsWritable (store : Store) (height : ℕ) (files : Files) : Type 0 wh
   pub no_draft : files (name.Draft height) ≡ None
 
 -- the store's heights can be read, and every height be written
-pub record IsOver (store : Store) (files : Files) : Type 0 where
+pub record MatchesFiles (store : Store) (files : Files) : Type 0 where
   pub readable : IsReadable store.heights files
   pub writable : (height : ℕ) → IsWritable store height files
 

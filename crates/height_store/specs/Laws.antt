@@ -21,7 +21,7 @@ use Rattle.disk_model.specs.Laws.{IsSound, image_of_settled}
 use Rattle.page_file.specs.Files.{NumberedFile}
 use Rattle.height_store.specs.Standing.{heights_shown, marks_open}
 use Rattle.height_store.specs.Store.{Store, StoredHeight, IsHeight, heights_in, mark_names, is_named, is_needed}
-use Rattle.height_store.specs.Kept.{IsReadable, IsWritable, IsOver, IsMadeOf, ShowsHeight, ShowsHeights, KeepsHeights}
+use Rattle.height_store.specs.Kept.{IsReadable, IsWritable, MatchesFiles, IsMadeOf, ShowsHeight, ShowsHeights, KeepsHeights}
 use Rattle.height_store.specs.Shown.{or_left, or_right, listing_apart, stacks_apart, heights_given, same_heights, same_count}
 
 -- Files that have the marks and page files of some heights stand for them.
@@ -105,6 +105,6 @@ pub readable_opens : (hs : List StoredHeight) (files : Files) → AllByRecursion
 readable_opens hs files good few readable = marks_open files hs good few readable.listed readable.marks readable.stacks
 
 -- What a call on a store and its disk leaves at Ok, where it keeps both.
-pub over_after : {T E : Type 0} (r : Result T E) (old new : Store) (f g : Files) → IsOver old f → OnOk r (IsReadable new.heights g) → OnOk r ((height : ℕ) → IsWritable old height f → IsWritable new height g) → OnOk r (IsOver new g)
+pub over_after : {T E : Type 0} (r : Result T E) (old new : Store) (f g : Files) → MatchesFiles old f → OnOk r (IsReadable new.heights g) → OnOk r ((height : ℕ) → IsWritable old height f → IsWritable new height g) → OnOk r (MatchesFiles new g)
 over_after (Ok x) old new f g over readable writable = record { readable = readable; writable = λ height. writable height (over.writable height) }
 over_after (Err e) old new f g over readable writable = tt

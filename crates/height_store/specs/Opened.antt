@@ -8,7 +8,7 @@ use Rattle.page_spec.specs.PageFile.{index_length}
 use Rattle.disk_model.specs.declared.name.Kind.{Kind}
 use Rattle.disk_model.specs.declared.name.Name.{Name}
 use Rattle.disk_model.specs.Files.{Files, number_in}
-use Rattle.page_file.specs.Files.{NumberedFile, IsKept}
+use Rattle.page_file.specs.Files.{NumberedFile, IsAsKnown}
 use Rattle.height_store.specs.Store.{Store}
 
 -- a mark that was read, and the parts that its system text spells
@@ -40,5 +40,5 @@ is_swept kind numbers keep q = is_number_swept numbers keep (number_in kind q)
 pub record ReadsAtMost (files : Files) (store : Store) (before now : ℕ) : Type 0 where
   pub pages : List NumberedFile
   pub once : map (λ file. file.number) pages ≡ store.named
-  pub kept : AllByRecursion (IsKept files) pages
+  pub kept : AllByRecursion (IsAsKnown files) pages
   pub most : now ≤ before + sum_by (λ h. length (mark_text h.mark)) store.heights + sum_by (λ file. index_length file.index) pages

@@ -18,7 +18,7 @@ use Rattle.page_spec.proofs.PageFiles.{page_file_once}
 use Rattle.disk_model.specs.declared.name.Kind.TheVariants as kind
 use Rattle.disk_model.specs.declared.name.Name.TheVariants as name
 use Rattle.disk_model.specs.Files.{Files, IsListing}
-use Rattle.page_file.specs.Files.{NumberedFile, IsKept}
+use Rattle.page_file.specs.Files.{NumberedFile, IsAsKnown}
 use Rattle.layer_stack.specs.Stacks.{IsLayer, AreLayers}
 use Rattle.height_store.specs.Store.{StoredHeight, FitsMark, FitsPages, IsHeight, heights_in, numbers_of}
 use Rattle.height_store.specs.Kept.{HasMark, HasStacks, IsMadeOf, ShowsHeight, ShowsHeights}
@@ -30,7 +30,7 @@ some_is a b e = cc
 module _ (files : Files) where
   -- ---- what a mark's layers are, the page files of the stacks have
 
-  layer_from : (pages : ℕ) (file : NumberedFile) (l : Layer) → IsKept files file → IsLayerOf files pages file.number l → IsLayer files file l
+  layer_from : (pages : ℕ) (file : NumberedFile) (l : Layer) → IsAsKnown files file → IsLayerOf files pages file.number l → IsLayer files file l
   layer_from pages file l kept layer =
       let text : layer.text ≡ kept.1.text = some_is layer.text kept.1.text (sym layer.there ∙ kept.1.there) in
       let index : l.index ≡ file.index = (page_file_once kept.1.text l.index file.index l.pages kept.0 (subst (λ (t : Bytes). IsPageFile t l.index l.pages) text layer.good) kept.1.good).0 in
@@ -39,14 +39,14 @@ module _ (files : Files) where
         there = record { text = layer.text; there = layer.there; good = subst (λ (i : PageIndex). IsPageFile layer.text i l.pages) index layer.good };
       }
 
-  stack_from : (pages : ℕ) (stack : List NumberedFile) (layers : List Layer) → AllByRecursion (IsKept files) stack → AllZip (IsLayerOf files pages) (numbers_of stack) layers → AreLayers files stack layers
+  stack_from : (pages : ℕ) (stack : List NumberedFile) (layers : List Layer) → AllByRecursion (IsAsKnown files) stack → AllZip (IsLayerOf files pages) (numbers_of stack) layers → AreLayers files stack layers
   stack_from pages [] [] kept there = tt
   stack_from pages [] (l ∷ layers) kept there = absurd there
   stack_from pages (file ∷ stack) [] kept there = absurd there
   stack_from pages (file ∷ stack) (l ∷ layers) kept there = (layer_from pages file l kept.0 there.0, stack_from pages stack layers kept.1 there.1)
 
   stacks_from : (stacks : List (List NumberedFile)) (ms : List MarkMemory) (memories : List (Bytes × ℕ)) (layers : List (List Layer)) → map numbers_of stacks ≡ map (λ memory. memory.layers) ms → AllZip FitsPages stacks memories
-      → AllByRecursion (AllByRecursion (IsKept files)) stacks → AllZip (AreLayersOf files) (zip ms memories) layers → AllZip (AreLayers files) stacks layers
+      → AllByRecursion (AllByRecursion (IsAsKnown files)) stacks → AllZip (AreLayersOf files) (zip ms memories) layers → AllZip (AreLayers files) stacks layers
   stacks_from [] [] memories [] numbers fits kept there = tt
   stacks_from [] [] memories (l ∷ layers) numbers fits kept there = absurd there
   stacks_from [] (m ∷ ms) memories layers numbers fits kept there = absurd cc
@@ -105,13 +105,13 @@ module _ (files : Files) where
 
   -- ---- that they open
 
-  stack_layers : (stack : List NumberedFile) → AllByRecursion (IsKept files) stack → (layers : List Layer) × AreLayers files stack layers
+  stack_layers : (stack : List NumberedFile) → AllByRecursion (IsAsKnown files) stack → (layers : List Layer) × AreLayers files stack layers
   stack_layers [] kept = ([], tt)
   stack_layers (file ∷ stack) kept =
       let more = stack_layers stack kept.1 in
       (record { index = file.index; pages = kept.0.0 } ∷ more.0, (record { index = refl; there = kept.0.1 }, more.1))
 
-  stacks_layers : (stacks : List (List NumberedFile)) → AllByRecursion (AllByRecursion (IsKept files)) stacks → (layers : List (List Layer)) × AllZip (AreLayers files) stacks layers
+  stacks_layers : (stacks : List (List NumberedFile)) → AllByRecursion (AllByRecursion (IsAsKnown files)) stacks → (layers : List (List Layer)) × AllZip (AreLayers files) stacks layers
   stacks_layers [] kept = ([], tt)
   stacks_layers (stack ∷ stacks) kept = let first = stack_layers stack kept.0 in let more = stacks_layers stacks kept.1 in (first.0 ∷ more.0, (first.1, more.1))
 

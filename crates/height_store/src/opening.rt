@@ -15,7 +15,7 @@ ghost use Rattle.disk_model.specs.View.{EachImage, LeavesOnly};
 ghost use Rattle.height_store.specs.Bad.{IsFirstBadMark, IsFirstBadPage, marks_bytes};
 ghost use Rattle.height_store.specs.Errors.{HasCause, NoBadFile, NoBadHeight, IsBadFile};
 ghost use Rattle.height_store.specs.Found.{IsFound, is_stray};
-ghost use Rattle.height_store.specs.Kept.{IsReadable, IsOver, KeepsHeights, StandsForSome, StandsAsBefore};
+ghost use Rattle.height_store.specs.Kept.{IsReadable, MatchesFiles, KeepsHeights, StandsForSome, StandsAsBefore};
 ghost use Rattle.height_store.specs.Opened.{ReadsAtMost};
 ghost use Rattle.height_store.specs.Store.{IsHeight, numbers_of, is_named, is_needed};
 
@@ -42,7 +42,7 @@ impl HeightStore {
     /// stands for some heights, every image since stands for heights that one on entry stands for; and after Ok every image stands
     /// for the heights that the disk reads.
     pub fn open<D: Disk>(alloc: Global, disk: &mut D) -> Result<HeightStore, StoreError>
-        ensures over { IsTrue D.tells → IfOk result (λ store. IsOver store (D.view disk.new).state.files) }
+        ensures over { IsTrue D.tells → IfOk result (λ store. MatchesFiles store (D.view disk.new).state.files) }
         ensures good { IfOk result (λ store. AllByRecursion IsHeight store.heights) }
         ensures found { IsTrue D.tells → IfOk result (λ store. IsReadable store.heights (D.view disk.old).state.files) }
         ensures settled { IsTrue D.tells → OnOk result (IsSettled (D.view disk.new).state) }

@@ -9,7 +9,7 @@ ghost use Rattle.sys_state.specs.System.{part_of};
 ghost use Rattle.page_spec.specs.PageFile.{index_length};
 ghost use Rattle.disk_model.specs.Files.{Files};
 ghost use Rattle.disk_model.specs.Looking.{OnlyLooks};
-ghost use Rattle.page_file.specs.Files.{IsKept};
+ghost use Rattle.page_file.specs.Files.{IsAsKnown};
 ghost use Rattle.height_store.specs.Bad.{AreGoodMarks, IsFirstBadPage, IsGoodNaming, namings, mark_namings};
 ghost use Rattle.height_store.specs.Errors.{HasCause, NoBadHeight};
 ghost use Rattle.height_store.specs.Kept.{HasStacks};
@@ -37,7 +37,7 @@ pub(crate) fn open_pages<D: Disk>(
 ) -> Result<Vec<PageFile>, StoreError>
     requires good { IsTrue D.tells → AreGoodMarks (D.view disk.old).state.files (map parts_of marks.now) }
 
-    ensures kept { IsTrue D.tells → IfOk result (λ files. AllByRecursion (IsKept (D.view disk.old).state.files) files.items) }
+    ensures kept { IsTrue D.tells → IfOk result (λ files. AllByRecursion (IsAsKnown (D.view disk.old).state.files) files.items) }
     ensures ascends { IfOk result (λ files. IsStrictlyIncreasing (numbers_of files.items)) }
     ensures named { IfOk result (λ files. (n : ℕ) → list_any (nat_eq n) (numbers_of files.items) ≡ list_any (λ naming. nat_eq n naming.0) (namings (map parts_of marks.now))) }
     ensures fits { IfOk result (λ files. FitNamings files.items (namings (map parts_of marks.now))) }
@@ -65,7 +65,7 @@ pub(crate) fn heights_of(
 
     ensures marks { IfOk result (λ heights. map (λ h. record { mark = h.mark; system = h.system }) heights.items ≡ marks.items) }
     ensures good { IfOk result (λ heights. AllByRecursion IsHeight heights.items) }
-    ensures stacks { (all : Files) → AllByRecursion (IsKept all) files.now → IfOk result (λ heights. AllByRecursion (HasStacks all) heights.items) }
+    ensures stacks { (all : Files) → AllByRecursion (IsAsKnown all) files.now → IfOk result (λ heights. AllByRecursion (HasStacks all) heights.items) }
 {
     let mut heights = Vec::with_capacity(alloc, marks.len())?;
     for mark in marks {
@@ -139,7 +139,7 @@ fn open_named<D: Disk>(
 ) -> Result<Vec<PageFile>, StoreError>
     requires ordered { IsNonDecreasingBy (λ naming. naming.0) named.now }
 
-    ensures kept { IsTrue D.tells → IfOk result (λ files. AllByRecursion (IsKept (D.view disk.old).state.files) files.items) }
+    ensures kept { IsTrue D.tells → IfOk result (λ files. AllByRecursion (IsAsKnown (D.view disk.old).state.files) files.items) }
     ensures ascends { IfOk result (λ files. IsStrictlyIncreasing (numbers_of files.items)) }
     ensures named { IfOk result (λ files. (n : ℕ) → list_any (nat_eq n) (numbers_of files.items) ≡ list_any (λ naming. nat_eq n naming.0) named.now) }
     ensures fits { IfOk result (λ files. FitNamings files.items named.now) }
@@ -166,10 +166,10 @@ fn open_one<D: Disk>(
     pages: u32,
 ) -> Result<(), StoreError>
     requires ascends { IsStrictlyIncreasing (numbers_of files.old.items) }
-    requires kept { IsTrue D.tells → AllByRecursion (IsKept (D.view disk.old).state.files) files.old.items }
+    requires kept { IsTrue D.tells → AllByRecursion (IsAsKnown (D.view disk.old).state.files) files.old.items }
 
     ensures takes { OnOk result (Takes files.old.items number pages files.new.items) }
-    ensures kept { IsTrue D.tells → OnOk result (AllByRecursion (IsKept (D.view disk.old).state.files) files.new.items) }
+    ensures kept { IsTrue D.tells → OnOk result (AllByRecursion (IsAsKnown (D.view disk.old).state.files) files.new.items) }
     ensures good { IsTrue D.tells → OnOk result (IsGoodNaming (D.view disk.old).state.files (number, pages)) }
     ensures number { (n : ℕ) → IsErrOf result (StoreError.BadPage n) → n ≡ number }
     ensures bad { IsTrue D.tells → (n : ℕ) → IsErrOf result (StoreError.BadPage n) → IsGoodNaming (D.view disk.old).state.files (number, pages) → ⊥ }
@@ -223,7 +223,7 @@ fn height_of(
 
     ensures mark { IfOk result (λ h. record { mark = h.mark; system = h.system } ≡ mark) }
     ensures good { IfOk result IsHeight }
-    ensures stacks { (all : Files) → AllByRecursion (IsKept all) files.now → IfOk result (HasStacks all) }
+    ensures stacks { (all : Files) → AllByRecursion (IsAsKnown all) files.now → IfOk result (HasStacks all) }
 {
     let stacks = stacks_of(alloc, &mark.mark.mems, files)?;
     Ok(PublishedHeight {

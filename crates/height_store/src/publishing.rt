@@ -12,7 +12,7 @@ ghost use Rattle.disk_model.specs.State.{IsSettled, IsAbsent};
 ghost use Rattle.disk_model.specs.Call.{counted};
 ghost use Rattle.disk_model.specs.View.{LeavesOnly};
 ghost use Rattle.disk_model.specs.Frame.{TouchesOnly};
-ghost use Rattle.page_file.specs.Files.{IsKept};
+ghost use Rattle.page_file.specs.Files.{IsAsKnown};
 ghost use Rattle.height_store.specs.Errors.{HasCause, NoBadFile, NoBadHeight};
 ghost use Rattle.height_store.specs.Kept.{IsReadable, IsWritable, IsMadeOf, HasFirmPages, KeepsHeights, StandsForEither};
 ghost use Rattle.height_store.specs.Store.{FitsMark, IsHeight, Gains, height_at, without_height, is_newest};
@@ -45,7 +45,7 @@ impl HeightStore {
         requires few { length self.old.heights < MAX_PUBLISHED }
         requires readable { IsTrue D.tells → IsReadable self.old.heights (D.view disk.old).state.files }
         requires writable { IsTrue D.tells → IsWritable self.old mark.height (D.view disk.old).state.files }
-        requires kept { IsTrue D.tells → AllByRecursion (AllByRecursion (IsKept (D.view disk.old).state.files)) stacks.items }
+        requires kept { IsTrue D.tells → AllByRecursion (AllByRecursion (IsAsKnown (D.view disk.old).state.files)) stacks.items }
 
         ensures gains { OnOk result (Gains self.old mark stacks.items self.new) }
         ensures given { self.new.given ≡ self.old.given }

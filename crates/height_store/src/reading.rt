@@ -7,7 +7,7 @@ ghost use Rattle.state_spec.specs.State.{memory_bytes};
 ghost use Rattle.state_spec.specs.Files.{memories_in};
 ghost use Rattle.store_spec.specs.Image.{Published};
 ghost use Rattle.page_spec.specs.Layers.{Layer, memory_from};
-ghost use Rattle.sys_state.specs.System.{part_of, IsKept};
+ghost use Rattle.sys_state.specs.System.{part_of, IsWithinLimits};
 ghost use Rattle.disk_model.specs.Looking.{OnlyLooks};
 ghost use Rattle.page_file.specs.Files.{NumberedFile};
 ghost use Rattle.layer_stack.specs.Stacks.{AreLayers};
@@ -96,7 +96,7 @@ pub fn read_bytes<D: Disk>(
 // The pages of each memory, heap and stable memory of each canister in order of ids.
 fn pages_of_memories(alloc: Global, sys: &SysState) -> Result<Vec<u32>, NoMemory>
     ensures pages { IfOk result (λ pages. pages.items ≡ map (λ memory. memory.1) (memories_in (part_of sys.now))) }
-    ensures kept { OnOk result (IsKept sys.now) }
+    ensures kept { OnOk result (IsWithinLimits sys.now) }
 {
     let mut pages = Vec::new(alloc);
     for i in 0..sys.canisters() {

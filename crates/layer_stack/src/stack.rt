@@ -4,7 +4,7 @@ ghost use Rattle.std.specs.List.{AllByRecursion};
 ghost use Rattle.format_spec.specs.declared.limits.TheConstants.{PAGE_SIZE, MAX_LAYERS};
 ghost use Rattle.disk_model.specs.Looking.{OnlyLooks};
 ghost use Rattle.page_file.specs.Errors.{HasCause, NoBadPage};
-ghost use Rattle.page_file.specs.Files.{IsKept};
+ghost use Rattle.page_file.specs.Files.{IsAsKnown};
 ghost use Rattle.layer_stack.specs.Stacks.{ReadsAs, newest, numbers_of, sizes_of};
 ghost use Rattle.layer_stack.specs.Found.{FindsLayer};
 
@@ -104,7 +104,7 @@ impl Stack {
         page: u32,
         into: &mut PageBytes,
     ) -> Result<bool, PageError>
-        requires { IsTrue D.tells → AllByRecursion (IsKept (D.view disk.old).state.files) self.now }
+        requires { IsTrue D.tells → AllByRecursion (IsAsKnown (D.view disk.old).state.files) self.now }
 
         ensures bytes { IsTrue D.tells → OnOk result (ReadsAs (D.view disk.old).state.files self.now page into.new) }
         ensures found { IfOk result (λ found. found ≡ is_some (newest (reverse self.now) page)) }

@@ -24,7 +24,7 @@ use Rattle.tree_spec.specs.Tree.{Tree, reconstruct}
 use Rattle.sys_state.specs.System.{System, part_of, kept_of}
 use Rattle.sys_state.specs.declared.record.CanisterRecord.{CanisterRecord}
 use Rattle.live_state.proofs.MemoryLines.{parts_of_state}
-use Rattle.live_state.specs.StateKept.{HeldState, KeepsState}
+use Rattle.live_state.specs.StateKept.{StateView, KeepsState}
 use Rattle.live_state.specs.Sizes.{HaveSizes, sizes_of}
 
 pub sizes_in : (s : System) → map (λ (memory : Bytes × ℕ). memory.1 * PAGE_SIZE) (memories_in (part_of s)) ≡ sizes_of s.canisters
@@ -56,12 +56,12 @@ pub witness_text_is : (s : State) (paths : List (List Bytes)) (w : Tree) (text :
 unfolding witness_text
 witness_text_is s paths w text a b = a ∙ ap cbor b
 
-pub parts_kept : (held : HeldState) (system : System) (k : ℕ × State) → KeepsState held k → system ≡ held.system → system_of k.1 ≡ part_of system
+pub parts_kept : (held : StateView) (system : System) (k : ℕ × State) → KeepsState held k → system ≡ held.system → system_of k.1 ≡ part_of system
 parts_kept held system k keeps is = sym (ap part_of (is ∙ keeps.system) ∙ parts_of_state k.1)
 
-pub fit_kept : (held inside : HeldState) (k : ℕ × State) → inside ≡ held → KeepsState held k → HaveSizes inside.system.canisters inside.memories → FitMemories (part_of inside.system) (memory_bytes k.1)
+pub fit_kept : (held inside : StateView) (k : ℕ × State) → inside ≡ held → KeepsState held k → HaveSizes inside.system.canisters inside.memories → FitMemories (part_of inside.system) (memory_bytes k.1)
 fit_kept held inside k view keeps sizes =
-    subst (FitMemories (part_of inside.system)) (ap (λ (h : HeldState). h.memories) view ∙ keeps.memories) (fit_memories inside.system inside.memories sizes)
+    subst (FitMemories (part_of inside.system)) (ap (λ (h : StateView). h.memories) view ∙ keeps.memories) (fit_memories inside.system inside.memories sizes)
 
 -- counts by sizes are those of the state's manifest
 pub counted : (s : State) (sys : System) (c : Counts) → s.version ≡ 1 → system_of s ≡ part_of sys → FitMemories (part_of sys) (memory_bytes s) → c ≡ counts_by (part_of sys)

@@ -13,7 +13,7 @@ use Rattle.sys_state.specs.System.{System, kept_of, record_of}
 use Rattle.sys_state.specs.declared.record.CanisterRecord.{CanisterRecord}
 use Rattle.machine_spec.specs.Machine.{Machine}
 use Rattle.machine_spec.specs.States.{canister_in, with_canister, without_canister, newborn}
-use Rattle.live_state.specs.StateKept.{HeldState, KeepsState, live_of}
+use Rattle.live_state.specs.StateKept.{StateView, KeepsState, live_of}
 use Rattle.live_state.proofs.Pairs.{take_front, drop_front}
 use Rattle.live_state.proofs.Splits.{images, find_images, put_images, without_images, sorted-put, sorted-without, comes, stays}
 
@@ -46,10 +46,10 @@ pub length-kept : (s : State) → length (kept_of s).canisters ≡ length s.cani
 length-kept s = length-map s.canisters (λ (c : Bytes × Canister). (c.0, record_of c.1))
 
 -- the parts of a manager that no line on the live state changes
-pub record SameBeside (old new : HeldState) : Type 0 where
+pub record SameBeside (old new : StateView) : Type 0 where
   pub height : new.height ≡ old.height
 
-module _ (held now : HeldState) (m : Machine) (k : KeepsState held (live_of m)) (beside : SameBeside held now) where
+module _ (held now : StateView) (m : Machine) (k : KeepsState held (live_of m)) (beside : SameBeside held now) where
   there : images record_of m.live.canisters ≡ held.system.canisters
   there = sym (ap (λ (s : System). s.canisters) k.system)
 

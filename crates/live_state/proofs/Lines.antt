@@ -17,14 +17,14 @@ use Rattle.machine_spec.specs.LiveSteps.{canister_step, drop_step, module_step, 
 use Rattle.machine_spec.specs.Machine.{Machine, now_live}
 use Rattle.machine_spec.specs.States.{canister_in, with_canister, without_canister, newborn}
 use Rattle.live_state.specs.Changes.{Alters}
-use Rattle.live_state.specs.StateKept.{HeldState, KeepsState, AfterState, live_of}
+use Rattle.live_state.specs.StateKept.{StateView, KeepsState, AfterState, live_of}
 use Rattle.live_state.proofs.Keeping.{SameBeside, is_found, length-kept, kept_same, kept_create, kept_remove, kept_change}
 use Rattle.live_state.proofs.Stepped.{alters_two, alters_three, alters_found}
 
-abbrev pub Same : HeldState → HeldState → Type 0
+abbrev pub Same : StateView → StateView → Type 0
 Same old now = (now.system ≡ old.system) × (now.memories ≡ old.memories)
 
-module _ (old now : HeldState) (m : Machine) (k : KeepsState old (live_of m)) (beside : SameBeside old now) where
+module _ (old now : StateView) (m : Machine) (k : KeepsState old (live_of m)) (beside : SameBeside old now) where
   same : Same old now → KeepsState now (live_of m)
   same s = kept_same old now m k beside s.0 s.1
 

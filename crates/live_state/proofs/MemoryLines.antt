@@ -27,7 +27,7 @@ use Rattle.machine_spec.specs.LiveSteps.{grow_step, write_step, read_reply, byte
 use Rattle.machine_spec.specs.Machine.{Machine, Outcome, now_live, unless, unless_none}
 use Rattle.machine_spec.specs.States.{canister_in, with_canister, memory_of, with_memory, pages_with, state_pages}
 use Rattle.live_state.specs.Changes.{Alters}
-use Rattle.live_state.specs.StateKept.{HeldState, KeepsState, AfterState, live_of}
+use Rattle.live_state.specs.StateKept.{StateView, KeepsState, AfterState, live_of}
 use Rattle.live_state.specs.Memories.{pages_more, written, write_refusal}
 use Rattle.live_state.specs.Places.{index_of}
 use Rattle.live_state.proofs.Indexed.{pick, heap_with, stable_with, pair_get, pair_set}
@@ -93,7 +93,7 @@ more_is round m at (b ∷ w) = rw (some_bytes b w) (write_pages round m at (b �
 with_is : (m : Memory) (at n : ℕ) → pages_with m at n - pages_of m ≡ pages_more (pages_of m) at n
 with_is m at n = elim (n == 0) as (λ (b : Bool). (if b then pages_of m else max (pages_of m) (pages_for (at + n))) - pages_of m ≡ (if b then 0 else max (pages_of m) (pages_for (at + n)) - pages_of m)) [ true ↦ omega arith | false ↦ refl ]
 
-module _ (old now : HeldState) (m : Machine) (k : KeepsState old (live_of m)) (beside : SameBeside old now) (id : Bytes) (mem : Mem) where
+module _ (old now : StateView) (m : Machine) (k : KeepsState old (live_of m)) (beside : SameBeside old now) (id : Bytes) (mem : Mem) where
   same : Same old now → KeepsState now (live_of m)
   same s = kept_same old now m k beside s.0 s.1
 
@@ -181,28 +181,28 @@ module _ (old now : HeldState) (m : Machine) (k : KeepsState old (live_of m)) (b
       (λ d. (refl, kept_memory c (write m.height (memory_of c mem) at w) (pages_more pages at (length w)) x its.1 (more_is m.height (memory_of c mem) at w ∙ ap (λ (p : ℕ). pages_of (memory_of c mem) + pages_more p at (length w)) (sym of_memory)) d.0 d.1 (λ was. d.2 ∙ ap (λ (b : Bytes). written b at w) was ∙ write_is m.height (memory_of c mem) at w))))
 
 -- a canister that the system lacks isn't there
-absent : (held : HeldState) (k : ℕ × State) → KeepsState held k → (id : Bytes) → calls.canister_in held.system id ≡ None → canister_in k.1 id ≡ None
+absent : (held : StateView) (k : ℕ × State) → KeepsState held k → (id : Bytes) → calls.canister_in held.system id ≡ None → canister_in k.1 id ≡ None
 absent held k keeps id h = none (canister_in k.1 id) (sym (found_there k.1 id) ∙ sym (ap (λ (s : System). calls.canister_in s id) keeps.system) ∙ h)
   where
     none : (o : Option Canister) → option_map record_of o ≡ None → o ≡ None
     none None e = refl
     none (Some c) e = absurd (cc e)
 
-pub absent_there : (held : HeldState) (m : Machine) → KeepsState held (live_of m) → (id : Bytes) (act : Canister → Outcome) → calls.canister_in held.system id ≡ None
+pub absent_there : (held : StateView) (m : Machine) → KeepsState held (live_of m) → (id : Bytes) (act : Canister → Outcome) → calls.canister_in held.system id ≡ None
     → (Refused refusals.NoCanister ≡ (unless_none (canister_in m.live id) refusals.NoCanister m act).reply) × KeepsState held (live_of (unless_none (canister_in m.live id) refusals.NoCanister m act).after)
 absent_there held m k id act h =
     subst (λ (o : Option Canister). (Refused refusals.NoCanister ≡ (unless_none o refusals.NoCanister m act).reply) × KeepsState held (live_of (unless_none o refusals.NoCanister m act).after)) (sym (absent held (live_of m) k id h)) (refl, k)
 
-pub reads_nowhere : (held : HeldState) (k : ℕ × State) → KeepsState held k → (id : Bytes) (mem : Mem) (from len : ℕ) → calls.canister_in held.system id ≡ None → Refused refusals.NoCanister ≡ read_reply k.1 id mem from len
+pub reads_nowhere : (held : StateView) (k : ℕ × State) → KeepsState held k → (id : Bytes) (mem : Mem) (from len : ℕ) → calls.canister_in held.system id ≡ None → Refused refusals.NoCanister ≡ read_reply k.1 id mem from len
 reads_nowhere held k keeps id mem from len h = sym (ap (λ (o : Option Canister). canister_told o mem from len) (absent held k keeps id h))
 
 -- the canister of a state, and the bytes of one of its memories
-pub record IsThere (held : HeldState) (state : State) (id : Bytes) (n : ℕ) (mem : Mem) : Type 0 where
+pub record IsThere (held : StateView) (state : State) (id : Bytes) (n : ℕ) (mem : Mem) : Type 0 where
   pub canister : Canister
   pub found : canister_in state id ≡ Some canister
   pub bytes : get_or held.memories (index_of n mem) [] ≡ (memory_of canister mem).bytes
 
-pub is_there : (held : HeldState) (k : ℕ × State) → KeepsState held k → (id : Bytes) (n : ℕ) (mem : Mem) → Stands bytes_cmp id held.system.canisters n → IsThere held k.1 id n mem
+pub is_there : (held : StateView) (k : ℕ × State) → KeepsState held k → (id : Bytes) (n : ℕ) (mem : Mem) → Stands bytes_cmp id held.system.canisters n → IsThere held k.1 id n mem
 is_there held k keeps id n mem s =
     let split = stays record_of id s.value k.1.canisters s.at.before s.at.after keeps.sorted (sym (ap (λ (t : System). t.canisters) keeps.system) ∙ s.at.split) in
     let count : length split.front ≡ n = sym (length-map split.front (λ (c : Bytes × Canister). (c.0, record_of c.1))) ∙ ap length split.front_is ∙ s.at.count in
@@ -215,7 +215,7 @@ is_there held k keeps id n mem s =
     }
 
 -- `read` of a state finds the canister
-module _ (held : HeldState) (k : ℕ × State) (keeps : KeepsState held k) (id : Bytes) (n : ℕ) (mem : Mem) (s : Stands bytes_cmp id held.system.canisters n) (from len : ℕ) where
+module _ (held : StateView) (k : ℕ × State) (keeps : KeepsState held k) (id : Bytes) (n : ℕ) (mem : Mem) (s : Stands bytes_cmp id held.system.canisters n) (from len : ℕ) where
   read_by : (t : IsThere held k.1 id n mem) → read_reply k.1 id mem from len ≡ bytes_told (memory_of t.canister mem) from len
   read_by t = ap (λ (o : Option Canister). canister_told o mem from len) t.found
 

@@ -12,7 +12,7 @@ use Rattle.script_text.specs.declared.reply.Reply.TheVariants.{Fine, Refused}
 use Rattle.script_text.specs.declared.reply.Refusal.{Refusal}
 use Rattle.machine_spec.specs.Machine.{Machine, Outcome, unless, unless_none}
 use Rattle.live_state.specs.Changes.{refusal_of, Refuses, Answers, Alters}
-use Rattle.live_state.specs.StateKept.{HeldState, KeepsState, AfterState, live_of}
+use Rattle.live_state.specs.StateKept.{StateView, KeepsState, AfterState, live_of}
 
 -- ---- replies to changes of the system
 
@@ -46,14 +46,14 @@ from_answers (Some error) (Err other) (Err no_memory) done same e a d s = s
 refuses : (e : SysError) (r : Refusal) (reply : Reply) → refusal_of e ≡ Some r → Refuses (refusal_of e) (Ok reply) → reply ≡ Refused r
 refuses e r reply p h = subst (λ (x : Option Refusal). Refuses x (Ok reply)) p h
 
-pub alters_one : (b : Bool) (e : SysError) (r : Refusal) (result : Result Reply NoMemory) (now : HeldState) (m : Machine) (act : Machine → Outcome) (done same : Type 0)
+pub alters_one : (b : Bool) (e : SysError) (r : Refusal) (result : Result Reply NoMemory) (now : StateView) (m : Machine) (act : Machine → Outcome) (done same : Type 0)
     → refusal_of e ≡ Some r → Alters (if b then Some e else None) result done same → (same → KeepsState now (live_of m)) → (done → (Fine ≡ (act m).reply) × KeepsState now (live_of (act m).after))
     → AfterState result now (unless ((b, r) ∷ []) m act)
 alters_one b e r (Err x) now m act done same p h keep did = tt
 alters_one true e r (Ok reply) now m act done same p h keep did = (refuses e r reply p h.0, keep h.1)
 alters_one false e r (Ok reply) now m act done same p h keep did = (h.0 ∙ (did h.1).0, (did h.1).1)
 
-pub alters_two : (b c : Bool) (e f : SysError) (r s : Refusal) (result : Result Reply NoMemory) (now : HeldState) (m : Machine) (act : Machine → Outcome) (done same : Type 0)
+pub alters_two : (b c : Bool) (e f : SysError) (r s : Refusal) (result : Result Reply NoMemory) (now : StateView) (m : Machine) (act : Machine → Outcome) (done same : Type 0)
     → refusal_of e ≡ Some r → refusal_of f ≡ Some s → Alters (if b then Some e else if c then Some f else None) result done same → (same → KeepsState now (live_of m)) → (done → (Fine ≡ (act m).reply) × KeepsState now (live_of (act m).after))
     → AfterState result now (unless ((b, r) ∷ (c, s) ∷ []) m act)
 alters_two b c e f r s (Err x) now m act done same p q h keep did = tt
@@ -61,7 +61,7 @@ alters_two true c e f r s (Ok reply) now m act done same p q h keep did = (refus
 alters_two false true e f r s (Ok reply) now m act done same p q h keep did = (refuses f s reply q h.0, keep h.1)
 alters_two false false e f r s (Ok reply) now m act done same p q h keep did = (h.0 ∙ (did h.1).0, (did h.1).1)
 
-pub alters_three : (b c d : Bool) (e f g : SysError) (r s t : Refusal) (result : Result Reply NoMemory) (now : HeldState) (m : Machine) (act : Machine → Outcome) (done same : Type 0)
+pub alters_three : (b c d : Bool) (e f g : SysError) (r s t : Refusal) (result : Result Reply NoMemory) (now : StateView) (m : Machine) (act : Machine → Outcome) (done same : Type 0)
     → refusal_of e ≡ Some r → refusal_of f ≡ Some s → refusal_of g ≡ Some t → Alters (if b then Some e else if c then Some f else if d then Some g else None) result done same → (same → KeepsState now (live_of m)) → (done → (Fine ≡ (act m).reply) × KeepsState now (live_of (act m).after))
     → AfterState result now (unless ((b, r) ∷ (c, s) ∷ (d, t) ∷ []) m act)
 alters_three b c d e f g r s t (Err x) now m act done same p q o h keep did = tt
@@ -71,7 +71,7 @@ alters_three false false true e f g r s t (Ok reply) now m act done same p q o h
 alters_three false false false e f g r s t (Ok reply) now m act done same p q o h keep did = (h.0 ∙ (did h.1).0, (did h.1).1)
 
 -- the canister is looked for first
-pub alters_found : {C : Type 0} (found : Option C) (e : SysError) (r : Refusal) (result : Result Reply NoMemory) (now : HeldState) (m : Machine) (act : C → Outcome) (done same : Type 0)
+pub alters_found : {C : Type 0} (found : Option C) (e : SysError) (r : Refusal) (result : Result Reply NoMemory) (now : StateView) (m : Machine) (act : C → Outcome) (done same : Type 0)
     → refusal_of e ≡ Some r → Alters (if is_some found then None else Some e) result done same → (same → KeepsState now (live_of m)) → ((c : C) → found ≡ Some c → done → (Fine ≡ (act c).reply) × KeepsState now (live_of (act c).after))
     → AfterState result now (unless_none found r m act)
 alters_found found e r (Err x) now m act done same p h keep did = tt

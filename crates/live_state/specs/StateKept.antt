@@ -15,20 +15,20 @@ use Rattle.machine_spec.specs.Step.{step}
 use Rattle.live_state.specs.Sizes.{HaveSizes}
 
 -- the state but for its memories, their bytes in the order of files, and its height
-pub record HeldState : Type 0 where
+pub record StateView : Type 0 where
   pub system : System
   pub memories : List Bytes
   pub height : ℕ
 
 -- Each memory has as many bytes as its pages have, heights begin at 1, and a tree that is kept is the state's.
-pub record IsHeldState (held : HeldState) (tree : Option HashTree) : Type 0 where
+pub record IsStateView (held : StateView) (tree : Option HashTree) : Type 0 where
   pub sizes : HaveSizes held.system.canisters held.memories
   pub from_one : 1 ≤ held.height
   pub kept : IfSome tree (λ t. tree_view t ≡ state_tree (part_of held.system))
 
 -- It is this state at this height, but for the rounds of pages, on which no reply depends. The canisters are in order of
 -- ids, as every step keeps them.
-pub record KeepsState (held : HeldState) (k : ℕ × State) : Type 0 where
+pub record KeepsState (held : StateView) (k : ℕ × State) : Type 0 where
   pub version : k.1.version ≡ 1
   pub sorted : is_sorted bytes_cmp k.1.canisters ≡ true
   pub system : held.system ≡ kept_of k.1
@@ -40,10 +40,10 @@ abbrev pub live_of : Machine → ℕ × State
 live_of m = (m.height, m.live)
 
 -- the reply is that of the outcome, and the live state of the machine after it is kept
-abbrev pub AfterState : Result Reply NoMemory → HeldState → Outcome → Type 0
+abbrev pub AfterState : Result Reply NoMemory → StateView → Outcome → Type 0
 AfterState (Ok reply) now outcome = (reply ≡ outcome.reply) × KeepsState now (live_of outcome.after)
 AfterState (Err e) now outcome = Unit {0}
 
 -- the same of the machine's step for a command
-abbrev pub PerformsState : Result Reply NoMemory → HeldState → Machine → Command → Type 0
+abbrev pub PerformsState : Result Reply NoMemory → StateView → Machine → Command → Type 0
 PerformsState result now m command = AfterState result now (step m command)

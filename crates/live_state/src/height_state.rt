@@ -46,13 +46,13 @@ pub struct HeightState {
 // Contracts see no tree: each line answers the same with one and without.
 impl Model for HeightState {
     ghost use Rattle.std.specs.Prelude.{map};
-    ghost use Rattle.live_state.specs.StateKept.{HeldState, IsHeldState};
+    ghost use Rattle.live_state.specs.StateKept.{StateView, IsStateView};
 
-    ghost Value = { HeldState };
+    ghost Value = { StateView };
 
     ghost view = { λ m. record { system = m.sys; memories = map (λ v. v.items) m.memories.items; height = m.height } };
 
-    ghost invariant = { λ m. IsHeldState (record { system = m.sys; memories = map (λ v. v.items) m.memories.items; height = m.height }) m.tree };
+    ghost invariant = { λ m. IsStateView (record { system = m.sys; memories = map (λ v. v.items) m.memories.items; height = m.height }) m.tree };
 }
 
 /// Where a memory of the canister at a place stands among all memories.

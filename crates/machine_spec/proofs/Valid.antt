@@ -11,7 +11,7 @@ use Rattle.std.specs.declared.cmp.Ordering.TheVariants.{Less, Equal, Greater}
 use Rattle.format_spec.specs.Bytes.{Bytes, bytes_cmp}
 use Rattle.format_spec.specs.declared.limits.TheConstants.{MAX_CANISTERS, MAX_STATE_PAGES}
 use Rattle.state_spec.specs.State.{State, Canister, CanisterPart, FitsCanister, IsSystem, IsMemory, IsByteCanister, IsByteEntry, IsState, all_pages, pages_in, part_of, system_of, without}
-use Rattle.sys_state.specs.System.{IsEntry, IsKept, system}
+use Rattle.sys_state.specs.System.{IsEntry, IsWithinLimits, system}
 use Rattle.sys_state.proofs.Kept.{is_sorted-over}
 use Rattle.sys_state.proofs.Places.{parted, put_stands}
 use Rattle.machine_spec.proofs.Canisters.{Canisters, ids_apart, ids_total, sorted_with, sorted_without}
@@ -47,7 +47,7 @@ pub record AreGood (cs : Canisters) : Type 0 where
 
 -- the entries of a valid state are those of one without canisters
 abbrev pub AreEntries : List Entry → Type 0
-AreEntries es = IsKept (system 0 [] es)
+AreEntries es = IsWithinLimits (system 0 [] es)
 
 -- ---- from a state, and back
 

@@ -13,7 +13,7 @@ use Rattle.state_spec.specs.State.{State, Canister, Memory, IsMemory, has_confli
 use Rattle.state_spec.specs.Memory.{pages_for, write}
 use Rattle.state_spec.proofs.Memories.{write_none, write_pages}
 use Rattle.sys_state.specs.Id.{IsId}
-use Rattle.sys_state.specs.System.{IsKept, system}
+use Rattle.sys_state.specs.System.{IsWithinLimits, system}
 use Rattle.sys_state.specs.declared.mem.Mem.{Mem}
 use Rattle.sys_state.specs.declared.mem.Mem.TheVariants.{Heap, Stable}
 use Rattle.sys_state.proofs.Entries.{entry_deleted, entry_put, value_put}
@@ -29,7 +29,7 @@ module _ (es : List Entry) (good : AreEntries es) (path : List Bytes) where
   entry_gone value e =
       let at = stands_there path_cmp paths_total paths_apart path value es good.system.paths_ascend e in
       let gone = entry_deleted (system 0 [] es) good path at.0 at.1 in
-      subst IsKept gone.1 gone.0
+      subst IsWithinLimits gone.1 gone.0
 
   pub entry_set : (value : Bytes) → is_reserved path ≡ false → has_conflict es path ≡ false → (not (is_some (find path_cmp path es)) && nat_le MAX_ENTRIES (length es)) ≡ false
       → IsTrue (is_path path) → AreByteStrings path → IsBytes value → length value ≤ MAX_VALUE → AreEntries (put path_cmp path value es)
@@ -41,11 +41,11 @@ module _ (es : List Entry) (good : AreEntries es) (path : List Bytes) where
           let x : Entry = (path, at.1.value) in
           let read : x ≡ get_or es at.0 x = sym (ap (λ (l : List Entry). get_or l at.0 x) at.1.at.split ∙ get_or_at at.1.at.before x at.1.at.after x at.0 at.1.at.count) in
           let done = value_put (system 0 [] es) good path at.0 at.1 value x read bytes small in
-          subst IsKept done.1 done.0
+          subst IsWithinLimits done.1 done.0
       by None e few =
           let at = absent_there path_cmp paths_total paths_apart path es good.system.paths_ascend e in
           let done = entry_put (system 0 [] es) good path at.0 at.1 value none is labels free bytes small (leb-false MAX_ENTRIES (length es) few) in
-          subst IsKept done.1 done.0
+          subst IsWithinLimits done.1 done.0
 
 -- ---- canisters
 

@@ -15,7 +15,7 @@ use Rattle.state_spec.specs.Files.{file_name, heap_name, stable_name, memories_i
 use Rattle.state_spec.specs.Manifest.{FileSums, ChunkRow, chunk_sums, chunk_rows, file_row, memory_sums, file_sums, manifest_from, chunk_hashes}
 use Rattle.state_spec.proofs.SystemSizes.{id_size, system_size}
 use Rattle.sys_state.specs.declared.record.CanisterRecord.{CanisterRecord}
-use Rattle.sys_state.specs.System.{System, IsKept, part_of_record}
+use Rattle.sys_state.specs.System.{System, IsWithinLimits, part_of_record}
 use Rattle.manifest.specs.Fits.{FitsText, FitSums}
 use Rattle.manifest.proofs.Cutting.{length-parts}
 use Rattle.manifest.proofs.Growing.{length-sums_from}
@@ -23,7 +23,7 @@ use Rattle.manifest.proofs.Growing.{length-sums_from}
 abbrev part_in : Bytes × CanisterRecord → Bytes × CanisterPart
 part_in d = (d.0, part_of_record d.1)
 
-pub few_canisters : (s : System) → IsKept s → length s.canisters ≤ 1024
+pub few_canisters : (s : System) → IsWithinLimits s → length s.canisters ≤ 1024
 few_canisters s kept =
     let few = kept.system.few_canisters in
     let count = length-map s.canisters part_in in

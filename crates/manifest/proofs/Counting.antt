@@ -21,7 +21,7 @@ use Rattle.state_spec.specs.ManifestText.{manifest_text, file_row_text, chunk_ro
 use Rattle.state_spec.specs.Root.{pieces_of}
 use Rattle.state_spec.proofs.SystemSizes.{id_size, system_size}
 use Rattle.sys_state.specs.declared.record.CanisterRecord.{CanisterRecord}
-use Rattle.sys_state.specs.System.{System, IsKept, part_of, part_of_record, kept_of}
+use Rattle.sys_state.specs.System.{System, IsWithinLimits, part_of, part_of_record, kept_of}
 use Rattle.manifest.specs.declared.counts.Counts.{Counts}
 use Rattle.manifest.specs.Counts.{counts_by, counts_in, sized_counts, rows_size, chunks_in}
 use Rattle.manifest.specs.Fits.{FitMemories}
@@ -231,7 +231,7 @@ pub record Few (s : System) (text : Bytes) : Type 0 where
   pub text_chunks : part_count CHUNK_SIZE (length text) ≤ 64
   pub memories : length (memories_in (part_of s)) ≤ 2048
 
-pub few : (s : System) (text : Bytes) → IsKept s → text ≡ system_text (part_of s) → Few s text
+pub few : (s : System) (text : Bytes) → IsWithinLimits s → text ≡ system_text (part_of s) → Few s text
 few s text kept is =
     let r = few_sizes (part_of s).canisters kept.system.canisters_fit in
     let n : length (part_of s).canisters ≤ 1024 = kept.system.few_canisters in

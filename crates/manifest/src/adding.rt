@@ -4,7 +4,7 @@ ghost use Rattle.std.specs.Prelude.{◌≡◌, ◌<◌, ◌^◌, ◌++◌, ◌�
 ghost use Rattle.format_spec.specs.Bytes.{part_count};
 ghost use Rattle.state_spec.specs.Files.{heap_name, stable_name};
 ghost use Rattle.state_spec.specs.Manifest.{FileSums, manifest_from};
-ghost use Rattle.sys_state.specs.System.{IsKept, part_of};
+ghost use Rattle.sys_state.specs.System.{IsWithinLimits, part_of};
 ghost use Rattle.manifest.specs.Fits.{FitSums};
 ghost use Rattle.manifest.specs.Adding.{Adds, canister_sums, all_memory_sums, sums_from};
 
@@ -27,7 +27,7 @@ impl Manifest {
         requires empty { self.old ≡ manifest_from 1 [] }
         requires fit { FitSums (part_of sys.now) (map (λ hashes. hashes.items) sums.now) }
         ensures rows { OnOk result (self.new ≡ manifest_from 1 (all_memory_sums (part_of sys.now) (map (λ hashes. hashes.items) sums.now))) }
-        ensures kept { OnOk result (IsKept sys.now) }
+        ensures kept { OnOk result (IsWithinLimits sys.now) }
     {
         for i in 0..sys.canisters() {
             let Some((id, canister)) = sys.canister_at(i) else {

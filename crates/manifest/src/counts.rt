@@ -6,7 +6,7 @@ ghost use Rattle.state_spec.specs.State.{State, memory_bytes};
 ghost use Rattle.state_spec.specs.SystemText.{system_text};
 ghost use Rattle.state_spec.specs.Files.{memories_in};
 ghost use Rattle.state_spec.specs.Manifest.{manifest_of};
-ghost use Rattle.sys_state.specs.System.{IsKept, part_of, kept_of};
+ghost use Rattle.sys_state.specs.System.{IsWithinLimits, part_of, kept_of};
 ghost use Rattle.manifest.specs.Fits.{FitMemories};
 ghost use Rattle.manifest.specs.Counts.{counts_by, counts_in, sized_counts, rows_size, chunks_in};
 
@@ -72,7 +72,7 @@ fn memory_sizes(sys: &SysState) -> Sizes
     ensures memories { result.memories ≡ length (memories_in (part_of sys.now)) }
     ensures rows { result.rows ≡ rows_size (memories_in (part_of sys.now)) }
     ensures chunks { result.chunks ≡ chunks_in (memories_in (part_of sys.now)) }
-    ensures kept { IsKept sys.now }
+    ensures kept { IsWithinLimits sys.now }
 {
     let mut memories = 0;
     let mut rows = 0;

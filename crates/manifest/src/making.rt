@@ -11,8 +11,7 @@ use crate::names::SYSTEM;
 use crate::rows::Manifest;
 use byte_codec::{Blob, NoMemory};
 use format_spec::VERSION;
-use hash_domain::Hash32;
-use hash_domain::chunk_hashes;
+use hash_domain::{Hash32, chunk_hashes};
 use std::alloc::Global;
 use sys_state::SysState;
 

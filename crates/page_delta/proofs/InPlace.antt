@@ -7,7 +7,7 @@ use Rattle.page_delta.specs.Totals.{total}
 use Rattle.page_delta.specs.Delta.{Pages, find, pages_in, read_of, uses, Sets}
 use Rattle.page_delta.specs.Nodes.{node_at, child_in, entry_in, count_in, level_in, look, with_entry}
 use Rattle.page_delta.specs.Shared.{slots_in, StandsAt, IsShared, KeepsLevels, Owned, Differs}
-use Rattle.page_delta.specs.Roots.{root_at, map_below, roots, IsKept, IsHeld, PutsOwn, PutsAt, IsOwnPlace}
+use Rattle.page_delta.specs.Roots.{root_at, map_below, roots, AreSound, IsHeld, PutsOwn, PutsAt, IsOwnPlace}
 use Rattle.page_delta.specs.declared.entry.Entry.{Entry}
 use Rattle.page_delta.specs.declared.node.Node.{Node}
 use Rattle.page_delta.specs.declared.roots.Root.{Root}
@@ -51,7 +51,7 @@ abbrev entry_to : Option Node → ℕ → Entry → Option Node
 entry_to None d e = None
 entry_to (Some n) d e = Some (with_entry n d e)
 
-module _ (xs : List (Option Node)) (ids : List (Option Root)) (pool : Pool) (id page leaf slot : ℕ) (k : IsKept xs ids)
+module _ (xs : List (Option Node)) (ids : List (Option Root)) (pool : Pool) (id page leaf slot : ℕ) (k : AreSound xs ids)
     (h : IsHeld xs pool (λ s. 0)) (low : page < 2 ^ 20) (o : IsOwnPlace xs ids pool id page leaf slot) where
   abbrev hands : ℕ → ℕ
   hands key = total (roots key) ids
@@ -210,7 +210,7 @@ module _ (xs : List (Option Node)) (ids : List (Option Root)) (pool : Pool) (id 
       few = few;
     }
 
-    pub kept-in-place : IsKept ys ids
+    pub kept-in-place : AreSound ys ids
     kept-in-place = kept-same puts low
 
     put : PutsAt xs ys ids ids id page entry

@@ -6,7 +6,7 @@ use Rattle.page_delta.specs.Totals.{total}
 use Rattle.page_delta.specs.Delta.{Pages, find, pages_in, pages_after, if_after, Keeps, SameReads}
 use Rattle.page_delta.specs.Nodes.{once, pages_below}
 use Rattle.page_delta.specs.Shared.{IsShared, KeepsBytes}
-use Rattle.page_delta.specs.Roots.{root_at, map_below, roots, IsKept, IsHeld, KeepsTree, HasNewer, KeepsRoot}
+use Rattle.page_delta.specs.Roots.{root_at, map_below, roots, AreSound, IsHeld, KeepsTree, HasNewer, KeepsRoot}
 use Rattle.page_delta.specs.declared.node.Node.{Node}
 use Rattle.page_delta.specs.declared.roots.Root.{Root}
 use Rattle.page_delta.proofs.Sharing.{cases-option, some-live, shared-as}
@@ -19,7 +19,7 @@ use Rattle.page_delta.proofs.RootCalls.{Added, kept-added}
 use Rattle.page_delta.proofs.Seen.{seen, map-seen, live-seen, reads-same}
 
 -- trees were added, and those of the ids stay
-module _ (xs ys : List (Option Node)) (ids : List (Option Root)) (pool pool1 : Pool) (kept : Option ℕ) (k : IsKept xs ids)
+module _ (xs ys : List (Option Node)) (ids : List (Option Root)) (pool pool1 : Pool) (kept : Option ℕ) (k : AreSound xs ids)
     (h : IsHeld xs pool (λ s. 0)) (tree : KeepsTree xs ys pool pool1 kept) where
   abbrev hands : ℕ → ℕ
   hands key = total (roots key) ids
@@ -48,7 +48,7 @@ module _ (xs ys : List (Option Node)) (ids : List (Option Root)) (pool pool1 : P
     | inr here ↦ ap (map_below ys) here.1 ∙ follows-map xs ys here.0 here.0 (follows other here.0 here.1) ∙ sym (ap (map_below xs) here.1)
   ]
 
-  pub kept-tree : kept ≡ None → IsKept ys ids
+  pub kept-tree : kept ≡ None → AreSound ys ids
   kept-tree none =
       kept-next xs ys ids ids (count_at pool1) (λ s. 0) k
       (shared-as ys (count_at pool1) (λ m. hands m + once m kept) hands (λ s. 0) (λ s. 0) shared
@@ -57,7 +57,7 @@ module _ (xs ys : List (Option Node)) (ids : List (Option Root)) (pool pool1 : P
 
 -- an id has the kept tree
 module _ (xs ys : List (Option Node)) (ids ids' : List (Option Root)) (pool pool1 : Pool) (id fresh b : ℕ) (from root : Root)
-    (k : IsKept xs ids) (h : IsHeld xs pool (λ s. 0)) (is : root_at ids id ≡ Some from)
+    (k : AreSound xs ids) (h : IsHeld xs pool (λ s. 0)) (is : root_at ids id ≡ Some from)
     (tree : KeepsTree xs ys pool pool1 (Some root.node)) (newer : HasNewer xs ys from.node 3 b (Some root)) (a : Added ids ids' fresh root)
     (few : count_by is_some ids + 1 ≤ 2 ^ 31) where
   size : root.pages ≡ length (pages_below ys root.node)
@@ -65,7 +65,7 @@ module _ (xs ys : List (Option Node)) (ids ids' : List (Option Root)) (pool pool
       newer.pages 0 ∙ ap (λ (ps : Pages). length (pages_after b ps)) (part-whole xs from.node)
       ∙ sym (sizes-after b xs ys from.node root.node newer.looks)
 
-  pub kept-newer : IsKept ys ids'
+  pub kept-newer : AreSound ys ids'
   kept-newer =
       let before = shared-with xs ids pool (λ s. 0) k h in
       let hands = λ (key : ℕ). total (roots key) ids in

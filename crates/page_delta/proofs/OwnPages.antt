@@ -6,7 +6,7 @@ use Rattle.page_delta.specs.Totals.{total}
 use Rattle.page_delta.specs.Delta.{Pages, find, pages_in, pages_of, Deltas, IsOwn, Holds}
 use Rattle.page_delta.specs.Nodes.{node_at, child_in, entry_in, count_in, level_in, width, names, once as one_child, look}
 use Rattle.page_delta.specs.Shared.{slots_in}
-use Rattle.page_delta.specs.Roots.{root_at, map_below, roots, IsKept, IsHeld, IsOwnPlace}
+use Rattle.page_delta.specs.Roots.{root_at, map_below, roots, AreSound, IsHeld, IsOwnPlace}
 use Rattle.page_delta.specs.declared.entry.Entry.{Entry}
 use Rattle.page_delta.specs.declared.node.Node.{Node}
 use Rattle.page_delta.specs.declared.node.Node.TheVariants.{Branch, Leaf}
@@ -96,7 +96,7 @@ steps nodes root page e is =
       entry_is = c.2;
     }
 
-module _ (nodes : List (Option Node)) (ids : List (Option Root)) (pool : Pool) (k : IsKept nodes ids) (h : IsHeld nodes pool (λ s. 0))
+module _ (nodes : List (Option Node)) (ids : List (Option Root)) (pool : Pool) (k : AreSound nodes ids) (h : IsHeld nodes pool (λ s. 0))
     (id page : ℕ) (low : page < 2 ^ 20) (o : IsOwn (seen nodes ids) id page) where
   at-seen : (i q : ℕ) → find q (pages_of (seen nodes ids) i) ≡ find q (pages_in (map_below nodes (root_at ids i)))
   at-seen i q = ap (λ (m : Option Pages). find q (pages_in m)) (map-seen nodes ids i)
@@ -421,7 +421,7 @@ module _ (nodes : List (Option Node)) (ids : List (Option Root)) (pool : Pool) (
 -- the place of a page that is the map's own, by what a contract sees
 pub own-found : (nodes : List (Option Node)) (ids : List (Option Root)) (pool : Pool) (deltas : Deltas) (key id page : ℕ)
     → seen nodes ids ≡ deltas → key ≡ id
-    → IsKept nodes ids → Holds pool deltas → page < 2 ^ 20 → IsOwn deltas id page
+    → AreSound nodes ids → Holds pool deltas → page < 2 ^ 20 → IsOwn deltas id page
     → (leaf : ℕ) × (slot : ℕ) × IsOwnPlace nodes ids pool key page leaf slot
 own-found nodes ids pool deltas key id page is same k h low o =
     let h0 = held-seen nodes ids pool (subst (λ d. Holds pool d) (sym is) h) in

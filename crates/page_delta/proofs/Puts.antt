@@ -5,7 +5,7 @@ use Rattle.page_delta.specs.Totals.{total}
 use Rattle.page_delta.specs.Delta.{Pages, find}
 use Rattle.page_delta.specs.Nodes.{node_at, count_in, level_in, look, pages_below}
 use Rattle.page_delta.specs.Shared.{IsShared, IsPlaced, KeepsLevels, Differs}
-use Rattle.page_delta.specs.Roots.{root_at, map_below, roots, IsKept}
+use Rattle.page_delta.specs.Roots.{root_at, map_below, roots, AreSound}
 use Rattle.page_delta.specs.declared.entry.Entry.{Entry}
 use Rattle.page_delta.specs.declared.node.Node.{Node}
 use Rattle.page_delta.specs.declared.roots.Root.{Root}
@@ -17,7 +17,7 @@ use Rattle.page_delta.proofs.RootCopies.{same-root}
 use Rattle.page_delta.proofs.Lookups.{decided, find-below, find-past, length-below, one_of}
 
 -- a root that is counted once is the root of one id
-pub alone : (xs : List (Option Node)) (ids : List (Option Root)) (id other : ℕ) (root root' : Root) → IsKept xs ids → root_at ids id ≡ Some root → root_at ids other ≡ Some root' → count_in (node_at xs root.node) ≡ 1 → other ≢ id → root'.node ≢ root.node
+pub alone : (xs : List (Option Node)) (ids : List (Option Root)) (id other : ℕ) (root root' : Root) → AreSound xs ids → root_at ids id ≡ Some root → root_at ids other ≡ Some root' → count_in (node_at xs root.node) ≡ 1 → other ≢ id → root'.node ≢ root.node
 alone xs ids id other root root' k is is' once ne e =
     let count = k.shared.counted root.node in
     let two = total-two (roots root.node) refl ids other id ne in
@@ -27,7 +27,7 @@ alone xs ids id other root root' k is is' once ne e =
     let b_is = one-same root.node root.node refl in
     omega arith
 
-module _ (xs ys : List (Option Node)) (ids : List (Option Root)) (id page : ℕ) (root : Root) (entry : Entry) (k : IsKept xs ids) (is : root_at ids id ≡ Some root) (once : count_in (node_at xs root.node) ≡ 1) (d : Differs 3 xs ys root.node page entry) (levels : KeepsLevels xs ys) (low : page < 2 ^ 20) where
+module _ (xs ys : List (Option Node)) (ids : List (Option Root)) (id page : ℕ) (root : Root) (entry : Entry) (k : AreSound xs ids) (is : root_at ids id ≡ Some root) (once : count_in (node_at xs root.node) ≡ 1) (d : Differs 3 xs ys root.node page entry) (levels : KeepsLevels xs ys) (low : page < 2 ^ 20) where
   look_page : look 3 ys (Some root.node) page ≡ Some entry
   look_page = d.there page (refl, (refl, (refl, refl)))
 
@@ -71,7 +71,7 @@ module _ (xs ys : List (Option Node)) (ids : List (Option Root)) (id page : ℕ)
           (level_of other root' old, k.sizes other root' old ∙ ap (λ (p : Pages). length p) (sym (put-other other root' ne old)))
     ]
 
-    pub kept-placed : (counts loose : ℕ → ℕ) → IsShared ys counts (λ key. total (roots key) ids) loose → IsPlaced ys → count_by is_some ys ≤ 2 ^ 26 → IsKept ys (set ids id (Some (record { node = root.node; pages = pages })))
+    pub kept-placed : (counts loose : ℕ → ℕ) → IsShared ys counts (λ key. total (roots key) ids) loose → IsPlaced ys → count_by is_some ys ≤ 2 ^ 26 → AreSound ys (set ids id (Some (record { node = root.node; pages = pages })))
     kept-placed counts loose s one_place few = record {
       shared = (
           let self = shared-self ys counts (λ key. total (roots key) ids) loose s in

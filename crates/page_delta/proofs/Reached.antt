@@ -5,7 +5,7 @@ use Rattle.page_delta.specs.Totals.{total}
 use Rattle.page_delta.specs.Delta.{find, pages_in, uses}
 use Rattle.page_delta.specs.Nodes.{node_at, child_in, entry_in, count_in, level_in, width, once, names, look}
 use Rattle.page_delta.specs.Shared.{slots_in}
-use Rattle.page_delta.specs.Roots.{root_at, map_below, roots, IsKept}
+use Rattle.page_delta.specs.Roots.{root_at, map_below, roots, AreSound}
 use Rattle.page_delta.specs.declared.entry.Entry.{Entry}
 use Rattle.page_delta.specs.declared.node.Node.{Node}
 use Rattle.page_delta.specs.declared.node.Node.TheVariants.{Branch, Leaf}
@@ -88,7 +88,7 @@ node-uses slot (Some (Leaf count es)) wide some =
 unfoldable pub spell : ℕ → ℕ → ℕ → ℕ → ℕ
 spell d3 d2 d1 d0 = d3 * 32768 + d2 * 1024 + d1 * 32 + d0
 
-module _ (nodes : List (Option Node)) (ids : List (Option Root)) (k : IsKept nodes ids) where
+module _ (nodes : List (Option Node)) (ids : List (Option Root)) (k : AreSound nodes ids) where
   pub record Parent (key : ℕ) : Type 0 where
     pub node : ℕ
     pub named : Named (node_at nodes node) key

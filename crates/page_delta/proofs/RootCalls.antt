@@ -6,7 +6,7 @@ use Rattle.page_delta.specs.Totals.{total}
 use Rattle.page_delta.specs.Delta.{Pages}
 use Rattle.page_delta.specs.Nodes.{node_at, child_in, count_in, level_in, names, recounted, empty_node, look, pairs_from, consed, pages_below}
 use Rattle.page_delta.specs.Shared.{slots_in, IsShared, KeepsPlaces, SameLooks, Shrinks}
-use Rattle.page_delta.specs.Roots.{root_at, map_below, roots, IsKept, IsHeld, AddsRoot}
+use Rattle.page_delta.specs.Roots.{root_at, map_below, roots, AreSound, IsHeld, AddsRoot}
 use Rattle.page_delta.specs.declared.entry.Entry.{Entry}
 use Rattle.page_delta.specs.declared.node.Node.{Node}
 use Rattle.page_delta.specs.declared.roots.Root.{Root}
@@ -61,7 +61,7 @@ module _ (ids ids' : List (Option Root)) (id : ℕ) (root : Root) (a : Added ids
 
   -- its tree is three levels tall, with its pages counted, and those of the other ids stay
   pub record NewRoot (xs ys : List (Option Node)) : Type 0 where
-    pub kept : IsKept xs ids
+    pub kept : AreSound xs ids
     pub looks : SameLooks xs ys
     pub levels : (m : ℕ) → IsSome (node_at xs m) → level_in (node_at ys m) ≡ level_in (node_at xs m)
     pub top : level_in (node_at ys root.node) ≡ 3
@@ -86,7 +86,7 @@ module _ (ids ids' : List (Option Root)) (id : ℕ) (root : Root) (a : Added ids
     ]
 
     pub kept-added : (counts loose : ℕ → ℕ) → IsShared ys counts (λ key. total (roots key) ids + one root.node key) loose
-        → KeepsPlaces xs ys → count_by is_some ys ≤ 2 ^ 26 → count_by is_some ids + 1 ≤ 2 ^ 31 → IsKept ys ids'
+        → KeepsPlaces xs ys → count_by is_some ys ≤ 2 ^ 26 → count_by is_some ids + 1 ≤ 2 ^ 31 → AreSound ys ids'
     kept-added counts loose s places few few_ids = record {
       shared = shared-self ys counts (λ key. total (roots key) ids') loose
           (shared-as ys counts (λ key. total (roots key) ids + one root.node key) (λ key. total (roots key) ids') loose loose s
@@ -163,7 +163,7 @@ module _ (xs ys : List (Option Node)) (key : ℕ) (node : Node) (level : ℕ) (p
 
 -- an id has an empty tree
 pub root-empty : (ids ids' : List (Option Root)) (id : ℕ) (root : Root) (xs ys : List (Option Node)) (node : Node)
-    (a : Added ids ids' id root) → IsKept xs ids → PutsEmpty xs ys root.node node 3 → root.pages ≡ 0 → NewRoot ids ids' id root a xs ys
+    (a : Added ids ids' id root) → AreSound xs ids → PutsEmpty xs ys root.node node 3 → root.pages ≡ 0 → NewRoot ids ids' id root a xs ys
 root-empty ids ids' id root xs ys node a k p none = record {
   kept = k;
   looks = looks-rest xs ys root.node node 3 p (λ slot. total (slots_in slot) xs) (λ key. total (roots key) ids) (λ slot. 0) k.shared;
@@ -231,7 +231,7 @@ pages-raised xs key live = pages-same xs (raised xs key live) key key (λ q. loo
 
 -- an id has the tree of another
 pub root-raised : (ids ids' : List (Option Root)) (id from : ℕ) (root : Root) (xs : List (Option Node))
-    (live : IsSome (node_at xs root.node)) (a : Added ids ids' id root) → IsKept xs ids → root_at ids from ≡ Some root
+    (live : IsSome (node_at xs root.node)) (a : Added ids ids' id root) → AreSound xs ids → root_at ids from ≡ Some root
     → NewRoot ids ids' id root a xs (raised xs root.node live)
 root-raised ids ids' id from root xs live a k is = record {
   kept = k;
@@ -251,7 +251,7 @@ module _ (ids ids' : List (Option Root)) (id : ℕ) (root : Root) (was : root_at
       let b : roots m (root_at ids' id) ≡ 0 = ap (roots m) gone in
       omega arith
 
-  pub given-dropped : (xs : List (Option Node)) (pool : Pool) → IsKept xs ids → IsHeld xs pool (λ s. 0) → IsShared xs (count_at pool) (λ m. total (roots m) ids' + one root.node m) (λ s. 0)
+  pub given-dropped : (xs : List (Option Node)) (pool : Pool) → AreSound xs ids → IsHeld xs pool (λ s. 0) → IsShared xs (count_at pool) (λ m. total (roots m) ids' + one root.node m) (λ s. 0)
   given-dropped xs pool k h =
       shared-as xs (count_at pool) (λ m. total (roots m) ids) (λ m. total (roots m) ids' + one root.node m) (λ s. 0) (λ s. 0)
       (shared-with xs ids pool (λ s. 0) k h) dropped-total (λ slot. refl)
@@ -263,7 +263,7 @@ module _ (ids ids' : List (Option Root)) (id : ℕ) (root : Root) (was : root_at
       let c = total-present ids in let d = total-present ids' in
       omega arith
 
-  module _ (xs ys : List (Option Node)) (k : IsKept xs ids) (shrinks : Shrinks xs ys) (counts loose : ℕ → ℕ)
+  module _ (xs ys : List (Option Node)) (k : AreSound xs ids) (shrinks : Shrinks xs ys) (counts loose : ℕ → ℕ)
       (s : IsShared ys counts (λ key. total (roots key) ids') loose) where
     still : (other : ℕ) (r : Root) → root_at ids' other ≡ Some r → IsSome (node_at ys r.node)
     still other r e =
@@ -288,7 +288,7 @@ module _ (ids ids' : List (Option Root)) (id : ℕ) (root : Root) (was : root_at
           },
         )
 
-    pub kept-dropped : count_by is_some ys ≤ 2 ^ 26 → IsKept ys ids'
+    pub kept-dropped : count_by is_some ys ≤ 2 ^ 26 → AreSound ys ids'
     kept-dropped few = kept-next xs ys ids ids' counts loose k s follows (placed-next xs ys k.placed (places-shrink xs ys shrinks)) few
         (let len = dropped-len in omega (arith, k.few_ids))
 

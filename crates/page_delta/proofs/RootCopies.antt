@@ -4,7 +4,7 @@ use Rattle.page_pool.specs.Pool.{Pool}
 use Rattle.page_delta.specs.Totals.{total}
 use Rattle.page_delta.specs.Nodes.{node_at, count_in, level_in, names, recounted, look}
 use Rattle.page_delta.specs.Shared.{IsShared, KeepsPlaces, SameLooks, Stands}
-use Rattle.page_delta.specs.Roots.{root_at, map_below, roots, IsKept, IsHeld}
+use Rattle.page_delta.specs.Roots.{root_at, map_below, roots, AreSound, IsHeld}
 use Rattle.page_delta.specs.declared.node.Node.{Node}
 use Rattle.page_delta.specs.declared.roots.Root.{Root}
 use Rattle.page_delta.proofs.Sums.{total-has, total-le, present, total-present, total-present32}
@@ -32,12 +32,12 @@ roots-le key (Some root) = one-le root.node key
       | inr ne ↦ let o = one-other a b (λ e. ne (sym e)) in omega arith
     ]
 
-pub few-roots : (xs : List (Option Node)) (ids : List (Option Root)) (key : ℕ) → IsKept xs ids → total (roots key) ids ≤ 2 ^ 31
+pub few-roots : (xs : List (Option Node)) (ids : List (Option Root)) (key : ℕ) → AreSound xs ids → total (roots key) ids ≤ 2 ^ 31
 few-roots xs ids key k =
     let all = total-le (roots key) refl (present 1) ids (λ i. roots-le key (root_at ids i)) in
     let len = total-present ids in let few = k.few_ids in omega arith
 
-pub stands-kept : (xs : List (Option Node)) (ids : List (Option Root)) (pool : Pool) (loose : ℕ → ℕ) → IsKept xs ids → IsHeld xs pool loose
+pub stands-kept : (xs : List (Option Node)) (ids : List (Option Root)) (pool : Pool) (loose : ℕ → ℕ) → AreSound xs ids → IsHeld xs pool loose
     → ((slot : ℕ) → loose slot ≤ 1) → Stands xs pool
 stands-kept xs ids pool loose k h few = record {
   hands = λ key. total (roots key) ids;
@@ -49,7 +49,7 @@ stands-kept xs ids pool loose k h few = record {
   counted = h.counted;
 }
 
-pub few-kept : (xs : List (Option Node)) (ids : List (Option Root)) (key : ℕ) → IsKept xs ids → count_in (node_at xs key) + 1 < 2 ^ 64
+pub few-kept : (xs : List (Option Node)) (ids : List (Option Root)) (key : ℕ) → AreSound xs ids → count_in (node_at xs key) + 1 < 2 ^ 64
 few-kept xs ids key k =
     let a = few-roots xs ids key k in
     let all = total-le (names key) refl (present 32) xs (λ i. names-width key (node_at xs i) (k.shared.wide i)) in
@@ -57,7 +57,7 @@ few-kept xs ids key k =
     let count = k.shared.counted key in
     omega arith
 
-pub root-counted : (xs : List (Option Node)) (ids : List (Option Root)) (id : ℕ) (root : Root) → IsKept xs ids → root_at ids id ≡ Some root
+pub root-counted : (xs : List (Option Node)) (ids : List (Option Root)) (id : ℕ) (root : Root) → AreSound xs ids → root_at ids id ≡ Some root
     → 0 < count_in (node_at xs root.node)
 root-counted xs ids id root k is =
     let count = k.shared.counted root.node in
@@ -68,7 +68,7 @@ root-counted xs ids id root k is =
 
 -- the root of an id was copied, since others have it
 pub record CopiesRoot (xs mid : List (Option Node)) (ids : List (Option Root)) (id own : ℕ) (before again : Root) : Type 0 where
-  pub kept : IsKept xs ids
+  pub kept : AreSound xs ids
   pub is : root_at ids id ≡ Some before
   pub again_is : root_at ids id ≡ Some again
   pub many : 1 < count_in (node_at xs before.node)
@@ -78,7 +78,7 @@ pub record CopiesRoot (xs mid : List (Option Node)) (ids : List (Option Root)) (
   pub looks : SameLooks xs mid
   pub alike : (level q : ℕ) → look level mid (Some own) q ≡ look level xs (Some before.node) q
 
-pub many-counted : (xs : List (Option Node)) (ids : List (Option Root)) (id count : ℕ) (root : Root) → IsKept xs ids
+pub many-counted : (xs : List (Option Node)) (ids : List (Option Root)) (id count : ℕ) (root : Root) → AreSound xs ids
     → root_at ids id ≡ Some root
     → count_in (node_at xs root.node) ≡ count → count ≢ 1 → 1 < count_in (node_at xs root.node)
 many-counted xs ids id count root k is same ne = let pos = root-counted xs ids id root k is in omega arith
@@ -156,7 +156,7 @@ module _ (xs mid : List (Option Node)) (ids : List (Option Root)) (id own : ℕ)
       (places-recounted mid zs (lowered_now mid before.node (live_mid before.node live)) zs_at)
 
   pub kept-own : (counts loose : ℕ → ℕ) → IsShared mid counts (λ m. total (roots m) ids + one own m) loose → count_by is_some mid ≤ 2 ^ 26
-      → IsKept zs (set ids id (Some (record { node = own; pages = again.pages })))
+      → AreSound zs (set ids id (Some (record { node = own; pages = again.pages })))
   kept-own counts loose t few =
       kept-next xs zs ids (set ids id (Some now)) counts loose w.kept (shared-own counts loose t)
       (follows-replaced xs zs ids id before now w.is w.kept mine same_rest) (placed-next xs zs w.kept.placed places-own)

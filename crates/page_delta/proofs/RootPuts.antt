@@ -5,7 +5,7 @@ use Rattle.page_pool.specs.Pool.{Pool, count_at, IsLive}
 use Rattle.page_delta.specs.Delta.{Pages, find, pages_in, uses}
 use Rattle.page_delta.specs.Nodes.{node_at, count_in, look, pages_below}
 use Rattle.page_delta.specs.Shared.{IsShared, IsCounted, Differs}
-use Rattle.page_delta.specs.Roots.{root_at, map_below, IsKept, IsHeld, PutsOwn, PutsAt}
+use Rattle.page_delta.specs.Roots.{root_at, map_below, AreSound, IsHeld, PutsOwn, PutsAt}
 use Rattle.page_delta.specs.declared.entry.Entry.{Entry}
 use Rattle.page_delta.specs.declared.node.Node.{Node}
 use Rattle.page_delta.specs.declared.roots.Root.{Root}
@@ -39,7 +39,7 @@ module _ {n0 n2 : List (Option Node)} {ids0 ids1 : List (Option Root)} {counts :
       ∙ ap (λ (m : Option Pages). cond (eqb q page) (Some entry) (find q (pages_in m))) (sym (ap (map_below p.mid) is) ∙ p.maps id)
 
   module _ (pages : ℕ) (size : pages ≡ length (pages_below n2 r.node)) where
-    kept-put : IsKept n2 (set ids1 id (Some (record { node = r.node; pages = pages })))
+    kept-put : AreSound n2 (set ids1 id (Some (record { node = r.node; pages = pages })))
     kept-put = kept-placed p.mid n2 ids1 id page r entry p.kept is own_r d_r p.levels low pages size counts (λ slot. 0 + uses slot before) p.shared p.placed p.few
 
     puts-at : PutsAt n0 n2 ids0 (set ids1 id (Some (record { node = r.node; pages = pages }))) id page entry
@@ -58,8 +58,8 @@ module _ {n0 n2 : List (Option Node)} {ids0 ids1 : List (Option Root)} {counts :
     same_size : r.pages ≡ length (pages_below n2 r.node)
     same_size = let len = length_r in let one_is : one_of before ≡ 1 = ap one_of was in omega arith
 
-    kept_same : IsKept n2 ids1
-    kept_same = subst (λ (i : List (Option Root)). IsKept n2 i) set_back (kept-put r.pages same_size)
+    kept_same : AreSound n2 ids1
+    kept_same = subst (λ (i : List (Option Root)). AreSound n2 i) set_back (kept-put r.pages same_size)
 
     puts_same : PutsAt n0 n2 ids0 ids1 id page entry
     puts_same = subst (λ (i : List (Option Root)). PutsAt n0 n2 ids0 i id page entry) set_back (puts-at r.pages same_size)
@@ -71,7 +71,7 @@ module _ {n0 n2 : List (Option Node)} {ids0 ids1 : List (Option Root)} {counts :
     pub more_fits : r.pages + 1 < 2 ^ 32
     more_fits = let size = more_size in let most = pages-most n2 r.node in omega arith
 
-    pub kept-more : IsKept n2 (set ids1 id (Some (record { node = r.node; pages = r.pages + 1 })))
+    pub kept-more : AreSound n2 (set ids1 id (Some (record { node = r.node; pages = r.pages + 1 })))
     kept-more = kept-put (r.pages + 1) more_size
 
     pub puts-more : PutsAt n0 n2 ids0 (set ids1 id (Some (record { node = r.node; pages = r.pages + 1 }))) id page entry
@@ -79,7 +79,7 @@ module _ {n0 n2 : List (Option Node)} {ids0 ids1 : List (Option Root)} {counts :
 
 -- where the page had an entry, the ids are the same
 module _ {n0 n2 : List (Option Node)} {ids0 ids1 : List (Option Root)} {counts : ℕ → ℕ} {id page : ℕ} {entry before : Entry} (p : PutsOwn n0 n2 ids0 ids1 counts id page entry (Some before)) (low : page < 2 ^ 20) where
-  pub kept-same : IsKept n2 ids1
+  pub kept-same : AreSound n2 ids1
   kept-same = let r = the-root ids1 id p.live in kept_same p low r.0 r.1 before refl
 
   pub puts-same : PutsAt n0 n2 ids0 ids1 id page entry

@@ -7,7 +7,7 @@ use Rattle.page_delta.specs.Totals.{total}
 use Rattle.page_delta.specs.Delta.{Pages}
 use Rattle.page_delta.specs.Nodes.{node_at, level_in, look, consed, pairs_from, pages_below}
 use Rattle.page_delta.specs.Shared.{slots_in, IsShared, IsPlaced, IsClosed, IsCounted}
-use Rattle.page_delta.specs.Roots.{root_at, map_below, roots, IsKept, IsHeld}
+use Rattle.page_delta.specs.Roots.{root_at, map_below, roots, AreSound, IsHeld}
 use Rattle.page_delta.specs.declared.entry.Entry.{Entry}
 use Rattle.page_delta.specs.declared.node.Node.{Node}
 use Rattle.page_delta.specs.declared.roots.Root.{Root}
@@ -37,17 +37,17 @@ shared-self xs counts hands loose s = record {
   held = λ slot. omega arith;
 }
 
-pub shared-with : (xs : List (Option Node)) (ids : List (Option Root)) (pool : Pool) (loose : ℕ → ℕ) → IsKept xs ids → IsHeld xs pool loose → IsShared xs (count_at pool) (λ key. total (roots key) ids) loose
+pub shared-with : (xs : List (Option Node)) (ids : List (Option Root)) (pool : Pool) (loose : ℕ → ℕ) → AreSound xs ids → IsHeld xs pool loose → IsShared xs (count_at pool) (λ key. total (roots key) ids) loose
 shared-with xs ids pool loose k h =
     shared-counts xs (λ slot. total (slots_in slot) xs) (count_at pool) (λ key. total (roots key) ids) (λ slot. 0) loose k.shared (λ slot. let c = h.counts slot in omega arith)
 
 pub held-of : (xs : List (Option Node)) (pool : Pool) (hands loose : ℕ → ℕ) → IsShared xs (count_at pool) hands loose → IsCounted pool → IsHeld xs pool loose
 held-of xs pool hands loose s counted = record { counts = s.held; counted = counted }
 
-pub kept-closed : (xs : List (Option Node)) (ids : List (Option Root)) → IsKept xs ids → IsClosed xs
+pub kept-closed : (xs : List (Option Node)) (ids : List (Option Root)) → AreSound xs ids → IsClosed xs
 kept-closed xs ids k key d child e = child-live xs (λ slot. total (slots_in slot) xs) (λ m. total (roots m) ids) (λ slot. 0) key d child k.shared e
 
-pub kept-live : (xs : List (Option Node)) (ids : List (Option Root)) (id : ℕ) (root : Root) → IsKept xs ids → root_at ids id ≡ Some root → IsSome (node_at xs root.node)
+pub kept-live : (xs : List (Option Node)) (ids : List (Option Root)) (id : ℕ) (root : Root) → AreSound xs ids → root_at ids id ≡ Some root → IsSome (node_at xs root.node)
 kept-live xs ids id root k e = high-live (node_at xs root.node) (let top = k.tops id root e in omega arith)
 
 -- what an id has after a change of nodes and ids
@@ -56,7 +56,7 @@ pub record Follows (xs ys : List (Option Node)) (before now : Root) : Type 0 whe
   pub top : level_in (node_at ys now.node) ≡ 3
   pub looks : (q : ℕ) → look 3 ys (Some now.node) q ≡ look 3 xs (Some before.node) q
 
-pub kept-next : (xs ys : List (Option Node)) (ids ids' : List (Option Root)) (counts loose : ℕ → ℕ) → IsKept xs ids → IsShared ys counts (λ key. total (roots key) ids') loose → ((id : ℕ) (now : Root) → root_at ids' id ≡ Some now → (before : Root) × (root_at ids id ≡ Some before) × Follows xs ys before now) → IsPlaced ys → count_by is_some ys ≤ 2 ^ 26 → count_by is_some ids' ≤ 2 ^ 31 → IsKept ys ids'
+pub kept-next : (xs ys : List (Option Node)) (ids ids' : List (Option Root)) (counts loose : ℕ → ℕ) → AreSound xs ids → IsShared ys counts (λ key. total (roots key) ids') loose → ((id : ℕ) (now : Root) → root_at ids' id ≡ Some now → (before : Root) × (root_at ids id ≡ Some before) × Follows xs ys before now) → IsPlaced ys → count_by is_some ys ≤ 2 ^ 26 → count_by is_some ids' ≤ 2 ^ 31 → AreSound ys ids'
 kept-next xs ys ids ids' counts loose k s follows placed few few_ids = record {
   shared = shared-self ys counts (λ key. total (roots key) ids') loose s;
   placed = placed;
@@ -106,7 +106,7 @@ pub some-eq : (a b : Root) → Some a ≡ Some b → a ≡ b
 some-eq a b e = cc
 
 -- the ids are the same but for one
-pub follows-replaced : (xs ys : List (Option Node)) (ids : List (Option Root)) (id : ℕ) (before now : Root) (is : root_at ids id ≡ Some before) → IsKept xs ids → Follows xs ys before now → ((other : ℕ) (root : Root) → other ≢ id → root_at ids other ≡ Some root → Follows xs ys root root) → (other : ℕ) (root : Root) → root_at (set ids id (Some now)) other ≡ Some root → (was : Root) × (root_at ids other ≡ Some was) × Follows xs ys was root
+pub follows-replaced : (xs ys : List (Option Node)) (ids : List (Option Root)) (id : ℕ) (before now : Root) (is : root_at ids id ≡ Some before) → AreSound xs ids → Follows xs ys before now → ((other : ℕ) (root : Root) → other ≢ id → root_at ids other ≡ Some root → Follows xs ys root root) → (other : ℕ) (root : Root) → root_at (set ids id (Some now)) other ≡ Some root → (was : Root) × (root_at ids other ≡ Some was) × Follows xs ys was root
 follows-replaced xs ys ids id before now is k mine rest other root e = elim (cases_eq other id) [
   | inl same ↦
       let eq : now ≡ root = some-eq now root (sym (replaced-here ids id before now is) ∙ ap (λ i. root_at (set ids id (Some now)) i) (sym same) ∙ e) in
@@ -116,7 +116,7 @@ follows-replaced xs ys ids id before now is k mine rest other root e = elim (cas
       (root, old, rest other root ne old)
 ]
 
-pub maps-replaced : (xs ys : List (Option Node)) (ids : List (Option Root)) (id : ℕ) (before now : Root) (is : root_at ids id ≡ Some before) → IsKept xs ids → Follows xs ys before now → ((other : ℕ) (root : Root) → other ≢ id → root_at ids other ≡ Some root → Follows xs ys root root) → (other : ℕ) → map_below ys (root_at (set ids id (Some now)) other) ≡ map_below xs (root_at ids other)
+pub maps-replaced : (xs ys : List (Option Node)) (ids : List (Option Root)) (id : ℕ) (before now : Root) (is : root_at ids id ≡ Some before) → AreSound xs ids → Follows xs ys before now → ((other : ℕ) (root : Root) → other ≢ id → root_at ids other ≡ Some root → Follows xs ys root root) → (other : ℕ) → map_below ys (root_at (set ids id (Some now)) other) ≡ map_below xs (root_at ids other)
 maps-replaced xs ys ids id before now is k mine rest other = elim (cases_eq other id) [
   | inl same ↦ ap (map_below ys) (ap (λ i. root_at (set ids id (Some now)) i) same ∙ replaced-here ids id before now is) ∙ follows-map xs ys before now mine ∙ sym (ap (map_below xs) (ap (λ i. root_at ids i) same ∙ is))
   | inr ne ↦ ap (map_below ys) (replaced-there ids id before now is other ne) ∙ elim (cases-option (root_at ids other)) [

@@ -6,7 +6,7 @@ use Rattle.page_delta.specs.Totals.{total}
 use Rattle.page_delta.specs.Delta.{Deltas, Pages, map_of, IsLive, pages_in, pages_of, find, read_of, reads, uses_in, RiseFrom, Holds, Adds, IsOwn}
 use Rattle.page_delta.specs.Nodes.{node_at, child_in, entry_in, leaf_of, look, pages_below}
 use Rattle.page_delta.specs.Shared.{slots_in}
-use Rattle.page_delta.specs.Roots.{root_at, map_below, IsKept, IsHeld, AddsRoot, PutsAt}
+use Rattle.page_delta.specs.Roots.{root_at, map_below, AreSound, IsHeld, AddsRoot, PutsAt}
 use Rattle.page_delta.specs.declared.entry.Entry.{Entry}
 use Rattle.page_delta.specs.declared.node.Node.{Node}
 use Rattle.page_delta.specs.declared.roots.Root.{Root}
@@ -88,12 +88,12 @@ find-held nodes ids pool loose (Some r) q e h is = elim (cases_lt q (2 ^ 20)) [
   | inr high ↦ absurd (some-none e (sym is ∙ find-past nodes r.node q (omega arith)))
 ]
 
-seen-once : (nodes : List (Option Node)) (ids : List (Option Root)) → IsKept nodes ids → (slot node : ℕ)
+seen-once : (nodes : List (Option Node)) (ids : List (Option Root)) → AreSound nodes ids → (slot node : ℕ)
     → uses_in slot (get_or (map leaf_of nodes) node None) ≤ 1
 seen-once nodes ids k slot node = let once = once-placed nodes k.placed slot node in
     let same = ap (uses_in slot) (get-map leaf_of refl nodes node) in omega arith
 
-pub seen-held : (nodes : List (Option Node)) (ids : List (Option Root)) (pool : Pool) → IsKept nodes ids → IsHeld nodes pool (λ slot. 0)
+pub seen-held : (nodes : List (Option Node)) (ids : List (Option Root)) (pool : Pool) → AreSound nodes ids → IsHeld nodes pool (λ slot. 0)
     → Holds pool (seen nodes ids)
 seen-held nodes ids pool k h = record {
   counts = λ slot. let a = h.counts slot in let b = total-leaves slot nodes in
@@ -164,7 +164,7 @@ pub get-past : (nodes : List (Option Node)) (ids : List (Option Root)) (id : ℕ
 get-past nodes ids id root page is high = ap (λ (m : Option Pages). find page (pages_in m))
     (map-seen nodes ids id ∙ ap (map_below nodes) is) ∙ find-past nodes root.node page high
 
-pub seen-held-same : (n n' : List (Option Node)) (ids ids' : List (Option Root)) (pool : Pool) → Holds pool (seen n ids) → IsKept n' ids'
+pub seen-held-same : (n n' : List (Option Node)) (ids ids' : List (Option Root)) (pool : Pool) → Holds pool (seen n ids) → AreSound n' ids'
     → ((slot : ℕ) → total (slots_in slot) n' ≡ total (slots_in slot) n) → Holds pool (seen n' ids')
 seen-held-same n n' ids ids' pool h k same =
     let h0 = held-seen n ids pool h in

@@ -25,7 +25,7 @@ roots key (Some root) = if root.node == key then 1 else 0
 
 -- Each node is counted as often as nodes and ids name it, and each slot has one place. A root is three levels above the
 -- leaves, and its pages are counted. Nodes and ids are few enough that no count reaches 2^32.
-pub record IsKept (nodes : List (Option Node)) (ids : List (Option Root)) : Type 0 where
+pub record AreSound (nodes : List (Option Node)) (ids : List (Option Root)) : Type 0 where
   pub shared : IsShared nodes (λ slot. total (slots_in slot) nodes) (λ key. total (roots key) ids) (λ slot. 0)
   pub placed : IsPlaced nodes
   pub tops : (id : ℕ) (root : Root) → root_at ids id ≡ Some root → level_in (node_at nodes root.node) ≡ 3
@@ -56,7 +56,7 @@ pub record PutsOwn (old new : List (Option Node)) (old_ids ids : List (Option Ro
   pub root : ℕ
   pub live : IsSome (root_at ids id)
   pub rooted : (r : Root) → root_at ids id ≡ Some r → r.node ≡ root
-  pub kept : IsKept mid ids
+  pub kept : AreSound mid ids
   pub own : count_in (node_at mid root) ≡ 1
   pub maps : (other : ℕ) → map_below mid (root_at ids other) ≡ map_below old (root_at old_ids other)
   pub before_is : look 3 mid (Some root) page ≡ before

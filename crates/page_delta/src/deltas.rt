@@ -44,7 +44,7 @@ impl Model for Deltas {
     ghost Value = { Maps };
 
     ghost use Rattle.page_delta.specs.Nodes.{leaf_of};
-    ghost use Rattle.page_delta.specs.Roots.{map_below, IsKept};
+    ghost use Rattle.page_delta.specs.Roots.{map_below, AreSound};
 
     ghost view = { λ s. record {
       maps = map (map_below s.nodes.slots) s.ids.slots;
@@ -52,7 +52,7 @@ impl Model for Deltas {
       nodes = count_by is_some s.nodes.slots;
     } };
 
-    ghost invariant = { λ s. IsKept s.nodes.slots s.ids.slots };
+    ghost invariant = { λ s. AreSound s.nodes.slots s.ids.slots };
 }
 
 impl Deltas {

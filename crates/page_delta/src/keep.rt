@@ -2,7 +2,7 @@
 
 ghost use Rattle.std.specs.Prelude.{◌≡◌, ◌≢◌, ℕ, ◌<◌, None, Some, IsSome, IfOk, OnErr};
 ghost use Rattle.page_delta.specs.Nodes.{node_at, level_in};
-ghost use Rattle.page_delta.specs.Roots.{root_at, map_below, node_of, size_of, kept_of, hung, IsKept, IsHeld, KeepsTree, HasNewer, KeepsRoot};
+ghost use Rattle.page_delta.specs.Roots.{root_at, map_below, node_of, size_of, kept_of, hung, AreSound, IsHeld, KeepsTree, HasNewer, KeepsRoot};
 ghost use Rattle.page_delta.specs.Shared.{Stands, Grows, KeepsBytes};
 ghost use Rattle.page_delta.specs.declared.node.Node.{Node as Held_node};
 
@@ -123,10 +123,10 @@ pub(crate) fn keep_root(
     id: u32,
     b: u64,
 ) -> Result<u32, NoMemory>
-    requires kept { IsKept nodes.old.slots ids.old.slots }
+    requires kept { AreSound nodes.old.slots ids.old.slots }
     requires held { IsHeld nodes.old.slots pool.old (λ slot. 0) }
     requires live { IsSome (root_at ids.old.slots id) }
-    ensures kept { IsKept nodes.new.slots ids.new.slots }
+    ensures kept { AreSound nodes.new.slots ids.new.slots }
     ensures held { IsHeld nodes.new.slots pool.new (λ slot. 0) }
     ensures added { IfOk result (λ kept. KeepsRoot nodes.old.slots nodes.new.slots ids.old.slots ids.new.slots id kept b) }
     ensures err { OnErr result ((other : ℕ) → map_below nodes.new.slots (root_at ids.new.slots other) ≡ map_below nodes.old.slots (root_at ids.old.slots other)) }

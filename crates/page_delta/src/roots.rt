@@ -5,7 +5,7 @@ ghost use Rattle.slab.specs.Slab.{HasRoomFor, slab_len};
 ghost use Rattle.page_pool.specs.Pool.{count_at};
 ghost use Rattle.page_delta.specs.Delta.{uses};
 ghost use Rattle.page_delta.specs.Nodes.{node_at, count_in};
-ghost use Rattle.page_delta.specs.Roots.{root_at, map_below, IsKept, IsHeld, AddsRoot, ForksRoot, PutsOwn, PutsAt, IsOwnPlace};
+ghost use Rattle.page_delta.specs.Roots.{root_at, map_below, AreSound, IsHeld, AddsRoot, ForksRoot, PutsOwn, PutsAt, IsOwnPlace};
 ghost use Rattle.page_delta.specs.Shared.{Grows, KeepsBytes, KeepsPlaces, StandsAt, IsCounted};
 ghost use Rattle.page_delta.specs.declared.roots.Root.{Root as Held_root};
 
@@ -68,12 +68,12 @@ pub(crate) fn make_id(ids: &mut Slab<Root>) -> Result<u32, NoMemory>
 
 // The root of an id, which no other id has: the one that it has, or a copy.
 fn own_root(nodes: &mut Slab<Node>, ids: &mut Slab<Root>, pool: &mut PagePool, id: usize) -> usize
-    requires kept { IsKept nodes.old.slots ids.old.slots }
+    requires kept { AreSound nodes.old.slots ids.old.slots }
     requires held { (loose : ℕ → ℕ) × IsHeld nodes.old.slots pool.old loose × ((slot : ℕ) → loose slot ≤ 1) }
     requires live { IsSome (root_at ids.old.slots id) }
     requires room { HasRoomFor nodes.old 1 }
     requires few { slab_len nodes.old + 1 ≤ 2 ^ 26 }
-    ensures kept { IsKept nodes.new.slots ids.new.slots }
+    ensures kept { AreSound nodes.new.slots ids.new.slots }
     ensures held { (loose : ℕ → ℕ) → IsHeld nodes.old.slots pool.old loose → IsHeld nodes.new.slots pool.new loose }
     ensures own { count_in (node_at nodes.new.slots result) ≡ 1 }
     ensures root { (root : Held_root) → root_at ids.new.slots id ≡ Some root → root.node ≡ result }
@@ -95,8 +95,8 @@ fn own_root(nodes: &mut Slab<Node>, ids: &mut Slab<Root>, pool: &mut PagePool, i
 
 // An id for an empty map.
 pub(crate) fn new_root(nodes: &mut Slab<Node>, ids: &mut Slab<Root>) -> Result<u32, NoMemory>
-    requires { IsKept nodes.old.slots ids.old.slots }
-    ensures kept { IsKept nodes.new.slots ids.new.slots }
+    requires { AreSound nodes.old.slots ids.old.slots }
+    ensures kept { AreSound nodes.new.slots ids.new.slots }
     ensures added { IfOk result (λ id. AddsRoot nodes.old.slots nodes.new.slots ids.old.slots ids.new.slots id []) }
     ensures err { OnErr result (nodes.new.slots ≡ nodes.old.slots) }
     ensures err_ids { OnErr result (ids.new.slots ≡ ids.old.slots) }
@@ -114,9 +114,9 @@ pub(crate) fn fork_root(
     ids: &mut Slab<Root>,
     id: u32,
 ) -> Result<u32, NoMemory>
-    requires kept { IsKept nodes.old.slots ids.old.slots }
+    requires kept { AreSound nodes.old.slots ids.old.slots }
     requires live { IsSome (root_at ids.old.slots id) }
-    ensures kept { IsKept nodes.new.slots ids.new.slots }
+    ensures kept { AreSound nodes.new.slots ids.new.slots }
     ensures added { IfOk result (λ fork. ForksRoot nodes.old.slots nodes.new.slots ids.old.slots ids.new.slots id fork) }
     ensures err { OnErr result (nodes.new.slots ≡ nodes.old.slots) }
     ensures err_ids { OnErr result (ids.new.slots ≡ ids.old.slots) }
@@ -136,7 +136,7 @@ pub(crate) fn own_place(
     id: u32,
     page: u32,
 ) -> Option<OwnPlace>
-    requires kept { IsKept nodes.now.slots ids.now.slots }
+    requires kept { AreSound nodes.now.slots ids.now.slots }
     requires held { IsHeld nodes.now.slots pool.now (λ slot. 0) }
     requires live { IsSome (root_at ids.now.slots id) }
     ensures own { IfSome result (λ own. IsOwnPlace nodes.now.slots ids.now.slots pool.now id page own.leaf own.slot) }
@@ -161,7 +161,7 @@ fn put_own(
     page: u32,
     entry: Entry,
 ) -> Option<Entry>
-    requires kept { IsKept nodes.old.slots ids.old.slots }
+    requires kept { AreSound nodes.old.slots ids.old.slots }
     requires held { IsHeld nodes.old.slots pool.old (λ slot. uses slot (Some entry)) }
     requires live { IsSome (root_at ids.old.slots id) }
     requires placed { StandsAt nodes.old.slots entry.slot (page % 32) }
@@ -187,14 +187,14 @@ pub(crate) fn put_entry(
     page: u32,
     entry: Entry,
 )
-    requires kept { IsKept nodes.old.slots ids.old.slots }
+    requires kept { AreSound nodes.old.slots ids.old.slots }
     requires held { IsHeld nodes.old.slots pool.old (λ slot. uses slot (Some entry)) }
     requires live { IsSome (root_at ids.old.slots id) }
     requires page { page < 2 ^ 20 }
     requires placed { StandsAt nodes.old.slots entry.slot (page % 32) }
     requires room { HasRoomFor nodes.old 4 }
     requires few { slab_len nodes.old + 4 ≤ 2 ^ 26 }
-    ensures kept { IsKept nodes.new.slots ids.new.slots }
+    ensures kept { AreSound nodes.new.slots ids.new.slots }
     ensures held { IsHeld nodes.new.slots pool.new (λ slot. 0) }
     ensures put { PutsAt nodes.old.slots nodes.new.slots ids.old.slots ids.new.slots id page entry }
     ensures keeps { KeepsBytes pool.old pool.new }
@@ -207,10 +207,10 @@ pub(crate) fn put_entry(
 
 // Takes an id away, and releases its tree.
 pub(crate) fn drop_root(nodes: &mut Slab<Node>, ids: &mut Slab<Root>, pool: &mut PagePool, id: u32)
-    requires kept { IsKept nodes.old.slots ids.old.slots }
+    requires kept { AreSound nodes.old.slots ids.old.slots }
     requires held { IsHeld nodes.old.slots pool.old (λ slot. 0) }
     requires live { IsSome (root_at ids.old.slots id) }
-    ensures kept { IsKept nodes.new.slots ids.new.slots }
+    ensures kept { AreSound nodes.new.slots ids.new.slots }
     ensures held { IsHeld nodes.new.slots pool.new (λ slot. 0) }
     ensures gone { root_at ids.new.slots id ≡ None }
     ensures others { (other : ℕ) → other ≢ id → map_below nodes.new.slots (root_at ids.new.slots other) ≡ map_below nodes.old.slots (root_at ids.old.slots other) }

@@ -12,13 +12,13 @@ use Rattle.disk_model.specs.Looking.{OnlyLooks}
 use Rattle.page_file.specs.declared.error.PageError.{PageError}
 use Rattle.page_file.specs.declared.format.Header.{Header}
 use Rattle.page_file.specs.Index.{IsHeader, HasRanges, ReadsHeader, ReadsIndex, header_text, are_counts}
-use Rattle.page_file.specs.Files.{NumberedFile, HasPages, IsKept, HasHeader, FindsHeader, FindsIndex}
+use Rattle.page_file.specs.Files.{NumberedFile, HasPages, IsAsKnown, HasHeader, FindsHeader, FindsIndex}
 use Rattle.page_file.proofs.Kept.{pages_fit, some_run}
 use Rattle.page_file.proofs.Texts.{header_reads, length-index_text, index_is, length-header_text, length-ranges_text}
 
 -- ---- one page
 
-pub page_is_there : (files : Files) (file : NumberedFile) (n place offset size : ℕ) → IsKept files file → n ≡ file.number → size ≡ 4096 → offset ≡ index_length file.index + 4096 * place → place < length file.index.numbers
+pub page_is_there : (files : Files) (file : NumberedFile) (n place offset size : ℕ) → IsAsKnown files file → n ≡ file.number → size ≡ 4096 → offset ≡ index_length file.index + 4096 * place → place < length file.index.numbers
     → IsSomeAnd (files (Page n)) (λ text. offset + size ≤ length text)
 page_is_there files file n place offset size kept is whole at below =
     let pages = kept.0 in let has = kept.1 in

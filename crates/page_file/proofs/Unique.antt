@@ -7,7 +7,7 @@ use Rattle.disk_model.specs.Files.{Files}
 use Rattle.page_file.specs.declared.error.PageError.{PageError}
 use Rattle.page_file.specs.declared.error.PageError.TheVariants.{BadPage, Fault, Memory}
 use Rattle.page_file.specs.Errors.{IsAnswered}
-use Rattle.page_file.specs.Files.{NumberedFile, HasPages, IsKept, Opens, ReadsAs}
+use Rattle.page_file.specs.Files.{NumberedFile, HasPages, IsAsKnown, Opens, ReadsAs}
 use Rattle.page_file.proofs.Opened.{same_text}
 
 -- what was opened is the only index of that file
@@ -19,13 +19,13 @@ pub named_as : (n m : ℕ) → IsErrOf {T = NumberedFile} (Err (BadPage n)) (Bad
 named_as n m is = cc
 
 module _ (files : Files) (n : ℕ) where
-  pub same_file : (f g : NumberedFile) → f.number ≡ n → g.number ≡ n → IsKept files f → IsKept files g → f ≡ g
+  pub same_file : (f g : NumberedFile) → f.number ≡ n → g.number ≡ n → IsAsKnown files f → IsAsKnown files g → f ≡ g
   same_file f g is_f is_g kept_f kept_g =
       let same = is_g ∙ sym is_f in
       let index = only_index files f.number g.number g.index f.index kept_f.0 same kept_g kept_f.1 in
       λ i. record { number = sym same i; index = index i }
 
-  not_bad : (f : NumberedFile) → f.number ≡ n → IsKept files f → ((i : PageIndex) (pages : Bytes) → HasPages files n i pages → ⊥) → ⊥
+  not_bad : (f : NumberedFile) → f.number ≡ n → IsAsKnown files f → ((i : PageIndex) (pages : Bytes) → HasPages files n i pages → ⊥) → ⊥
   not_bad f is kept bad = bad f.index kept.0 (subst (λ (m : ℕ). HasPages files m f.index kept.0) is kept.1)
 
   pub open_once : (one other : Result NumberedFile PageError) → Opens files n one → Opens files n other → IsAnswered one → IsAnswered other → one ≡ other
@@ -40,5 +40,5 @@ module _ (files : Files) (n : ℕ) where
   open_once (Err (BadPage m)) (Err Fault) a b _ free = absurd free
   open_once (Err (BadPage m)) (Err Memory) a b _ free = absurd free
 
-pub read_once : (files : Files) (file : NumberedFile) (place : ℕ) (one other : Bytes) → IsKept files file → ReadsAs files file place one → ReadsAs files file place other → one ≡ other
+pub read_once : (files : Files) (file : NumberedFile) (place : ℕ) (one other : Bytes) → IsAsKnown files file → ReadsAs files file place one → ReadsAs files file place other → one ≡ other
 read_once files file place one other kept a b = a kept.0 kept.1 ∙ sym (b kept.0 kept.1)

@@ -29,8 +29,8 @@ pub record HasPages (files : Files) (number : ℕ) (i : PageIndex) (pages : Byte
   pub good : IsPageFile text i pages
 
 -- the page file is there as this value has it
-abbrev pub IsKept : Files → NumberedFile → Type 0
-IsKept files file = (pages : Bytes) × HasPages files file.number file.index pages
+abbrev pub IsAsKnown : Files → NumberedFile → Type 0
+IsAsKnown files file = (pages : Bytes) × HasPages files file.number file.index pages
 
 -- there is no file of this number, or its bytes are no page file
 abbrev pub IsBadPage : Files → ℕ → Type 0
@@ -38,7 +38,7 @@ IsBadPage files number = (i : PageIndex) (pages : Bytes) → HasPages files numb
 
 -- what opening the page file of this number gives: it is there as the value has it, or it is bad
 pub record Opens (files : Files) (n : ℕ) (result : Result NumberedFile PageError) : Type 0 where
-  pub opened : IfOk result (λ file. IsKept files file)
+  pub opened : IfOk result (λ file. IsAsKnown files file)
   pub same_number : IfOk result (λ file. file.number ≡ n)
   pub bad : (m : ℕ) → IsErrOf result (BadPage m) → IsBadPage files n
   pub named : (m : ℕ) → IsErrOf result (BadPage m) → m ≡ n

@@ -6,7 +6,7 @@ ghost use Rattle.page_spec.specs.PageFile.{PageIndex, index_length};
 ghost use Rattle.disk_model.specs.Looking.{OnlyLooks};
 ghost use Rattle.page_file.specs.Errors.{HasCause, NoBadPage};
 ghost use Rattle.page_file.specs.Index.{are_counts};
-ghost use Rattle.page_file.specs.Files.{IsKept, Opens, ReadsAs, HasPages, HasHeader, FindsHeader, FindsIndex};
+ghost use Rattle.page_file.specs.Files.{IsAsKnown, Opens, ReadsAs, HasPages, HasHeader, FindsHeader, FindsIndex};
 
 use crate::format::Header;
 use crate::{FileIndex, PageBytes, PageError};
@@ -93,7 +93,7 @@ impl PageFile {
         into: &mut PageBytes,
     ) -> Result<(), PageError>
         requires place { place < length self.now.index.numbers }
-        requires kept { IsTrue D.tells → IsKept (D.view disk.old).state.files self.now }
+        requires kept { IsTrue D.tells → IsAsKnown (D.view disk.old).state.files self.now }
 
         ensures page { IsTrue D.tells → OnOk result (ReadsAs (D.view disk.old).state.files self.now place into.new) }
         ensures looks { IsTrue D.tells → OnlyLooks PAGE_SIZE (D.view disk.old) (D.view disk.new) }

@@ -5,7 +5,7 @@ ghost use Rattle.format_spec.specs.Bytes.{Bytes};
 ghost use Rattle.disk_model.specs.Files.{Files};
 ghost use Rattle.page_file.specs.declared.error.PageError.{PageError};
 ghost use Rattle.page_file.specs.Errors.{IsAnswered};
-ghost use Rattle.page_file.specs.Files.{NumberedFile, IsKept, Opens, ReadsAs};
+ghost use Rattle.page_file.specs.Files.{NumberedFile, IsAsKnown, Opens, ReadsAs};
 
 /// Over the same files `PageFile::open` has one answer, but for faults and want of memory.
 pub fn open_has_one_answer()
@@ -16,5 +16,5 @@ pub fn open_has_one_answer()
 /// Over the same files `PageFile::read_page` fills the page in one way.
 pub fn a_page_reads_as_one()
     ensures { (files : Files) (file : NumberedFile) (place : ℕ) (one other : Bytes)
-        → IsKept files file → ReadsAs files file place one → ReadsAs files file place other → one ≡ other }
+        → IsAsKnown files file → ReadsAs files file place one → ReadsAs files file place other → one ≡ other }
 {}

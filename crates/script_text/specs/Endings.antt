@@ -1,13 +1,13 @@
 -- How a run ends: its status, and its last line.
 use Rattle.std.specs.Prelude.{ℕ, [], ◌∷◌, ◌++◌, codes, decimal, Option, Some, None, Result, Ok, Err}
 use Rattle.format_spec.specs.Bytes.{Bytes}
-use Rattle.script_text.specs.declared.ending.Stop.{Stop}
-use Rattle.script_text.specs.declared.ending.Stop.TheVariants as stops
+use Rattle.script_text.specs.declared.ending.RunStop.{RunStop}
+use Rattle.script_text.specs.declared.ending.RunStop.TheVariants as stops
 use Rattle.script_text.specs.declared.status.Status.{Status}
 use Rattle.script_text.specs.declared.status.Status.TheVariants.{Done, Usage, ReadFault, WriteFault, DiskFault, BadRoot, LongLine, ManyLines, Memory}
 
 -- the status of a run that came to the end of its script, or stopped
-abbrev pub status_of : Result Unit Stop → Status
+abbrev pub status_of : Result Unit RunStop → Status
 status_of (Ok done) = Done
 status_of (Err stops.Usage) = Usage
 status_of (Err stops.ReadFault) = ReadFault
@@ -20,7 +20,7 @@ status_of (Err stops.ManyLines) = ManyLines
 status_of (Err stops.Memory) = Memory
 
 -- the last line of a stop; where the sink failed there is none
-abbrev pub closing_text : Stop → Bytes
+abbrev pub closing_text : RunStop → Bytes
 closing_text stops.Usage = codes "usage: icstate [--cache PAGES] [--peers K] [--generate N] [--seed S]\n"
 closing_text stops.ReadFault = codes "stopped: read fault\n"
 closing_text stops.WriteFault = []

@@ -18,7 +18,7 @@ mod texts;
 mod words;
 
 pub use command::{Command, HeightOrLive};
-pub use ending::{Stop, closing_parts, status_of};
+pub use ending::{RunStop, closing_parts, status_of};
 pub use numbers::Numbers;
 pub use options::{Options, options_of};
 pub use parsing::{Parsed, is_silent, parse, parse_line};

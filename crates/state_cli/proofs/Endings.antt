@@ -16,8 +16,8 @@ use Rattle.machine_spec.specs.Script.{output_by, after_script}
 use Rattle.machine_spec.proofs.Runs.{plays_once}
 use Rattle.script_text.specs.Endings.{status_of}
 use Rattle.script_text.specs.Script.{lines, joined, IsLine, IsShort, AreWithinLimits}
-use Rattle.script_text.specs.declared.ending.Stop.{Stop}
-use Rattle.script_text.specs.declared.ending.Stop.TheVariants as stops
+use Rattle.script_text.specs.declared.ending.RunStop.{RunStop}
+use Rattle.script_text.specs.declared.ending.RunStop.TheVariants as stops
 use Rattle.script_text.specs.declared.status.Status.{Status}
 use Rattle.script_text.specs.declared.status.Status.TheVariants.{Done, Usage, ReadFault, WriteFault, DiskFault, BadRoot, LongLine, ManyLines, Memory}
 use Rattle.script_text.proofs.Lines.{lines_below, lines_joined, length-below, short-below}
@@ -37,7 +37,7 @@ some_lines (b ∷ c ∷ bs) h = absurd (omega (arith, h))
 
 module _ (tells : Bool) (begins : Machine → Type 0) (shown : Bytes → Bytes) (closes : Closing) (ended : Type 0) (old new : DiskView) (script gained : Bytes) where
   -- the lines of a script that lacks nothing
-  lines_are : (ending : Result Unit Stop) (e : EndsFrom 0 ending tells begins shown closes ended old new script gained) → e.behind.lacking ≡ [] → lines script ≡ lines_of e.answered ++ lines e.behind.part
+  lines_are : (ending : Result Unit RunStop) (e : EndsFrom 0 ending tells begins shown closes ended old new script gained) → e.behind.lacking ≡ [] → lines script ≡ lines_of e.answered ++ lines e.behind.part
   lines_are ending e fed =
       let whole : script ≡ joined (lines_of e.answered) ++ e.behind.part = sym (append-nil script) ∙ ap (λ l. script ++ l) (sym fed) ∙ e.script_is in
       ap lines whole ∙ lines_joined (lines_of e.answered) e.behind.part (are_lines e.answered e.turns)
@@ -60,7 +60,7 @@ module _ (tells : Bool) (begins : Machine → Type 0) (shown : Bytes → Bytes) 
   pub within_limits : (status : Status) (left : Bytes) → AreWithinLimits (lines (script ++ left)) → Ends status tells begins shown closes ended old new script gained → (status ≡ LongLine → ⊥) × (status ≡ ManyLines → ⊥)
   within_limits status left within e = by_ending e.ending e.status_is e.ends
     where
-      by_ending : (ending : Result Unit Stop) → status ≡ status_of ending → EndsFrom 0 ending tells begins shown closes ended old new script gained → (status ≡ LongLine → ⊥) × (status ≡ ManyLines → ⊥)
+      by_ending : (ending : Result Unit RunStop) → status ≡ status_of ending → EndsFrom 0 ending tells begins shown closes ended old new script gained → (status ≡ LongLine → ⊥) × (status ≡ ManyLines → ⊥)
       by_ending (Err (stops.LongLine number)) is e = absurd (not_long number left within e)
       by_ending (Err stops.ManyLines) is e = absurd (not_many left within e)
       by_ending (Ok done) is e = (λ h. cc, λ h. cc)
@@ -103,7 +103,7 @@ pub done : (tells : Bool) (begins : Machine → Type 0) (before now : ℕ) (ende
     → (gained ≡ output_by first script) × EachImage new.state (λ image. StandsFor image (after_script first script).published) × ended
 done tells begins before now ended old new script gained first e told b = by_ending e.ending e.status_is e.ends
   where
-    by_ending : (ending : Result Unit Stop) → Done ≡ status_of ending → EndsFrom 0 ending tells begins all_shown (Closes before now) ended old new script gained
+    by_ending : (ending : Result Unit RunStop) → Done ≡ status_of ending → EndsFrom 0 ending tells begins all_shown (Closes before now) ended old new script gained
         → (gained ≡ output_by first script) × EachImage new.state (λ image. StandsFor image (after_script first script).published) × ended
     by_ending (Ok x) is e = done_from tells begins before now ended old new script gained first e told b
     by_ending (Err stops.Usage) is e = absurd cc
@@ -118,10 +118,10 @@ done tells begins before now ended old new script gained first e told b = by_end
 
 -- ---- a run where nothing fails
 
-abbrev as_ending : Stop → Result Unit Stop
+abbrev as_ending : RunStop → Result Unit RunStop
 as_ending stop = Err stop
 
-pub complete : (stop : Stop) (tells : Bool) (begins : Machine → Type 0) (closes : Closing) (ended : Type 0) (old new : DiskView) (first : Machine) (script taken gained : Bytes) (known : Option Bytes)
+pub complete : (stop : RunStop) (tells : Bool) (begins : Machine → Type 0) (closes : Closing) (ended : Type 0) (old new : DiskView) (first : Machine) (script taken gained : Bytes) (known : Option Bytes)
     → EndsFrom 0 (Err stop) tells begins all_shown closes ended old new taken gained → IsTrue tells → begins first → Consumes (Some script) known taken → AreWithinLimits (lines script)
     → (as_ending stop ≡ as_ending stops.Usage → ⊥) → (as_ending stop ≡ as_ending stops.ReadFault → ⊥) → (as_ending stop ≡ as_ending stops.WriteFault → ⊥) → (as_ending stop ≡ as_ending stops.DiskFault → ⊥)
     → (status_of (Err stop) ≡ Done) ⊎ (status_of (Err stop) ≡ Memory)
@@ -131,7 +131,7 @@ complete stop tells begins closes ended old new first script taken gained (Some 
     limits : AreWithinLimits (lines (taken ++ left))
     limits = subst (λ (s : Bytes). AreWithinLimits (lines s)) from within
 
-    by_stop : (stop : Stop) → EndsFrom 0 (Err stop) tells begins all_shown closes ended old new taken gained
+    by_stop : (stop : RunStop) → EndsFrom 0 (Err stop) tells begins all_shown closes ended old new taken gained
         → (as_ending stop ≡ as_ending stops.Usage → ⊥) → (as_ending stop ≡ as_ending stops.ReadFault → ⊥) → (as_ending stop ≡ as_ending stops.WriteFault → ⊥) → (as_ending stop ≡ as_ending stops.DiskFault → ⊥)
         → (status_of (Err stop) ≡ Done) ⊎ (status_of (Err stop) ≡ Memory)
     by_stop stops.Usage e usage read write disk = absurd (usage refl)

@@ -17,11 +17,11 @@ use Rattle.height_store.specs.Laws.{kept_stands}
 use Rattle.height_store.specs.Bad.{IsFirstBadMark, IsFirstBadPage}
 use Rattle.height_store.specs.Refused.{bad_mark_refused, bad_page_refused}
 use Rattle.machine_spec.specs.Machine.{Machine, anew, newest, resumed_at, start}
-use Rattle.state_manager.specs.Kept.{Held, Keeps}
+use Rattle.state_manager.specs.Kept.{ManagerView, Keeps}
 use Rattle.state_manager.specs.declared.stop.OpenError.{OpenError}
 use Rattle.state_manager.specs.declared.stop.OpenError.TheVariants as opening
-use Rattle.script_text.specs.declared.ending.Stop.{Stop}
-use Rattle.script_text.specs.declared.ending.Stop.TheVariants as stops
+use Rattle.script_text.specs.declared.ending.RunStop.{RunStop}
+use Rattle.script_text.specs.declared.ending.RunStop.TheVariants as stops
 use Rattle.state_cli.proofs.Turns.{part_only}
 use Rattle.state_cli.specs.Ends.{EndsBy, EndsFrom, IsAtStart, IsOpen, PlaysBehind, StandsAs, all_shown}
 use Rattle.state_cli.specs.Stops.{stop_of_opening}
@@ -95,17 +95,17 @@ stands_opening old new first entry before = weaker old new _ _ (λ image b. subs
 -- ---- lines
 
 -- where a machine is kept, each image stands for its heights
-pub keeps_stand : (held : Held) (s : DiskState) (m : Machine) → Keeps held s m → EachImage s (λ image. StandsFor image m.published)
+pub keeps_stand : (held : ManagerView) (s : DiskState) (m : Machine) → Keeps held s m → EachImage s (λ image. StandsFor image m.published)
 keeps_stand held s m keeps = kept_stands held.store.heights s m.published keeps.heights
 
 -- as long as the disk isn't called
-pub keeps_images : (held : Held) (v : DiskView) (m : Machine) (qs : List Published) → Keeps held v.state m → LeavesOnly v v (StandsForEither m.published qs)
+pub keeps_images : (held : ManagerView) (v : DiskView) (m : Machine) (qs : List Published) → Keeps held v.state m → LeavesOnly v v (StandsForEither m.published qs)
 keeps_images held v m qs keeps = at_start v _ (λ image now. inl (keeps_stand held v.state m keeps image now))
 
 -- ---- disks that aren't opened
 
 -- it stopped before a byte was taken
-ends_unread : (ending : Result Unit Stop) (tells : Bool) (old new : DiskView) (ended : Type 0) → EndsBy ending tells old.state.files ended all_shown 0 (part_only [])
+ends_unread : (ending : Result Unit RunStop) (tells : Bool) (old new : DiskView) (ended : Type 0) → EndsBy ending tells old.state.files ended all_shown 0 (part_only [])
     → (IsTrue tells → (first : Machine) → StandsAs old.state first → PlaysBehind ending first [] new.state × LeavesOnly old new (λ image. StandsFor image first.published))
     → EndsFrom 0 ending tells (StandsAs old.state) all_shown IsOpen ended old new [] []
 ends_unread ending tells old new ended by plays = record {

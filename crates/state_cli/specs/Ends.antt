@@ -15,8 +15,8 @@ use Rattle.machine_spec.specs.Machine.{Machine, start}
 use Rattle.script_text.specs.Commands.{parsed}
 use Rattle.script_text.specs.Endings.{status_of, closing_text}
 use Rattle.script_text.specs.Script.{lines, joined, IsLine, IsShort}
-use Rattle.script_text.specs.declared.ending.Stop.{Stop}
-use Rattle.script_text.specs.declared.ending.Stop.TheVariants as stops
+use Rattle.script_text.specs.declared.ending.RunStop.{RunStop}
+use Rattle.script_text.specs.declared.ending.RunStop.TheVariants as stops
 use Rattle.script_text.specs.declared.status.Status.{Status}
 use Rattle.script_text.specs.declared.status.Status.TheVariants.{Usage, DiskFault, BadRoot, Memory}
 
@@ -36,7 +36,7 @@ abbrev pub IsOpen : Closing
 IsOpen text written = written ≡ []
 
 -- the last line of a run; one that came to the end of its script has none
-abbrev pub last_line : Result Unit Stop → Bytes
+abbrev pub last_line : Result Unit RunStop → Bytes
 last_line (Ok done) = []
 last_line (Err stop) = closing_text stop
 
@@ -130,7 +130,7 @@ pub record AreTooMany (count : ℕ) (behind : Behind) : Type 0 where
 
 -- Where a run ends that has answered so many lines. `tells` says whether the disk tells its files, which are these on entry;
 -- `ended` says that the source has nothing left; `shown` gives what is shown of an answer.
-abbrev pub EndsBy : Result Unit Stop → Bool → Files → Type 0 → (Bytes → Bytes) → ℕ → Behind → Type 0
+abbrev pub EndsBy : Result Unit RunStop → Bool → Files → Type 0 → (Bytes → Bytes) → ℕ → Behind → Type 0
 EndsBy (Ok done) tells files ended shown count behind = IsThrough ended behind
 EndsBy (Err stops.Usage) tells files ended shown count behind = IsAtStart count behind
 EndsBy (Err stops.ReadFault) tells files ended shown count behind = IsInLine MAX_LINE count behind
@@ -159,7 +159,7 @@ pub record StandsAfterSome (first : Machine) (turns : List Turn) (image : Files)
 
 -- What each image stands for now, behind a machine that has answered, by the line begun: where its answer is cut, for the heights
 -- after it, and its reply is the machine's; where it stopped, for those before it or after it. A disk that stands for heights opens.
-abbrev pub PlaysBehind : Result Unit Stop → Machine → List Turn → DiskState → Type 0
+abbrev pub PlaysBehind : Result Unit RunStop → Machine → List Turn → DiskState → Type 0
 PlaysBehind (Err stops.WriteFault) m begun s = Plays m begun × EachImage s (λ image. StandsFor image (after_turns m begun).published)
 PlaysBehind (Err stops.DiskFault) m begun s = EachImage s (StandsForEither m.published (after_turns m begun).published)
 PlaysBehind (Err stops.Memory) m begun s = EachImage s (StandsForEither m.published (after_turns m begun).published)
@@ -169,7 +169,7 @@ PlaysBehind ending m begun s = EachImage s (λ image. StandsFor image m.publishe
 
 -- The replies are those of a machine that begins with this one. A crash at any moment since the start leaves the heights after
 -- some front of the lines answered or begun.
-pub record PlaysOn (ending : Result Unit Stop) (first : Machine) (old new : DiskView) (answered begun : List Turn) : Type 0 where
+pub record PlaysOn (ending : Result Unit RunStop) (first : Machine) (old new : DiskView) (answered begun : List Turn) : Type 0 where
   pub replies : Plays first answered
   pub behind : PlaysBehind ending (after_turns first answered) begun new.state
   pub moments : LeavesOnly old new (StandsAfterSome first (answered ++ begun))
@@ -177,7 +177,7 @@ pub record PlaysOn (ending : Result Unit Stop) (first : Machine) (old new : Disk
 -- ---- all of it
 
 -- A run of a script ends, which begins behind so many lines, and gives these bytes. `begins` says with which machines it may begin.
-pub record EndsFrom (before : ℕ) (ending : Result Unit Stop) (tells : Bool) (begins : Machine → Type 0) (shown : Bytes → Bytes) (closes : Closing) (ended : Type 0) (old new : DiskView) (script gained : Bytes) : Type 0 where
+pub record EndsFrom (before : ℕ) (ending : Result Unit RunStop) (tells : Bool) (begins : Machine → Type 0) (shown : Bytes → Bytes) (closes : Closing) (ended : Type 0) (old new : DiskView) (script gained : Bytes) : Type 0 where
   pub answered : List Turn
   pub behind : Behind
   pub last : Bytes
@@ -192,14 +192,14 @@ pub record EndsFrom (before : ℕ) (ending : Result Unit Stop) (tells : Bool) (b
 
 -- A run of a script ends by this status.
 pub record Ends (status : Status) (tells : Bool) (begins : Machine → Type 0) (shown : Bytes → Bytes) (closes : Closing) (ended : Type 0) (old new : DiskView) (script gained : Bytes) : Type 0 where
-  pub ending : Result Unit Stop
+  pub ending : Result Unit RunStop
   pub status_is : status ≡ status_of ending
   pub ends : EndsFrom 0 ending tells begins shown closes ended old new script gained
 
 -- ---- disks that don't open
 
 -- it stopped before the first line
-abbrev pub IsUnbegun : {T : Type 0} → Result T Stop → Type 0
+abbrev pub IsUnbegun : {T : Type 0} → Result T RunStop → Type 0
 IsUnbegun (Err stops.Usage) = Unit {0}
 IsUnbegun (Err (stops.BadMark height)) = Unit {0}
 IsUnbegun (Err (stops.BadPage number)) = Unit {0}

@@ -1,4 +1,4 @@
--- What one turn of a run does: a line is read and its answer is written. `kept` says which machines the manager and its disk keep
+-- What one turn of a run does: a line is read and its answer is written. `in_memory` says which machines the manager and its disk keep
 -- before it, and `now_kept` which they keep after it.
 use Rattle.std.specs.Prelude.{◌≡◌, ℕ, Bool, IsTrue, ◌∷◌, [], ◌++◌, Option, Result, Ok, Err}
 use Rattle.format_spec.specs.Bytes.{Bytes}
@@ -8,7 +8,7 @@ use Rattle.io_edge.specs.Faults.{IsProperPrefix}
 use Rattle.machine_spec.specs.Answers.{Turn, turn_of, answer, reply_to, after_line, after_turn, FitsLine}
 use Rattle.machine_spec.specs.Machine.{Machine}
 use Rattle.script_text.specs.Commands.{parsed}
-use Rattle.script_text.specs.declared.ending.Stop.{Stop}
+use Rattle.script_text.specs.declared.ending.RunStop.{RunStop}
 use Rattle.script_text.specs.declared.reply.Reply.{Reply}
 use Rattle.state_cli.specs.Ends.{EndsFrom, IsOpen, IsTurn, all_shown}
 use Rattle.state_cli.specs.declared.session.Continuation.{Continuation}
@@ -47,7 +47,7 @@ pub record TakesOne (tells : Bool) (kept now_kept : Machine → Type 0) (old new
   pub images : KeepsImages tells kept old new turn.line
 
 -- the bytes taken and gained behind so many lines, by what the turn answers: a turn that isn't followed by another ends the run
-abbrev pub TakesTurn : Result Continuation Stop → ℕ → Bool → (Machine → Type 0) → (Machine → Type 0) → Type 0 → DiskView → DiskView → Bytes → Bytes → Type 0
+abbrev pub TakesTurn : Result Continuation RunStop → ℕ → Bool → (Machine → Type 0) → (Machine → Type 0) → Type 0 → DiskView → DiskView → Bytes → Bytes → Type 0
 TakesTurn (Ok More) before tells kept now_kept ended old new taken gained = TakesOne tells kept now_kept old new taken gained
 TakesTurn (Ok Finished) before tells kept now_kept ended old new taken gained =
     EndsFrom before (Ok tt) tells kept all_shown IsOpen ended old new taken gained

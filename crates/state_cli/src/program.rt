@@ -16,7 +16,7 @@ use crate::session::serve;
 use disk_model::Disk;
 use io_edge::{Failed, Sink, Source, write_all};
 use itoa::Buffer;
-use script_text::{Status, Stop, closing_parts, options_of, status_of};
+use script_text::{RunStop, Status, closing_parts, options_of, status_of};
 use std::alloc::Global;
 
 // Writes a last line that ends with a number.
@@ -31,7 +31,7 @@ fn write_numbered<K: Sink>(sink: &mut K, text: &[u8], number: u64) -> Result<(),
 }
 
 // Writes the last line of a stop.
-fn write_last<K: Sink>(sink: &mut K, stop: Stop) -> Result<(), Failed>
+fn write_last<K: Sink>(sink: &mut K, stop: RunStop) -> Result<(), Failed>
     ensures all { OnOk result (Appends (K.written sink.old) (K.written sink.new) (closing_text stop)) }
     ensures prefix { OnErr result ((part : List ℕ) × IsProperPrefix part (closing_text stop) × Appends (K.written sink.old) (K.written sink.new) part) }
     ensures cause { HasCause (K.faults sink.old) (K.faults sink.new) result }
@@ -44,7 +44,7 @@ fn write_last<K: Sink>(sink: &mut K, stop: Stop) -> Result<(), Failed>
 }
 
 // The status of a stop. Its last line is written; where that fails, the status stays.
-fn close<K: Sink>(sink: &mut K, stop: Stop) -> Status
+fn close<K: Sink>(sink: &mut K, stop: RunStop) -> Status
     ensures status { result ≡ status_by (Err stop) }
     ensures closes { (last : List ℕ) × Appends (K.written sink.old) (K.written sink.new) last × Closes (K.faults sink.old) (K.faults sink.new) (closing_text stop) last }
     ensures count { K.faults sink.old ≤ K.faults sink.new }
@@ -100,7 +100,7 @@ pub fn run<S: Source, K: Sink, D: Disk>(
     ensures disk_fault { result ≡ Status.DiskFault → Rose (D.faults disk.old) (D.faults disk.new) }
 {
     let Some(options) = options_of(words) else {
-        return close(sink, Stop::Usage);
+        return close(sink, RunStop::Usage);
     };
     match serve(alloc, options, source, sink, disk) {
         Ok(()) => Status::Done,

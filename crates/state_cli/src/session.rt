@@ -24,30 +24,30 @@ use byte_codec::NoMemory;
 use disk_model::Disk;
 use format_spec::MAX_LINES;
 use io_edge::{Sink, Source, write_all};
-use script_text::{Options, Stop};
-use state_manager::{Manager, OpenError, Stop as Halt};
+use script_text::{Options, RunStop};
+use state_manager::{Manager, OpenError, Stop};
 use std::alloc::{AllocFailed, Global};
 
-impl From<ReadError> for Stop {
+impl From<ReadError> for RunStop {
     ghost from_gives = { λ error stop. stop ≡ stop_of error };
 
-    fn from(error: ReadError) -> Stop {
+    fn from(error: ReadError) -> RunStop {
         match error {
-            ReadError::Fault => Stop::ReadFault,
-            ReadError::Memory => Stop::Memory,
+            ReadError::Fault => RunStop::ReadFault,
+            ReadError::Memory => RunStop::Memory,
         }
     }
 }
 
 // The stop of a disk that isn't opened.
-fn stop_of_opening(error: OpenError) -> Stop
+fn stop_of_opening(error: OpenError) -> RunStop
     ensures { result ≡ stop_by_opening error }
 {
     match error {
-        OpenError::BadMark(height) => Stop::BadMark(height),
-        OpenError::BadPage(number) => Stop::BadPage(number),
-        OpenError::Fault => Stop::DiskFault,
-        OpenError::Memory => Stop::Memory,
+        OpenError::BadMark(height) => RunStop::BadMark(height),
+        OpenError::BadPage(number) => RunStop::BadPage(number),
+        OpenError::Fault => RunStop::DiskFault,
+        OpenError::Memory => RunStop::Memory,
     }
 }
 
@@ -75,25 +75,25 @@ impl From<AllocFailed<u8>> for LineError {
     }
 }
 
-impl From<Halt> for LineError {
+impl From<Stop> for LineError {
     ghost from_gives = { λ halt error. error ≡ line_error_of halt };
 
-    fn from(halt: Halt) -> LineError {
+    fn from(halt: Stop) -> LineError {
         match halt {
-            Halt::Disk => LineError::DiskFault,
-            Halt::Memory | Halt::Closed => LineError::Memory,
+            Stop::Disk => LineError::DiskFault,
+            Stop::Memory | Stop::Closed => LineError::Memory,
         }
     }
 }
 
-impl From<LineError> for Stop {
+impl From<LineError> for RunStop {
     ghost from_gives = { λ error stop. stop ≡ stop_of_line error };
 
-    fn from(error: LineError) -> Stop {
+    fn from(error: LineError) -> RunStop {
         match error {
-            LineError::WriteFault => Stop::WriteFault,
-            LineError::DiskFault => Stop::DiskFault,
-            LineError::Memory => Stop::Memory,
+            LineError::WriteFault => RunStop::WriteFault,
+            LineError::DiskFault => RunStop::DiskFault,
+            LineError::Memory => RunStop::Memory,
         }
     }
 }
@@ -151,7 +151,7 @@ fn serve_line<S: Source, K: Sink, D: Disk>(
     source: &mut S,
     sink: &mut K,
     disk: &mut D,
-) -> Result<Continuation, Stop>
+) -> Result<Continuation, RunStop>
     requires more { before < MAX_LINES }
     requires numbers { session.old.manager.store.given ≤ MAX_GIVEN * MAX_LINES }
     requires usable { IsUsable D.tells session.old.manager (D.view disk.old) }
@@ -159,14 +159,14 @@ fn serve_line<S: Source, K: Sink, D: Disk>(
         (TakesTurn result before D.tells (Keeps session.old.manager (D.view disk.old).state) (Keeps session.new.manager (D.view disk.new).state) (IsAtEnd (S.left source.new)) (D.view disk.old) (D.view disk.new)) }
     ensures usable { OnOk result (IsUsable D.tells session.new.manager (D.view disk.new)) }
     ensures few { GivesFew session.old.manager.store session.new.manager.store }
-    ensures read { IsCounted (S.faults source.old) (S.faults source.new) (result ≡ Err Stop.ReadFault) }
-    ensures write { IsCounted (K.faults sink.old) (K.faults sink.new) (result ≡ Err Stop.WriteFault) }
-    ensures disk { IsCounted (D.faults disk.old) (D.faults disk.new) (result ≡ Err Stop.DiskFault) }
+    ensures read { IsCounted (S.faults source.old) (S.faults source.new) (result ≡ Err RunStop.ReadFault) }
+    ensures write { IsCounted (K.faults sink.old) (K.faults sink.new) (result ≡ Err RunStop.WriteFault) }
+    ensures disk { IsCounted (D.faults disk.old) (D.faults disk.new) (result ≡ Err RunStop.DiskFault) }
     ensures begun { IsUnbegun result → ⊥ }
 {
     match read_line(source, &mut session.line)? {
         LineEnd::NoLine => Ok(Continuation::Finished),
-        LineEnd::TooLong => Err(Stop::LongLine(before + 1)),
+        LineEnd::TooLong => Err(RunStop::LongLine(before + 1)),
         LineEnd::Feed => {
             answer_line(alloc, session, sink, disk)?;
             Ok(Continuation::More)
@@ -185,14 +185,14 @@ fn serve_lines<S: Source, K: Sink, D: Disk>(
     source: &mut S,
     sink: &mut K,
     disk: &mut D,
-) -> Result<(), Stop>
+) -> Result<(), RunStop>
     requires numbers { session.old.manager.store.given ≡ 0 }
     requires usable { IsUsable D.tells session.old.manager (D.view disk.old) }
     ensures session { Moves (S.left source.old) (S.left source.new) (K.written sink.old) (K.written sink.new)
         (EndsFrom 0 result D.tells (Keeps session.old.manager (D.view disk.old).state) all_shown IsOpen (IsAtEnd (S.left source.new)) (D.view disk.old) (D.view disk.new)) }
-    ensures read { IsCounted (S.faults source.old) (S.faults source.new) (result ≡ Err Stop.ReadFault) }
-    ensures write { IsCounted (K.faults sink.old) (K.faults sink.new) (result ≡ Err Stop.WriteFault) }
-    ensures disk { IsCounted (D.faults disk.old) (D.faults disk.new) (result ≡ Err Stop.DiskFault) }
+    ensures read { IsCounted (S.faults source.old) (S.faults source.new) (result ≡ Err RunStop.ReadFault) }
+    ensures write { IsCounted (K.faults sink.old) (K.faults sink.new) (result ≡ Err RunStop.WriteFault) }
+    ensures disk { IsCounted (D.faults disk.old) (D.faults disk.new) (result ≡ Err RunStop.DiskFault) }
     ensures begun { IsUnbegun result → ⊥ }
 {
     for before in 0..MAX_LINES as u32 {
@@ -203,8 +203,8 @@ fn serve_lines<S: Source, K: Sink, D: Disk>(
     }
     match next_byte(source) {
         Ok(None) => Ok(()),
-        Ok(Some(_)) => Err(Stop::ManyLines),
-        Err(_) => Err(Stop::ReadFault),
+        Ok(Some(_)) => Err(RunStop::ManyLines),
+        Err(_) => Err(RunStop::ReadFault),
     }
 }
 
@@ -215,13 +215,13 @@ pub fn serve<S: Source, K: Sink, D: Disk>(
     source: &mut S,
     sink: &mut K,
     disk: &mut D,
-) -> Result<(), Stop>
+) -> Result<(), RunStop>
     ensures session { Moves (S.left source.old) (S.left source.new) (K.written sink.old) (K.written sink.new)
         (EndsFrom 0 result D.tells (StandsAs (D.view disk.old).state) all_shown IsOpen (IsAtEnd (S.left source.new)) (D.view disk.old) (D.view disk.new)) }
-    ensures read { IsCounted (S.faults source.old) (S.faults source.new) (result ≡ Err Stop.ReadFault) }
-    ensures write { IsCounted (K.faults sink.old) (K.faults sink.new) (result ≡ Err Stop.WriteFault) }
-    ensures disk { IsCounted (D.faults disk.old) (D.faults disk.new) (result ≡ Err Stop.DiskFault) }
-    ensures no_usage { result ≢ Err Stop.Usage }
+    ensures read { IsCounted (S.faults source.old) (S.faults source.new) (result ≡ Err RunStop.ReadFault) }
+    ensures write { IsCounted (K.faults sink.old) (K.faults sink.new) (result ≡ Err RunStop.WriteFault) }
+    ensures disk { IsCounted (D.faults disk.old) (D.faults disk.new) (result ≡ Err RunStop.DiskFault) }
+    ensures no_usage { result ≢ Err RunStop.Usage }
     ensures bad_root { IsUnbegun result → (source.new ≡ source.old) × (IsTrue D.tells → LeavesOnly (D.view disk.old) (D.view disk.new) (IsImageNow (D.view disk.old).state)) }
     ensures opens { IsTrue D.tells → OpensBy (status_of result) (D.view disk.old).state.files (source.new ≡ source.old) }
 {

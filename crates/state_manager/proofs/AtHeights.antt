@@ -20,7 +20,7 @@ use Rattle.height_store.specs.Known.{KnowsHeight}
 use Rattle.machine_spec.specs.Machine.{start, newest}
 use Rattle.machine_spec.specs.States.{empty_state}
 use Rattle.live_state.specs.Sizes.{HaveSizes}
-use Rattle.live_state.specs.StateKept.{HeldState, KeepsState, live_of}
+use Rattle.live_state.specs.StateKept.{StateView, KeepsState, live_of}
 use Rattle.live_state.proofs.Hashed.{sizes_in}
 use Rattle.live_state.proofs.Splits.{sorted_images}
 
@@ -53,7 +53,7 @@ opened_kept h p knows = record {
   height = refl;
 }
 
-pub loaded_kept : (h : StoredHeight) (p : Published) → KnowsHeight h p → (height : ℕ) → h.mark.height ≡ height → (held : HeldState) → held.system ≡ h.system → held.memories ≡ memory_bytes p.state → (height + 1 < 2 ^ 64 → held.height ≡ height + 1)
+pub loaded_kept : (h : StoredHeight) (p : Published) → KnowsHeight h p → (height : ℕ) → h.mark.height ≡ height → (held : StateView) → held.system ≡ h.system → held.memories ≡ memory_bytes p.state → (height + 1 < 2 ^ 64 → held.height ≡ height + 1)
     → KeepsState held (p.height + 1, opened p)
 loaded_kept h p knows height is held system memories next =
     let k = opened_kept h p knows in
@@ -164,8 +164,8 @@ last_there (h ∷ i ∷ hs) height e = elim (cases_Bool (h.mark.height == height
 ]
 
 -- the machine of a store goes on from the newest height
-pub begun : (held : HeldState) (p : Published) (ps : List Published) → KeepsState held (p.height + 1, opened p) → newest ps ≡ Some p → KeepsState held (live_of (start ps))
+pub begun : (held : StateView) (p : Published) (ps : List Published) → KeepsState held (p.height + 1, opened p) → newest ps ≡ Some p → KeepsState held (live_of (start ps))
 begun held p ps k last = rw last (record { version = k.version; sorted = k.sorted; system = k.system; memories = k.memories; height = k.height })
 
-pub begun_empty : (held : HeldState) (ps : List Published) → KeepsState held (1, empty_state) → ps ≡ [] → KeepsState held (live_of (start ps))
+pub begun_empty : (held : StateView) (ps : List Published) → KeepsState held (1, empty_state) → ps ≡ [] → KeepsState held (live_of (start ps))
 begun_empty held ps k none = rw none k

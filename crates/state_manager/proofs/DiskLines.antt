@@ -19,7 +19,7 @@ use Rattle.disk_model.specs.Spending.{Spends, spends_looks}
 use Rattle.disk_model.specs.State.{DiskState, IsImageNow, IsSettled}
 use Rattle.disk_model.specs.View.{DiskView, LeavesOnly}
 use Rattle.height_store.specs.declared.error.StoreError.{StoreError}
-use Rattle.height_store.specs.Kept.{IsOver, KeepsHeights, ShowsHeight, StandsForEither}
+use Rattle.height_store.specs.Kept.{MatchesFiles, KeepsHeights, ShowsHeight, StandsForEither}
 use Rattle.height_store.specs.Laws.{kept_stands}
 use Rattle.height_store.specs.Store.{StoredHeight, height_at, heights_in}
 use Rattle.height_store.specs.KnownLaws.{kept_known}
@@ -39,8 +39,8 @@ use Rattle.machine_spec.specs.Sound.{IsSound as IsSoundMachine, AreHeights}
 use Rattle.machine_spec.specs.Step.{step}
 use Rattle.machine_spec.proofs.StartKept.{start_is_sound}
 use Rattle.machine_spec.proofs.StepsKept.{step_keeps}
-use Rattle.state_manager.specs.Kept.{Held, DoesLine, Keeps, KeepsEach, KeepsStates, Performs, PerformsOn, newest_bytes, published_height}
-use Rattle.live_state.specs.StateKept.{HeldState, KeepsState, live_of}
+use Rattle.state_manager.specs.Kept.{ManagerView, DoesLine, Keeps, KeepsEach, KeepsStates, Performs, PerformsOn, newest_bytes, published_height}
+use Rattle.live_state.specs.StateKept.{StateView, KeepsState, live_of}
 use Rattle.state_manager.specs.Publishes.{Publishes}
 use Rattle.state_manager.proofs.Spending.{bytes_there, newest_there, spends_nothing}
 use Rattle.state_manager.proofs.Standing.{FoundHeight, PublishedAt, find_height, knows_same, published_some, shows_same}
@@ -59,15 +59,15 @@ on_failed P (Err e) failed = tt
 
 -- ---- lines that change nothing
 
-module _ (tells : Bool) (held : Held) (before after : DiskView) (result : Result Reply StoreError) (command : Command) where
-  pub looks_line : (IsTrue tells → IsOver held.store before.state.files) → (IsTrue tells → (most : ℕ) × OnlyLooks most before after)
+module _ (tells : Bool) (held : ManagerView) (before after : DiskView) (result : Result Reply StoreError) (command : Command) where
+  pub looks_line : (IsTrue tells → MatchesFiles held.store before.state.files) → (IsTrue tells → (most : ℕ) × OnlyLooks most before after)
       → (IsTrue tells → (m : Machine) → Keeps held before.state m → OnOk result (Spends (appends m command) (reads m command) before after))
       → (IsTrue tells → (m : Machine) → Keeps held before.state m → IfOk result (λ reply. (reply ≡ (step m command).reply) × ((step m command).after ≡ m)))
       → DoesLine tells held held before after result command
   looks_line over looks spends reply = record {
     reply = λ told m k. answers result m (subst (λ (s : DiskState). Keeps held s m) (sym (looks told).1.state) k) (reply told m k);
     images = λ told m k. looks_leave (looks told).0 before after (StandsForEither m.published (step m command).after.published) (looks told).1 (λ image now. inl (kept_stands held.store.heights before.state m.published k.heights image now));
-    over = λ told. on_ok_always _ result (subst (λ (s : DiskState). IsOver held.store s.files) (sym (looks told).1.state) (over told));
+    over = λ told. on_ok_always _ result (subst (λ (s : DiskState). MatchesFiles held.store s.files) (sym (looks told).1.state) (over told));
     spends = spends;
     given = record { least = omega arith; most = omega arith };
     same = refl;
@@ -78,7 +78,7 @@ module _ (tells : Bool) (held : Held) (before after : DiskView) (result : Result
       answers (Err e) m k h = tt
 
 -- the disk isn't called
-pub still_line : (tells : Bool) (held : Held) (view : DiskView) (result : Result Reply StoreError) (command : Command) → (IsTrue tells → IsOver held.store view.state.files)
+pub still_line : (tells : Bool) (held : ManagerView) (view : DiskView) (result : Result Reply StoreError) (command : Command) → (IsTrue tells → MatchesFiles held.store view.state.files)
     → ((m : Machine) → Keeps held view.state m → appends m command ≡ 0)
     → (IsTrue tells → (m : Machine) → Keeps held view.state m → IfOk result (λ reply. (reply ≡ (step m command).reply) × ((step m command).after ≡ m)))
     → DoesLine tells held held view view result command
@@ -86,13 +86,13 @@ still_line tells held view result command over free reply =
     looks_line tells held view view result command over (λ told. (0, looks_none 0 view)) (λ told m k. on_ok_always _ result (spends_nothing (appends m command) (reads m command) view (free m k))) reply
 
 -- a call failed that changes nothing
-pub failed_line : (tells : Bool) (held : Held) (before after : DiskView) (result : Result Reply StoreError) (command : Command) → IsErr result → (IsTrue tells → IsOver held.store before.state.files)
+pub failed_line : (tells : Bool) (held : ManagerView) (before after : DiskView) (result : Result Reply StoreError) (command : Command) → IsErr result → (IsTrue tells → MatchesFiles held.store before.state.files)
     → (IsTrue tells → (most : ℕ) × OnlyLooks most before after) → DoesLine tells held held before after result command
 failed_line tells held before after result command failed over looks =
     looks_line tells held before after result command over looks (λ told m k. on_failed _ result failed) (λ told m k. if_failed _ result failed)
 
 -- a line that needs no disk
-module _ (tells : Bool) (old now : Held) (view : DiskView) (command : Command) (over : IsTrue tells → IsOver old.store view.state.files) (store : now.store ≡ old.store) (same : now.stopped ≡ old.stopped)
+module _ (tells : Bool) (old now : ManagerView) (view : DiskView) (command : Command) (over : IsTrue tells → MatchesFiles old.store view.state.files) (store : now.store ≡ old.store) (same : now.stopped ≡ old.stopped)
     (free : (m : Machine) → appends m command ≡ 0) (good : IsCommand command) where
   pub apart_line : (result : Result Reply StoreError) → ((m : Machine) → KeepsStates old m → IfOk result (λ reply. Performs (Ok reply) now m command)) → DoesLine tells old now view view result command
   apart_line result performs = record {
@@ -120,41 +120,41 @@ module _ (tells : Bool) (old now : Held) (view : DiskView) (command : Command) (
 -- ---- lines that read
 
 -- what the disk shows of a published height that a line asks about
-pub shown_some : (held : Held) (s : DiskState) (m : Machine) → IsImageNow s s.files → Keeps held s m → (at : HeightOrLive) (height : ℕ) → Some height ≡ published_height held at → PublishedAt (ShowsHeight s.files) held.store.heights m at height
+pub shown_some : (held : ManagerView) (s : DiskState) (m : Machine) → IsImageNow s s.files → Keeps held s m → (at : HeightOrLive) (height : ℕ) → Some height ≡ published_height held at → PublishedAt (ShowsHeight s.files) held.store.heights m at height
 shown_some held s m sound k at height e = published_some (ShowsHeight s.files) (shows_same s.files) held m (k.heights.images s.files sound).each at height e
 
 -- ---- `checkpoint`
 
 -- the last state in memory is the machine's
-pub last_kept : (helds : List HeldState) (ks : List (ℕ × State)) (a : HeldState) → KeepsEach helds ks → Some a ≡ slice_get helds (length helds - 1) → (k : ℕ × State) × (last_or None ks ≡ Some k) × KeepsState a k
+pub last_kept : (helds : List StateView) (ks : List (ℕ × State)) (a : StateView) → KeepsEach helds ks → Some a ≡ slice_get helds (length helds - 1) → (k : ℕ × State) × (last_or None ks ≡ Some k) × KeepsState a k
 last_kept helds ks a each e = from None helds ks each e
   where
-    from : (o : Option (ℕ × State)) (helds : List HeldState) (ks : List (ℕ × State)) → KeepsEach helds ks → Some a ≡ slice_get helds (length helds - 1) → (k : ℕ × State) × (last_or o ks ≡ Some k) × KeepsState a k
+    from : (o : Option (ℕ × State)) (helds : List StateView) (ks : List (ℕ × State)) → KeepsEach helds ks → Some a ≡ slice_get helds (length helds - 1) → (k : ℕ × State) × (last_or o ks ≡ Some k) × KeepsState a k
     from o [] ks each e = absurd (cc e)
     from o (b ∷ helds) [] each e = absurd each
-    from o (b ∷ []) (k ∷ []) each e = let one : a ≡ b = cc e in (k, refl, subst (λ (x : HeldState). KeepsState x k) (sym one) each.0)
+    from o (b ∷ []) (k ∷ []) each e = let one : a ≡ b = cc e in (k, refl, subst (λ (x : StateView). KeepsState x k) (sym one) each.0)
     from o (b ∷ []) (k ∷ l ∷ ks) each e = absurd each.1
     from o (b ∷ c ∷ helds) (k ∷ []) each e = absurd each.1
     from o (b ∷ c ∷ helds) (k ∷ l ∷ ks) each e =
         let next : length (b ∷ c ∷ helds) - 1 ≡ suc (length (c ∷ helds) - 1) = omega arith in
         from (Some k) (c ∷ helds) (l ∷ ks) each.1 (subst (λ (i : ℕ). Some a ≡ slice_get (b ∷ c ∷ helds) i) next e)
 
-pub last_in : (P : HeldState → Type 0) (helds : List HeldState) (a : HeldState) → AllByRecursion P helds → Some a ≡ slice_get helds (length helds - 1) → P a
+pub last_in : (P : StateView → Type 0) (helds : List StateView) (a : StateView) → AllByRecursion P helds → Some a ≡ slice_get helds (length helds - 1) → P a
 last_in P [] a each e = absurd (cc e)
 last_in P (b ∷ []) a each e = let one : a ≡ b = cc e in subst P (sym one) each.0
 last_in P (b ∷ c ∷ helds) a each e =
     let next : length (b ∷ c ∷ helds) - 1 ≡ suc (length (c ∷ helds) - 1) = omega arith in
     last_in P (c ∷ helds) a each.1 (subst (λ (i : ℕ). Some a ≡ slice_get (b ∷ c ∷ helds) i) next e)
 
-pub none_kept : (helds : List HeldState) (ks : List (ℕ × State)) → KeepsEach helds ks → length helds ≡ 0 → last_or None ks ≡ None
+pub none_kept : (helds : List StateView) (ks : List (ℕ × State)) → KeepsEach helds ks → length helds ≡ 0 → last_or None ks ≡ None
 none_kept [] [] each e = refl
 none_kept [] (k ∷ ks) each e = absurd each
 none_kept (b ∷ helds) ks each e = absurd (omega (arith, e))
 
-pub checkpoint_free : (m : Machine) (helds : List HeldState) → KeepsEach helds m.memory → length helds ≡ 0 → appends m commands.Checkpoint ≡ 0
+pub checkpoint_free : (m : Machine) (helds : List StateView) → KeepsEach helds m.memory → length helds ≡ 0 → appends m commands.Checkpoint ≡ 0
 checkpoint_free m helds each none = rw (none_kept helds m.memory each none) refl
 
-pub checkpoint_none : (m : Machine) (helds : List HeldState) → KeepsEach helds m.memory → length helds ≡ 0 → step m commands.Checkpoint ≡ answered (replies.Refused refusals.NoHeight) m
+pub checkpoint_none : (m : Machine) (helds : List StateView) → KeepsEach helds m.memory → length helds ≡ 0 → step m commands.Checkpoint ≡ answered (replies.Refused refusals.NoHeight) m
 checkpoint_none m helds each none = rw (none_kept helds m.memory each none) refl
 
 -- a test of the newest height, as the store and as the machine make it
@@ -175,7 +175,7 @@ as_many_heights (h ∷ hs) [] each = absurd each
 as_many_heights (h ∷ hs) (p ∷ ps) each = omega (arith, as_many_heights hs ps each.1)
 
 -- the same live state, beside other published heights
-pub live_beside : (a : HeldState) (m n : Machine) → n.live ≡ m.live → n.height ≡ m.height → KeepsState a (live_of m) → KeepsState a (live_of n)
+pub live_beside : (a : StateView) (m n : Machine) → n.live ≡ m.live → n.height ≡ m.height → KeepsState a (live_of m) → KeepsState a (live_of n)
 live_beside a m n live height k = record {
   version = rw live k.version;
   sorted = rw live k.sorted;
@@ -187,7 +187,7 @@ live_beside a m n live height k = record {
 abbrev pub published_with : Machine → ℕ × State → Machine
 published_with m k = record m { published = m.published ++ whole k.0 k.1 ∷ [] }
 
-module _ (tells : Bool) (old : Held) (before : DiskView) (m : Machine) (a : HeldState) (last : Some a ≡ slice_get old.memory (length old.memory - 1)) where
+module _ (tells : Bool) (old : ManagerView) (before : DiskView) (m : Machine) (a : StateView) (last : Some a ≡ slice_get old.memory (length old.memory - 1)) where
   -- whether the height isn't above the newest, as the machine tests it
   low_at : (k : KeepsStates old m) (b : Bool) → option_map_or (λ newest. nat_le a.height newest) (last_or None (heights_in old.store.heights)) false ≡ b
       → option_map_or (λ (p : Published). nat_le (last_kept old.memory m.memory a k.memory last).0.0 p.height) (newest m.published) false ≡ b
@@ -229,7 +229,7 @@ pub as_step : (reply : Reply) (o p : Outcome) (m : Machine) → o ≡ p → repl
 as_step reply o p m e r a = (r ∙ sym (ap (λ (x : Outcome). x.reply) e), ap (λ (x : Outcome). x.after) e ∙ a)
 
 -- a height is published, or that failed
-module _ (tells : Bool) (old now : Held) (before after : DiskView) (a : HeldState) (last : Some a ≡ slice_get old.memory (length old.memory - 1))
+module _ (tells : Bool) (old now : ManagerView) (before after : DiskView) (a : StateView) (last : Some a ≡ slice_get old.memory (length old.memory - 1))
     (low : option_map_or (λ newest. nat_le a.height newest) (last_or None (heights_in old.store.heights)) false ≡ false) (few : length old.store.heights < MAX_PUBLISHED)
     (live : now.live ≡ old.live) (memory : now.memory ≡ old.memory) (closed : now.stopped ≡ old.stopped)
     (sound : IsTrue tells → IsImageNow after.state after.state.files)
@@ -272,13 +272,13 @@ module _ (tells : Bool) (old now : Held) (before after : DiskView) (a : HeldStat
             memory = rw memory k.states.memory;
             published = kept_known now.store.heights after.state (published_with m kk.0).published (sound told) heights;
           };
-          over = subst (λ (r : Result Bytes StoreError). OnOk r (IsOver now.store after.state.files)) done (publishes.over told);
+          over = subst (λ (r : Result Bytes StoreError). OnOk r (MatchesFiles now.store after.state.files)) done (publishes.over told);
           settled = stands.0;
           heights = heights;
         } in
         subst (λ (o : Outcome). (replies.Published a.height hash ≡ o.reply) × Keeps now after.state o.after) (sym does) (cc (kk.2.height, told_root), keeps);
     images = images_of;
-    over = λ told. subst (λ (r : Result Bytes StoreError). OnOk r (IsOver now.store after.state.files)) done (publishes.over told);
+    over = λ told. subst (λ (r : Result Bytes StoreError). OnOk r (MatchesFiles now.store after.state.files)) done (publishes.over told);
     spends = λ told m k.
         let kk = last_kept old.memory m.memory a k.states.memory last in
         subst (λ (n : ℕ). Spends n 0 before after) (sym (checkpoint_appends tells old before m a last k.states low few))
@@ -325,7 +325,7 @@ none_in_memory ps = go (newest ps)
     go None = (refl, refl)
     go (Some p) = (refl, refl)
 
-pub starts : (now : Held) (s : DiskState) (ps : List Published) → IsSound s → now.stopped ≡ None → KeepsState now.live (live_of (start ps)) → now.memory ≡ [] → IsOver now.store s.files → IsSettled s → KeepsHeights now.store.heights s ps → IsSoundMachine (start ps) → Keeps now s (start ps)
+pub starts : (now : ManagerView) (s : DiskState) (ps : List Published) → IsSound s → now.stopped ≡ None → KeepsState now.live (live_of (start ps)) → now.memory ≡ [] → MatchesFiles now.store s.files → IsSettled s → KeepsHeights now.store.heights s ps → IsSoundMachine (start ps) → Keeps now s (start ps)
 starts now s ps sound usable live memory over settled heights machine =
     let none = none_in_memory ps in
     record {
@@ -341,7 +341,7 @@ starts now s ps sound usable live memory over settled heights machine =
       heights = rw none.1 heights;
     }
 
-pub reset_done : (tells : Bool) (old now : Held) (before after : DiskView) (height : ℕ) → (IsTrue tells → IsImageNow after.state after.state.files) → (IsTrue tells → IsOver old.store before.state.files)
+pub reset_done : (tells : Bool) (old now : ManagerView) (before after : DiskView) (height : ℕ) → (IsTrue tells → IsImageNow after.state after.state.files) → (IsTrue tells → MatchesFiles old.store before.state.files)
     → (IsTrue tells → OnlyLooks (newest_bytes old.store.heights) before after) → is_some (height_at old.store.heights height) ≡ true
     → option_map_or (λ newest. newest == height) (last_or None (heights_in old.store.heights)) false ≡ true
     → now.store ≡ old.store → now.stopped ≡ old.stopped → now.memory ≡ []
@@ -372,7 +372,7 @@ reset_done tells old now before after height sound over looks there last store c
 pub looks_behind : (most : ℕ) (old mid new : DiskView) (P : Files → Type 0) → LeavesOnly old mid P → OnlyLooks most mid new → LeavesOnly old new P
 looks_behind most old mid new P before looks = then old mid new P before (looks_leave most mid new P looks before.now)
 
-pub opens_keeping : (now : Held) (mid after : DiskState) (ps : List Published) → after ≡ mid → IsImageNow after after.files → now.stopped ≡ None → now.memory ≡ [] → IsOver now.store mid.files → IsSettled mid → KeepsHeights now.store.heights mid ps
+pub opens_keeping : (now : ManagerView) (mid after : DiskState) (ps : List Published) → after ≡ mid → IsImageNow after after.files → now.stopped ≡ None → now.memory ≡ [] → MatchesFiles now.store mid.files → IsSettled mid → KeepsHeights now.store.heights mid ps
     → IsImageNow mid mid.files → (AllZip (ShowsHeight mid.files) now.store.heights ps → KeepsState now.live (live_of (start ps))) → AreHeights ps → Keeps now after (start ps)
 opens_keeping now mid after ps same sound usable memory over settled heights mid_sound live may =
     starts now after ps sound usable (live (heights.images mid.files mid_sound).each) memory (rw same over) (rw same settled) (rw same heights) (start_is_sound ps may)

@@ -23,11 +23,11 @@ use Rattle.machine_spec.specs.HeightSteps.{tree_root}
 use Rattle.machine_spec.specs.Machine.{Machine, Outcome, now_live, unless, refused_if, without_height}
 use Rattle.machine_spec.specs.Step.{step}
 use Rattle.state_manager.proofs.Standing.{at_none, at_some, as_many, drops, joins}
-use Rattle.state_manager.specs.Kept.{Held, KeepsStates, Performs, held_at}
-use Rattle.live_state.specs.StateKept.{HeldState, KeepsState, PerformsState, live_of}
+use Rattle.state_manager.specs.Kept.{ManagerView, KeepsStates, Performs, held_at}
+use Rattle.live_state.specs.StateKept.{StateView, KeepsState, PerformsState, live_of}
 
 -- a line on the live state, and what is held beside that
-pub on_live : (old now : Held) (m : Machine) (command : Command) (result : Result Reply NoMemory) → KeepsStates old m → now.stopped ≡ old.stopped → now.memory ≡ old.memory → now.store ≡ old.store
+pub on_live : (old now : ManagerView) (m : Machine) (command : Command) (result : Result Reply NoMemory) → KeepsStates old m → now.stopped ≡ old.stopped → now.memory ≡ old.memory → now.store ≡ old.store
     → (step m command).after.memory ≡ m.memory → (step m command).after.published ≡ m.published → PerformsState result now.live m command → Performs result now m command
 on_live old now m command (Err e) k closed memory store leaves stays h = tt
 on_live old now m command (Ok reply) k closed memory store leaves stays h = (
@@ -60,7 +60,7 @@ module _ {X : Type 0} (part : Machine → X) where
       ) m (λ m. now_live m (record m.live { entries = put path_cmp path value m.live.entries })) h
 
 -- the states in memory don't matter to the live one
-carried : (a : HeldState) (m n : Machine) → n.live ≡ m.live → n.height ≡ m.height → KeepsState a (live_of m) → KeepsState a (live_of n)
+carried : (a : StateView) (m n : Machine) → n.live ≡ m.live → n.height ≡ m.height → KeepsState a (live_of m) → KeepsState a (live_of n)
 carried a m n live height k = record {
   version = rw live k.version;
   sorted = rw live k.sorted;
@@ -78,10 +78,10 @@ all_filtered P test (x ∷ xs) each = elim (cases_Bool (test x)) [
   | inr goes ↦ rw goes (all_filtered P test xs each.1)
 ]
 
-pub forgets_none : (held : Held) (m : Machine) → KeepsStates held m → (h : ℕ) → None ≡ held_at held (Height h) → Performs (Ok (replies.Refused refusals.NoHeight)) held m (commands.Forget h)
+pub forgets_none : (held : ManagerView) (m : Machine) → KeepsStates held m → (h : ℕ) → None ≡ held_at held (Height h) → Performs (Ok (replies.Refused refusals.NoHeight)) held m (commands.Forget h)
 forgets_none held m k h e = rw (at_none held m k (Height h) e) (refl, k, refl)
 
-pub forgets : (old now : Held) (m : Machine) → KeepsStates old m → (h : ℕ) (a : HeldState) → Some a ≡ held_at old (Height h) → now.stopped ≡ old.stopped → now.store ≡ old.store → now.live ≡ old.live
+pub forgets : (old now : ManagerView) (m : Machine) → KeepsStates old m → (h : ℕ) (a : StateView) → Some a ≡ held_at old (Height h) → now.stopped ≡ old.stopped → now.store ≡ old.store → now.live ≡ old.live
     → now.memory ≡ filter (λ a. not (a.height == h)) old.memory → Performs (Ok replies.Fine) now m (commands.Forget h)
 forgets old now m k h a e closed store live memory =
     let n = at_some old m k (Height h) a e in
@@ -96,18 +96,18 @@ forgets old now m k h a e closed store live memory =
 
 -- ---- `round`
 
-pub round_many : (held : Held) (m : Machine) → KeepsStates held m → MAX_HEIGHTS ≤ length held.memory → Performs (Ok (replies.Refused refusals.ManyHeights)) held m commands.Round
+pub round_many : (held : ManagerView) (m : Machine) → KeepsStates held m → MAX_HEIGHTS ≤ length held.memory → Performs (Ok (replies.Refused refusals.ManyHeights)) held m commands.Round
 round_many held m k h =
     let many : nat_le MAX_HEIGHTS (length m.memory) ≡ true = grind (arith, nat_tests, as_many held.memory m.memory k.memory, h) in
     rw many (refl, k, refl)
 
-pub round_high : (held : Held) (m : Machine) → KeepsStates held m → length held.memory < MAX_HEIGHTS → MAX_HEIGHT < held.live.height → Performs (Ok (replies.Refused refusals.HeightLimit)) held m commands.Round
+pub round_high : (held : ManagerView) (m : Machine) → KeepsStates held m → length held.memory < MAX_HEIGHTS → MAX_HEIGHT < held.live.height → Performs (Ok (replies.Refused refusals.HeightLimit)) held m commands.Round
 round_high held m k few high =
     let many : nat_le MAX_HEIGHTS (length m.memory) ≡ false = grind (arith, nat_tests, as_many held.memory m.memory k.memory, few) in
     let above : nat_lt MAX_HEIGHT m.height ≡ true = grind (arith, nat_tests, k.live.height, high) in
     rw (many, above) (refl, k, refl)
 
-pub rounds : (old now : Held) (m : Machine) → KeepsStates old m → length old.memory < MAX_HEIGHTS → old.live.height ≤ MAX_HEIGHT → (height : ℕ) (tree : Bytes) → height ≡ old.live.height → tree ≡ tree_root m.live
+pub rounds : (old now : ManagerView) (m : Machine) → KeepsStates old m → length old.memory < MAX_HEIGHTS → old.live.height ≤ MAX_HEIGHT → (height : ℕ) (tree : Bytes) → height ≡ old.live.height → tree ≡ tree_root m.live
     → now.stopped ≡ old.stopped → now.store ≡ old.store → now.memory ≡ old.memory ++ old.live ∷ [] → now.live ≡ record old.live { height = old.live.height + 1 }
     → Performs (Ok (replies.Round height tree)) now m commands.Round
 rounds old now m k few low height tree height_is tree_is closed store memory live =

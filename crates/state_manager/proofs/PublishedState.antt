@@ -8,17 +8,17 @@ use Rattle.store_spec.specs.Whole.{whole_length}
 use Rattle.sys_state.specs.System.{System, part_of}
 use Rattle.whole_state.specs.Whole.{HasParts}
 use Rattle.machine_spec.specs.Costs.{whole_bytes}
-use Rattle.live_state.specs.StateKept.{HeldState, KeepsState}
+use Rattle.live_state.specs.StateKept.{StateView, KeepsState}
 use Rattle.live_state.proofs.MemoryLines.{parts_of_state}
 
-pub has_parts : (held : HeldState) (k : ℕ × State) → KeepsState held k → (system : System) (memories : List Bytes) → held.system ≡ system → held.memories ≡ memories → HasParts k.1 system memories
+pub has_parts : (held : StateView) (k : ℕ × State) → KeepsState held k → (system : System) (memories : List Bytes) → held.system ≡ system → held.memories ≡ memories → HasParts k.1 system memories
 has_parts held k keeps system memories one all = record {
   version = keeps.version;
   parts = sym keeps.system ∙ one;
   bytes = sym keeps.memories ∙ all;
 }
 
-pub written_bytes : (held : HeldState) (k : ℕ × State) → KeepsState held k → (memories : List Bytes) → held.memories ≡ memories → whole_length (length (system_text (part_of held.system))) memories ≡ whole_bytes k.1
+pub written_bytes : (held : StateView) (k : ℕ × State) → KeepsState held k → (memories : List Bytes) → held.memories ≡ memories → whole_length (length (system_text (part_of held.system))) memories ≡ whole_bytes k.1
 unfolding whole_bytes
 written_bytes held k keeps memories all =
     ap₂ (λ (s : SystemPart) (l : List Bytes). whole_length (length (system_text s)) l) (ap part_of keeps.system ∙ parts_of_state k.1) (sym all ∙ keeps.memories)

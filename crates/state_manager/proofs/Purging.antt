@@ -11,7 +11,7 @@ use Rattle.disk_model.specs.Spending.{Spends}
 use Rattle.disk_model.specs.View.{DiskView, LeavesOnly}
 use Rattle.height_store.specs.declared.error.StoreError.{StoreError}
 use Rattle.height_store.specs.declared.error.StoreError.TheVariants as store
-use Rattle.height_store.specs.Kept.{IsOver, KeepsHeights, StandsForEither}
+use Rattle.height_store.specs.Kept.{MatchesFiles, KeepsHeights, StandsForEither}
 use Rattle.height_store.specs.Store.{StoredHeight, GivesFew, height_at, is_newest}
 use Rattle.height_store.specs.KnownLaws.{kept_known}
 use Rattle.height_store.specs.Known.{KnowsHeight}
@@ -25,7 +25,7 @@ use Rattle.machine_spec.specs.Sound.{IsSound}
 use Rattle.machine_spec.specs.Step.{step}
 use Rattle.machine_spec.proofs.StepsKept.{step_keeps}
 use Rattle.state_manager.specs.Causes.{purge_reply}
-use Rattle.state_manager.specs.Kept.{Held, DoesLine, Keeps, KeepsStates, PerformsOn}
+use Rattle.state_manager.specs.Kept.{ManagerView, DoesLine, Keeps, KeepsStates, PerformsOn}
 use Rattle.state_manager.proofs.DiskLines.{apart_line, height_absent, height_there, live_beside}
 
 -- what the store answers, and the reply
@@ -46,20 +46,20 @@ not_test : (b : Bool) → b ≡ false → IsTrue b → ⊥
 not_test b off on = false≢true (sym off ∙ on)
 
 -- the call on the store, and what the manager holds after it
-pub record Purges {T : Type 0} (tells : Bool) (old now : Held) (before after : DiskView) (height : ℕ) (r : Result T StoreError) : Type 0 where
+pub record Purges {T : Type 0} (tells : Bool) (old now : ManagerView) (before after : DiskView) (height : ℕ) (r : Result T StoreError) : Type 0 where
   pub no_height : (r ≡ Err store.NoHeight) ↔ (is_some (height_at old.store.heights height) ≡ false)
   pub last_height : (r ≡ Err store.LastHeight) ↔ IsTrue (is_newest old.store.heights height)
   pub refused : IsErrOf r store.NoHeight ⊎ IsErrOf r store.LastHeight → (now.store ≡ old.store) × (after ≡ before)
   pub given : GivesFew old.store now.store
-  pub over : IsTrue tells → OnOk r (IsOver now.store after.state.files)
+  pub over : IsTrue tells → OnOk r (MatchesFiles now.store after.state.files)
   pub spends : IsTrue tells → OnOk r (Spends 0 0 before after)
   pub stands : IsTrue tells → (ps : List Published) → IsSettled before.state → KeepsHeights old.store.heights before.state ps → OnOk r (KeepsHeights now.store.heights after.state (without_published ps height))
   pub images : IsTrue tells → (ps : List Published) → IsSettled before.state → KeepsHeights old.store.heights before.state ps → LeavesOnly before after (StandsForEither ps (without_published ps height))
   pub settled : IsTrue tells → OnOk r (IsSettled before.state → IsSettled after.state)
 
-module _ {T : Type 0} (tells : Bool) (old now : Held) (before after : DiskView) (height : ℕ) (r : Result T StoreError) (reply : Result Reply StoreError) (says : RepliesTo r reply) (p : Purges tells old now before after height r)
+module _ {T : Type 0} (tells : Bool) (old now : ManagerView) (before after : DiskView) (height : ℕ) (r : Result T StoreError) (reply : Result Reply StoreError) (says : RepliesTo r reply) (p : Purges tells old now before after height r)
     (live : now.live ≡ old.live) (memory : now.memory ≡ old.memory) (closed : now.stopped ≡ old.stopped)
-    (over : IsTrue tells → IsOver old.store before.state.files) (sound : IsTrue tells → IsImageNow after.state after.state.files) where
+    (over : IsTrue tells → MatchesFiles old.store before.state.files) (sound : IsTrue tells → IsImageNow after.state after.state.files) where
   refuses : (reason : Refusal) → (now.store ≡ old.store) × (after ≡ before) → ((m : Machine) → KeepsStates old m → step m (commands.Purge height) ≡ answered (replies.Refused reason) m) → reply ≡ Ok (replies.Refused reason)
       → DoesLine tells old now before after reply (commands.Purge height)
   refuses reason same does is =

@@ -26,7 +26,7 @@ use Rattle.script_text.specs.declared.reply.Refusal.TheVariants.{NoCanister, Pas
 use Rattle.machine_spec.specs.LiveSteps.{bytes_told, canister_told, read_reply}
 use Rattle.machine_spec.specs.States.{canister_in, memory_of}
 use Rattle.live_state.specs.Places.{index_of}
-use Rattle.live_state.specs.StateKept.{HeldState}
+use Rattle.live_state.specs.StateKept.{StateView}
 use Rattle.state_manager.proofs.AtHeights.{opened_kept}
 use Rattle.live_state.proofs.Hashed.{sizes_in}
 use Rattle.live_state.proofs.Indexed.{index_within, pair_get, pick, size_at}
@@ -125,7 +125,7 @@ pages_are o c mem pages found e = let one : Some pages ≡ Some (calls.pages_of 
 -- ---- what is answered
 
 module _ (h : StoredHeight) (p : Published) (knows : KnowsHeight h p) (id : Bytes) (mem : Mem) (from len : ℕ) where
-  abbrev held : HeldState
+  abbrev held : StateView
   held = record { system = h.system; memories = memory_bytes p.state; height = p.height }
 
   answers : (reply : Reply) → reply ≡ read_reply (opened p) id mem from len → reply ≡ read_reply p.state id mem from len

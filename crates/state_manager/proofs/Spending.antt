@@ -28,7 +28,7 @@ use Rattle.machine_spec.specs.LiveSteps.{read_reply}
 use Rattle.machine_spec.specs.Machine.{Machine}
 use Rattle.sys_state.specs.declared.mem.Mem.{Mem}
 use Rattle.format_spec.specs.Bytes.{Bytes}
-use Rattle.state_manager.specs.Kept.{Held, KeepsStates, needs_disk, newest_bytes, published_height}
+use Rattle.state_manager.specs.Kept.{ManagerView, KeepsStates, needs_disk, newest_bytes, published_height}
 use Rattle.state_manager.proofs.Standing.{knows_some}
 
 -- ---- no call
@@ -43,7 +43,7 @@ apart_free m _ apart = omega arith
 
 -- ---- bytes of published heights
 
-pub bytes_there : (held : Held) (m : Machine) → KeepsStates held m → (at : HeightOrLive) (height : ℕ) → Some height ≡ published_height held at → bytes_at held.store.heights height ≡ option_map_or all_bytes (on_disk m at) 0
+pub bytes_there : (held : ManagerView) (m : Machine) → KeepsStates held m → (at : HeightOrLive) (height : ℕ) → Some height ≡ published_height held at → bytes_at held.store.heights height ≡ option_map_or all_bytes (on_disk m at) 0
 bytes_there held m k at height e =
     let p = knows_some held m k at height e in
     ap (λ (o : Option StoredHeight). option_map_or (λ (h : StoredHeight). sum_by (λ (f : Bytes × ℕ). f.1 * PAGE_SIZE) (memories_in (part_of h.system))) o 0) p.found

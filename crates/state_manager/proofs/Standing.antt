@@ -22,21 +22,21 @@ use Rattle.disk_model.specs.Files.{Files}
 use Rattle.height_store.specs.Kept.{ShowsHeight}
 use Rattle.height_store.specs.Store.{StoredHeight, height_at}
 use Rattle.height_store.specs.Known.{KnowsHeight}
-use Rattle.state_manager.specs.Kept.{Held, KeepsStates, KeepsEach, Performs, held_at, published_height}
-use Rattle.live_state.specs.StateKept.{HeldState, KeepsState, live_of}
+use Rattle.state_manager.specs.Kept.{ManagerView, KeepsStates, KeepsEach, Performs, held_at, published_height}
+use Rattle.live_state.specs.StateKept.{StateView, KeepsState, live_of}
 
 -- ---- the states in memory
 
 -- what is held at a height, beside what the machine has there
-abbrev pub Found : Option HeldState → ℕ → Option State → Type 0
+abbrev pub Found : Option StateView → ℕ → Option State → Type 0
 Found None h None = Unit {0}
 Found (Some held) h (Some s) = KeepsState held (h, s)
 Found _ h _ = ⊥
 
-height_test : (held : HeldState) (k : ℕ × State) (h : ℕ) → KeepsState held k → (held.height == h) ≡ (k.0 == h)
+height_test : (held : StateView) (k : ℕ × State) (h : ℕ) → KeepsState held k → (held.height == h) ≡ (k.0 == h)
 height_test held k h keeps = ap (λ (n : ℕ). n == h) keeps.height
 
-pub finds : (helds : List HeldState) (ks : List (ℕ × State)) (h : ℕ) → KeepsEach helds ks → Found (find (λ a. a.height == h) helds) h (kept_at h ks)
+pub finds : (helds : List StateView) (ks : List (ℕ × State)) (h : ℕ) → KeepsEach helds ks → Found (find (λ a. a.height == h) helds) h (kept_at h ks)
 finds [] [] h each = tt
 finds [] (k ∷ ks) h each = absurd each
 finds (a ∷ helds) [] h each = absurd each
@@ -45,7 +45,7 @@ finds (a ∷ helds) (k ∷ ks) h each = elim (cases_Bool (k.0 == h)) [
   | inr there ↦ rw (height_test a k h each.0, there) (finds helds ks h each.1)
 ]
 
-pub drops : (helds : List HeldState) (ks : List (ℕ × State)) (h : ℕ) → KeepsEach helds ks → KeepsEach (filter (λ a. not (a.height == h)) helds) (without_height h ks)
+pub drops : (helds : List StateView) (ks : List (ℕ × State)) (h : ℕ) → KeepsEach helds ks → KeepsEach (filter (λ a. not (a.height == h)) helds) (without_height h ks)
 drops [] [] h each = tt
 drops [] (k ∷ ks) h each = absurd each
 drops (a ∷ helds) [] h each = absurd each
@@ -54,19 +54,19 @@ drops (a ∷ helds) (k ∷ ks) h each = elim (cases_Bool (k.0 == h)) [
   | inr there ↦ rw (height_test a k h each.0, there) (each.0, drops helds ks h each.1)
 ]
 
-pub joins : (helds : List HeldState) (ks : List (ℕ × State)) (a : HeldState) (k : ℕ × State) → KeepsEach helds ks → KeepsState a k → KeepsEach (helds ++ a ∷ []) (ks ++ k ∷ [])
+pub joins : (helds : List StateView) (ks : List (ℕ × State)) (a : StateView) (k : ℕ × State) → KeepsEach helds ks → KeepsState a k → KeepsEach (helds ++ a ∷ []) (ks ++ k ∷ [])
 joins [] [] a k each keeps = (keeps, tt)
 joins [] (x ∷ ks) a k each keeps = absurd each
 joins (b ∷ helds) [] a k each keeps = absurd each
 joins (b ∷ helds) (x ∷ ks) a k each keeps = (each.0, joins helds ks a k each.1 keeps)
 
-pub as_many : (helds : List HeldState) (ks : List (ℕ × State)) → KeepsEach helds ks → length helds ≡ length ks
+pub as_many : (helds : List StateView) (ks : List (ℕ × State)) → KeepsEach helds ks → length helds ≡ length ks
 as_many [] [] each = refl
 as_many [] (k ∷ ks) each = absurd each
 as_many (a ∷ helds) [] each = absurd each
 as_many (a ∷ helds) (k ∷ ks) each = omega (arith, as_many helds ks each.1)
 
-pub same_heights : (helds : List HeldState) (ks : List (ℕ × State)) → KeepsEach helds ks → map (λ a. a.height) helds ≡ map (λ k. k.0) ks
+pub same_heights : (helds : List StateView) (ks : List (ℕ × State)) → KeepsEach helds ks → map (λ a. a.height) helds ≡ map (λ k. k.0) ks
 same_heights [] [] each = refl
 same_heights [] (k ∷ ks) each = absurd each
 same_heights (a ∷ helds) [] each = absurd each
@@ -80,25 +80,25 @@ in_memory m Live = Some m.live
 in_memory m (Height h) = kept_at h m.memory
 
 -- what the machine has where the manager finds something
-abbrev pub FoundIn : Option HeldState → Option State → Type 0
+abbrev pub FoundIn : Option StateView → Option State → Type 0
 FoundIn None s = s ≡ None
 FoundIn (Some held) s = (k : ℕ × State) × KeepsState held k × (s ≡ Some k.1)
 
-by_found : (o : Option HeldState) (h : ℕ) (s : Option State) → Found o h s → FoundIn o s
+by_found : (o : Option StateView) (h : ℕ) (s : Option State) → Found o h s → FoundIn o s
 by_found None h None f = refl
 by_found None h (Some s) f = absurd f
 by_found (Some a) h None f = absurd f
 by_found (Some a) h (Some s) f = ((h, s), f, refl)
 
-found_at : (held : Held) (m : Machine) → KeepsStates held m → (at : HeightOrLive) → FoundIn (held_at held at) (in_memory m at)
+found_at : (held : ManagerView) (m : Machine) → KeepsStates held m → (at : HeightOrLive) → FoundIn (held_at held at) (in_memory m at)
 found_at held m k Live = (live_of m, k.live, refl)
 found_at held m k (Height h) = by_found (held_at held (Height h)) h (kept_at h m.memory) (finds held.memory m.memory h k.memory)
 
-pub at_some : (held : Held) (m : Machine) → KeepsStates held m → (at : HeightOrLive) (a : HeldState) → Some a ≡ held_at held at → (n : ℕ × State) × KeepsState a n × (in_memory m at ≡ Some n.1)
-at_some held m k at a e = subst (λ (o : Option HeldState). FoundIn o (in_memory m at)) (sym e) (found_at held m k at)
+pub at_some : (held : ManagerView) (m : Machine) → KeepsStates held m → (at : HeightOrLive) (a : StateView) → Some a ≡ held_at held at → (n : ℕ × State) × KeepsState a n × (in_memory m at ≡ Some n.1)
+at_some held m k at a e = subst (λ (o : Option StateView). FoundIn o (in_memory m at)) (sym e) (found_at held m k at)
 
-pub at_none : (held : Held) (m : Machine) → KeepsStates held m → (at : HeightOrLive) → None ≡ held_at held at → in_memory m at ≡ None
-at_none held m k at e = subst (λ (o : Option HeldState). FoundIn o (in_memory m at)) (sym e) (found_at held m k at)
+pub at_none : (held : ManagerView) (m : Machine) → KeepsStates held m → (at : HeightOrLive) → None ≡ held_at held at → in_memory m at ≡ None
+at_none held m k at e = subst (λ (o : Option StateView). FoundIn o (in_memory m at)) (sym e) (found_at held m k at)
 
 -- a line that asks about a state that is there, or about none, changes nothing
 pub asks_there : (m : Machine) (at : HeightOrLive) (s : State) → state_at m at ≡ Some s → (act : State → Outcome) (reply : Reply) → reply ≡ (act s).reply → (act s).after ≡ m
@@ -109,7 +109,7 @@ pub asks_none : (m : Machine) (at : HeightOrLive) → state_at m at ≡ None →
     → (replies.Refused NoHeight ≡ (on_state m at act).reply) × ((on_state m at act).after ≡ m)
 asks_none m at e act = subst (λ (o : Option State). (replies.Refused NoHeight ≡ (unless_none o NoHeight m act).reply) × ((unless_none o NoHeight m act).after ≡ m)) (sym e) (refl, refl)
 
-pub unchanged : (held : Held) (m : Machine) → KeepsStates held m → (reply : Reply) (o : Outcome) → (reply ≡ o.reply) × (o.after ≡ m)
+pub unchanged : (held : ManagerView) (m : Machine) → KeepsStates held m → (reply : Reply) (o : Outcome) → (reply ≡ o.reply) × (o.after ≡ m)
     → (reply ≡ o.reply) × KeepsStates held o.after × (o.after.published ≡ m.published)
 unchanged held m k reply o h = (h.0, subst (λ (n : Machine). KeepsStates held n) (sym h.1) k, ap (λ (n : Machine). n.published) h.1)
 
@@ -154,7 +154,7 @@ module _ (R : StoredHeight → Published → Type 0) (same : (h : StoredHeight) 
   same_heights_in (h ∷ hs) [] each = absurd each
   same_heights_in (h ∷ hs) (p ∷ ps) each = cc (same h p each.0, same_heights_in hs ps each.1)
 
-  pub published_some : (held : Held) (m : Machine) → AllZip R held.store.heights m.published → (at : HeightOrLive) (height : ℕ) → Some height ≡ published_height held at → PublishedAt R held.store.heights m at height
+  pub published_some : (held : ManagerView) (m : Machine) → AllZip R held.store.heights m.published → (at : HeightOrLive) (height : ℕ) → Some height ≡ published_height held at → PublishedAt R held.store.heights m at height
   published_some held m each Live height e = absurd (cc e)
   published_some held m each (Height h) height e = by (height_at held.store.heights h) refl (find_height held.store.heights m.published h each) e
     where
@@ -178,7 +178,7 @@ pub shows_same : (files : Files) (h : StoredHeight) (p : Published) → ShowsHei
 shows_same files h p shows = sym shows.made.height
 
 -- the height is published
-pub published_there : (held : Held) (at : HeightOrLive) (height : ℕ) → Some height ≡ published_height held at → is_some (height_at held.store.heights height) ≡ true
+pub published_there : (held : ManagerView) (at : HeightOrLive) (height : ℕ) → Some height ≡ published_height held at → is_some (height_at held.store.heights height) ≡ true
 published_there held Live height e = absurd (cc e)
 published_there held (Height h) height e = by (is_some (height_at held.store.heights h)) refl e
   where
@@ -186,11 +186,11 @@ published_there held (Height h) height e = by (is_some (height_at held.store.hei
     by true there e = let one : height ≡ h = cc e in subst (λ (n : ℕ). is_some (height_at held.store.heights n) ≡ true) (sym one) there
     by false there e = absurd (cc e)
 
-pub knows_some : (held : Held) (m : Machine) → KeepsStates held m → (at : HeightOrLive) (height : ℕ) → Some height ≡ published_height held at → PublishedAt KnowsHeight held.store.heights m at height
+pub knows_some : (held : ManagerView) (m : Machine) → KeepsStates held m → (at : HeightOrLive) (height : ℕ) → Some height ≡ published_height held at → PublishedAt KnowsHeight held.store.heights m at height
 knows_some held m k at height e = published_some KnowsHeight knows_same held m k.published at height e
 
 -- Of a height that isn't published, the machine has the state in memory.
-pub published_none : (held : Held) (m : Machine) → KeepsStates held m → (at : HeightOrLive) → None ≡ published_height held at → state_at m at ≡ in_memory m at
+pub published_none : (held : ManagerView) (m : Machine) → KeepsStates held m → (at : HeightOrLive) → None ≡ published_height held at → state_at m at ≡ in_memory m at
 published_none held m k Live e = refl
 published_none held m k (Height h) e = by (height_at held.store.heights h) (find_height KnowsHeight knows_same held.store.heights m.published h k.published) e
   where
@@ -200,34 +200,34 @@ published_none held m k (Height h) e = by (height_at held.store.heights h) (find
 
 -- ---- lines that need no disk
 
-pub line_published : (held : Held) (m : Machine) (k : KeepsStates held m) → (at : HeightOrLive) (height : ℕ) → (e : Some height ≡ published_height held at) → (act : State → Outcome) (reply : Reply)
+pub line_published : (held : ManagerView) (m : Machine) (k : KeepsStates held m) → (at : HeightOrLive) (height : ℕ) → (e : Some height ≡ published_height held at) → (act : State → Outcome) (reply : Reply)
     → ((s : State) → (act s).after ≡ m) → reply ≡ (act (knows_some held m k at height e).published.state).reply
     → (reply ≡ (on_state m at act).reply) × KeepsStates held (on_state m at act).after × ((on_state m at act).after.published ≡ m.published)
 line_published held m k at height e act reply after is =
     let p = knows_some held m k at height e in
     unchanged held m k reply (on_state m at act) (asks_there m at p.published.state p.state act reply is (after p.published.state))
 
-pub line_some : (held : Held) (m : Machine) (k : KeepsStates held m) → (at : HeightOrLive) → None ≡ published_height held at → (a : HeldState) → (e : Some a ≡ held_at held at) → (act : State → Outcome) (reply : Reply)
+pub line_some : (held : ManagerView) (m : Machine) (k : KeepsStates held m) → (at : HeightOrLive) → None ≡ published_height held at → (a : StateView) → (e : Some a ≡ held_at held at) → (act : State → Outcome) (reply : Reply)
     → ((s : State) → (act s).after ≡ m) → reply ≡ (act (at_some held m k at a e).0.1).reply
     → (reply ≡ (on_state m at act).reply) × KeepsStates held (on_state m at act).after × ((on_state m at act).after.published ≡ m.published)
 line_some held m k at none a e act reply after is =
     let n = at_some held m k at a e in
     unchanged held m k reply (on_state m at act) (asks_there m at n.0.1 (published_none held m k at none ∙ n.2) act reply is (after n.0.1))
 
-pub line_none : (held : Held) (m : Machine) → KeepsStates held m → (at : HeightOrLive) → None ≡ published_height held at → None ≡ held_at held at → (act : State → Outcome)
+pub line_none : (held : ManagerView) (m : Machine) → KeepsStates held m → (at : HeightOrLive) → None ≡ published_height held at → None ≡ held_at held at → (act : State → Outcome)
     → (replies.Refused NoHeight ≡ (on_state m at act).reply) × KeepsStates held (on_state m at act).after × ((on_state m at act).after.published ≡ m.published)
 line_none held m k at none e act = unchanged held m k (replies.Refused NoHeight) (on_state m at act) (asks_none m at (published_none held m k at none ∙ at_none held m k at e) act)
 
 -- a manager that keeps a tree is the same to its lines
-pub record WithTree (held : Held) (m : Machine) (at : HeightOrLive) : Type 0 where
+pub record WithTree (held : ManagerView) (m : Machine) (at : HeightOrLive) : Type 0 where
   pub keeps : KeepsStates held m
   pub none : None ≡ published_height held at
 
-pub with_tree : (old new : Held) (m : Machine) (at : HeightOrLive) → new ≡ old → KeepsStates old m → None ≡ published_height old at → WithTree new m at
-with_tree old new m at same k none = subst (λ (h : Held). WithTree h m at) (sym same) (record { keeps = k; none = none })
+pub with_tree : (old new : ManagerView) (m : Machine) (at : HeightOrLive) → new ≡ old → KeepsStates old m → None ≡ published_height old at → WithTree new m at
+with_tree old new m at same k none = subst (λ (h : ManagerView). WithTree h m at) (sym same) (record { keeps = k; none = none })
 
 -- a line that answers something of a state
-module _ (held : Held) (m : Machine) (k : KeepsStates held m) (at : HeightOrLive) (command : Command) (tell : State → Reply) (same : step m command ≡ on_state m at (λ s. answered (tell s) m)) where
+module _ (held : ManagerView) (m : Machine) (k : KeepsStates held m) (at : HeightOrLive) (command : Command) (tell : State → Reply) (same : step m command ≡ on_state m at (λ s. answered (tell s) m)) where
   told : (reply : Reply) → (reply ≡ (on_state m at (λ s. answered (tell s) m)).reply) × KeepsStates held (on_state m at (λ s. answered (tell s) m)).after × ((on_state m at (λ s. answered (tell s) m)).after.published ≡ m.published)
       → Performs (Ok reply) held m command
   told reply h = subst (λ (o : Outcome). (reply ≡ o.reply) × KeepsStates held o.after × (o.after.published ≡ m.published)) (sym same) h
@@ -237,7 +237,7 @@ module _ (held : Held) (m : Machine) (k : KeepsStates held m) (at : HeightOrLive
   performs_published height e (Ok reply) is = told reply (line_published held m k at height e (λ s. answered (tell s) m) reply (λ s. refl) is)
   performs_published height e (Err x) is = tt
 
-  pub performs_in_memory : None ≡ published_height held at → (a : HeldState) → (e : Some a ≡ held_at held at) → (result : Result Reply NoMemory)
+  pub performs_in_memory : None ≡ published_height held at → (a : StateView) → (e : Some a ≡ held_at held at) → (result : Result Reply NoMemory)
       → IfOk result (λ reply. reply ≡ tell (at_some held m k at a e).0.1) → Performs result held m command
   performs_in_memory none a e (Ok reply) is = told reply (line_some held m k at none a e (λ s. answered (tell s) m) reply (λ s. refl) is)
   performs_in_memory none a e (Err x) is = tt

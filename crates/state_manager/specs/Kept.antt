@@ -10,7 +10,7 @@ use Rattle.disk_model.specs.Spending.{Spends}
 use Rattle.disk_model.specs.View.{DiskView, LeavesOnly}
 use Rattle.height_store.specs.declared.error.StoreError.{StoreError}
 use Rattle.height_store.specs.Store.{Store, StoredHeight, GivesFew, height_at, heights_in}
-use Rattle.height_store.specs.Kept.{IsOver, KeepsHeights, StandsForEither}
+use Rattle.height_store.specs.Kept.{MatchesFiles, KeepsHeights, StandsForEither}
 use Rattle.height_store.specs.Known.{KnowsHeight, bytes_at}
 use Rattle.script_text.specs.declared.command.Command.{Command}
 use Rattle.script_text.specs.declared.command.Command.TheVariants.{Read, Scratch, Checkpoint, Purge, Reset}
@@ -21,27 +21,27 @@ use Rattle.machine_spec.specs.Costs.{appends, reads}
 use Rattle.machine_spec.specs.Machine.{Machine}
 use Rattle.machine_spec.specs.Sound.{IsSound}
 use Rattle.machine_spec.specs.Step.{step}
-use Rattle.live_state.specs.StateKept.{HeldState, KeepsState, live_of}
+use Rattle.live_state.specs.StateKept.{StateView, KeepsState, live_of}
 use Rattle.state_manager.specs.declared.stop.Stop.{Stop}
 
 -- the live state, the states in memory, ascending by height, the published heights, and how an earlier call stopped
-pub record Held : Type 0 where
-  pub live : HeldState
-  pub memory : List HeldState
+pub record ManagerView : Type 0 where
+  pub live : StateView
+  pub memory : List StateView
   pub store : Store
   pub stopped : Option Stop
 
 -- heights in memory are at most 2^62
-abbrev pub HaveHeights : Held → Type 0
+abbrev pub HaveHeights : ManagerView → Type 0
 HaveHeights held = AllByRecursion (λ state. state.height ≤ MAX_HEIGHT) held.memory
 
 -- the state in memory that a line asks about
-abbrev pub held_at : Held → HeightOrLive → Option HeldState
+abbrev pub held_at : ManagerView → HeightOrLive → Option StateView
 held_at held Live = Some held.live
 held_at held (Height h) = find (λ state. state.height == h) held.memory
 
 -- the published height that a line asks about
-abbrev pub published_height : Held → HeightOrLive → Option ℕ
+abbrev pub published_height : ManagerView → HeightOrLive → Option ℕ
 published_height held Live = None
 published_height held (Height h) = if is_some (height_at held.store.heights h) then Some h else None
 
@@ -50,13 +50,13 @@ abbrev pub newest_bytes : List StoredHeight → ℕ
 newest_bytes hs = option_map_or (bytes_at hs) (last_or None (heights_in hs)) 0
 
 -- each state in memory is the machine's
-abbrev pub KeepsEach : List HeldState → List (ℕ × State) → Type 0
+abbrev pub KeepsEach : List StateView → List (ℕ × State) → Type 0
 KeepsEach [] [] = ⊤
 KeepsEach (held ∷ helds) (k ∷ ks) = KeepsState held k × KeepsEach helds ks
 KeepsEach _ _ = ⊥
 
 -- What the manager holds in memory is that machine's, but for the rounds of pages, and each published height is known.
-pub record KeepsStates (held : Held) (m : Machine) : Type 0 where
+pub record KeepsStates (held : ManagerView) (m : Machine) : Type 0 where
   pub usable : held.stopped ≡ None
   pub live : KeepsState held.live (live_of m)
   pub memory : KeepsEach held.memory m.memory
@@ -64,10 +64,10 @@ pub record KeepsStates (held : Held) (m : Machine) : Type 0 where
 
 -- The manager and its disk are that machine, which is sound: besides, every image of the disk stands for the machine's
 -- published heights, nothing is pending, and the store is over the files.
-pub record Keeps (held : Held) (s : DiskState) (m : Machine) : Type 0 where
+pub record Keeps (held : ManagerView) (s : DiskState) (m : Machine) : Type 0 where
   pub sound : IsSound m
   pub states : KeepsStates held m
-  pub over : IsOver held.store s.files
+  pub over : MatchesFiles held.store s.files
   pub settled : IsSettled s
   pub heights : KeepsHeights held.store.heights s m.published
 
@@ -82,29 +82,29 @@ needs_disk command = false
 
 -- the reply to a command that needs no disk is that of the machine's step; the machine after it is kept, and its published
 -- heights are the same
-abbrev pub Performs : Result Reply NoMemory → Held → Machine → Command → Type 0
+abbrev pub Performs : Result Reply NoMemory → ManagerView → Machine → Command → Type 0
 Performs (Ok reply) now m command =
     (reply ≡ (step m command).reply) × KeepsStates now (step m command).after × ((step m command).after.published ≡ m.published)
 Performs (Err e) now m command = Unit {0}
 
 -- the reply to a command is that of the machine's step, and the machine after it is kept
-abbrev pub PerformsOn : Result Reply StoreError → Held → DiskState → Machine → Command → Type 0
+abbrev pub PerformsOn : Result Reply StoreError → ManagerView → DiskState → Machine → Command → Type 0
 PerformsOn (Ok reply) now s m command = (reply ≡ (step m command).reply) × Keeps now s (step m command).after
 PerformsOn (Err e) now s m command = Unit {0}
 
 -- the same of a call that may stop
-abbrev pub Applies : Result Reply Stop → Held → DiskState → Machine → Command → Type 0
+abbrev pub Applies : Result Reply Stop → ManagerView → DiskState → Machine → Command → Type 0
 Applies (Ok reply) now s m command = (reply ≡ (step m command).reply) × Keeps now s (step m command).after
 Applies (Err stop) now s m command = Unit {0}
 
 -- What a line that may call the disk does, whatever it answers: while it runs every image stands for the published heights
 -- before it or for those after the machine's step, and it gives few numbers to page files. Where it is answered, it has appended
 -- just the bytes that the machine says, and read no more.
-pub record DoesLine (tells : Bool) (old new : Held) (before after : DiskView) (result : Result Reply StoreError) (command : Command) : Type 0 where
+pub record DoesLine (tells : Bool) (old new : ManagerView) (before after : DiskView) (result : Result Reply StoreError) (command : Command) : Type 0 where
   pub reply : IsTrue tells → (m : Machine) → Keeps old before.state m → PerformsOn result new after.state m command
   pub images : IsTrue tells → (m : Machine) → Keeps old before.state m
       → LeavesOnly before after (StandsForEither m.published (step m command).after.published)
-  pub over : IsTrue tells → OnOk result (IsOver new.store after.state.files)
+  pub over : IsTrue tells → OnOk result (MatchesFiles new.store after.state.files)
   pub spends : IsTrue tells → (m : Machine) → Keeps old before.state m → OnOk result (Spends (appends m command) (reads m command) before after)
   pub given : GivesFew old.store new.store
   pub same : new.stopped ≡ old.stopped

@@ -3,13 +3,13 @@
 ghost use Rattle.std.specs.Prelude.{◌≡◌, ◌≤◌, length, IsTrue};
 ghost use Rattle.std.specs.Option.{option_copied};
 ghost use Rattle.height_store.specs.Errors.{HasCause as StoreCause};
-ghost use Rattle.height_store.specs.Kept.{IsOver};
+ghost use Rattle.height_store.specs.Kept.{MatchesFiles};
 ghost use Rattle.machine_spec.specs.Machine.{Machine};
 ghost use Rattle.state_manager.specs.Kept.{KeepsStates, Performs, DoesLine, held_at, published_height};
 
-use crate::kept::{find_height, keep_tree_at};
+use crate::in_memory::{find_height, keep_tree_at};
 use crate::manager::Manager;
-use crate::stored::{
+use crate::published::{
     count_published, is_published, load, read_published, root_published, tree_published,
     witness_published,
 };
@@ -33,7 +33,7 @@ impl Manager {
         len: u64,
         disk: &mut D,
     ) -> Result<Reply, StoreError>
-        requires over { IsTrue D.tells → IsOver self.now.store (D.view disk.old).state.files }
+        requires over { IsTrue D.tells → MatchesFiles self.now.store (D.view disk.old).state.files }
         ensures line { DoesLine D.tells self.now self.now (D.view disk.old) (D.view disk.new) result (Command.Read at id.now mem offset len) }
         ensures cause { StoreCause (D.faults disk.old) (D.faults disk.new) result }
     {
@@ -53,7 +53,7 @@ impl Manager {
         at: HeightOrLive,
         disk: &mut D,
     ) -> Result<Reply, StoreError>
-        requires over { IsTrue D.tells → IsOver self.now.store (D.view disk.old).state.files }
+        requires over { IsTrue D.tells → MatchesFiles self.now.store (D.view disk.old).state.files }
         ensures line { DoesLine D.tells self.now self.now (D.view disk.old) (D.view disk.new) result (Command.Scratch at) }
         ensures cause { StoreCause (D.faults disk.old) (D.faults disk.new) result }
     {

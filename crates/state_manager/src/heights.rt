@@ -2,15 +2,15 @@
 
 ghost use Rattle.std.specs.Prelude.{◌≡◌, ◌≤◌, ◌^◌, IsTrue};
 ghost use Rattle.height_store.specs.Errors.{HasCause as StoreCause};
-ghost use Rattle.height_store.specs.Kept.{IsOver};
+ghost use Rattle.height_store.specs.Kept.{MatchesFiles};
 ghost use Rattle.machine_spec.specs.Machine.{Machine};
 ghost use Rattle.state_manager.specs.Causes.{purge_reply};
 ghost use Rattle.state_manager.specs.Kept.{KeepsStates, Performs, DoesLine};
 
-use crate::kept::{drop_height, find_height, heights_of};
+use crate::in_memory::{drop_height, find_height, heights_of};
 use crate::manager::Manager;
+use crate::published::{begin, is_low, is_newest, is_published, published_heights};
 use crate::publishing::publish;
-use crate::stored::{begin, is_low, is_newest, is_published, published_heights};
 use byte_codec::NoMemory;
 use disk_model::Disk;
 use format_spec::{MAX_HEIGHT, MAX_HEIGHTS, MAX_PUBLISHED};
@@ -72,7 +72,7 @@ impl Manager {
         disk: &mut D,
     ) -> Result<Reply, StoreError>
         requires numbers { self.old.store.given ≤ 2 ^ 60 }
-        requires over { IsTrue D.tells → IsOver self.old.store (D.view disk.old).state.files }
+        requires over { IsTrue D.tells → MatchesFiles self.old.store (D.view disk.old).state.files }
         ensures line { DoesLine D.tells self.old self.new (D.view disk.old) (D.view disk.new) result Command.Checkpoint }
         ensures cause { StoreCause (D.faults disk.old) (D.faults disk.new) result }
     {
@@ -97,7 +97,7 @@ impl Manager {
         height: u64,
         disk: &mut D,
     ) -> Result<Reply, StoreError>
-        requires over { IsTrue D.tells → IsOver self.old.store (D.view disk.old).state.files }
+        requires over { IsTrue D.tells → MatchesFiles self.old.store (D.view disk.old).state.files }
         ensures line { DoesLine D.tells self.old self.new (D.view disk.old) (D.view disk.new) result (Command.Purge height) }
         ensures cause { StoreCause (D.faults disk.old) (D.faults disk.new) result }
     {
@@ -114,7 +114,7 @@ impl Manager {
         height: u64,
         disk: &mut D,
     ) -> Result<Reply, StoreError>
-        requires over { IsTrue D.tells → IsOver self.old.store (D.view disk.old).state.files }
+        requires over { IsTrue D.tells → MatchesFiles self.old.store (D.view disk.old).state.files }
         ensures line { DoesLine D.tells self.old self.new (D.view disk.old) (D.view disk.new) result (Command.Reset height) }
         ensures cause { StoreCause (D.faults disk.old) (D.faults disk.new) result }
     {

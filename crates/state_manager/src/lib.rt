@@ -4,11 +4,11 @@
 mod asking;
 mod checks;
 mod heights;
-mod kept;
+mod in_memory;
 mod manager;
+mod published;
 mod publishing;
 mod stop;
-mod stored;
 
 pub use manager::Manager;
 pub use script_text::{Command, HeightOrLive, Refusal, Reply};

@@ -12,7 +12,7 @@ ghost use Rattle.disk_model.specs.Spending.{Spends};
 ghost use Rattle.disk_model.specs.View.{EachImage, LeavesOnly};
 ghost use Rattle.height_store.specs.Bad.{IsFirstBadMark, IsFirstBadPage, marks_bytes};
 ghost use Rattle.height_store.specs.Errors.{HasCause as StoreCause};
-ghost use Rattle.height_store.specs.Kept.{IsOver, StandsForSome, StandsAsBefore, StandsForEither};
+ghost use Rattle.height_store.specs.Kept.{MatchesFiles, StandsForSome, StandsAsBefore, StandsForEither};
 ghost use Rattle.height_store.specs.Opened.{ReadsAtMost};
 ghost use Rattle.height_store.specs.Store.{GivesFew, is_named, is_needed};
 ghost use Rattle.script_text.specs.Commands.{FitsForm};
@@ -23,8 +23,8 @@ ghost use Rattle.state_manager.specs.Causes.{HasCause, OpensByCause, IsBadFile};
 ghost use Rattle.state_manager.specs.Kept.{Keeps, KeepsStates, Performs, Applies, DoesLine, needs_disk, newest_bytes};
 
 use crate::checks::check_witness;
+use crate::published::begin;
 use crate::stop::{OpenError, Stop};
-use crate::stored::begin;
 use byte_codec::NoMemory;
 use disk_model::Disk;
 use height_store::{HeightStore, StoreError};
@@ -44,9 +44,9 @@ pub struct Manager {
 }
 
 impl Model for Manager {
-    ghost use Rattle.state_manager.specs.Kept.{Held, HaveHeights};
+    ghost use Rattle.state_manager.specs.Kept.{ManagerView, HaveHeights};
 
-    ghost Value = { Held };
+    ghost Value = { ManagerView };
 
     ghost view = { λ m. record { live = m.live; memory = m.memory.items; store = m.store; stopped = m.stopped } };
 
@@ -69,7 +69,7 @@ impl Manager {
             → IfOk result (λ manager. Keeps manager (D.view disk.new).state (start ps)) }
         ensures images { IsTrue D.tells → EachImage (D.view disk.old).state StandsForSome
             → LeavesOnly (D.view disk.old) (D.view disk.new) (StandsAsBefore (D.view disk.old).state) }
-        ensures over { IsTrue D.tells → IfOk result (λ manager. IsOver manager.store (D.view disk.new).state.files) }
+        ensures over { IsTrue D.tells → IfOk result (λ manager. MatchesFiles manager.store (D.view disk.new).state.files) }
         ensures usable { IfOk result (λ manager. (manager.stopped ≡ None) × (manager.store.given ≡ 0)) }
         ensures bad_mark { IsTrue D.tells → (height : ℕ) → IsErrOf result (OpenError.BadMark height) → IsFirstBadMark (D.view disk.old).state.files height }
         ensures bad_page { IsTrue D.tells → (number : ℕ) → IsErrOf result (OpenError.BadPage number) → IsFirstBadPage (D.view disk.old).state.files number }
@@ -98,7 +98,7 @@ impl Manager {
     }
 
     // What each line does that needs no disk.
-    fn perform_apart(&mut self, alloc: Global, command: &Command) -> Result<Reply, NoMemory>
+    fn perform_in_memory(&mut self, alloc: Global, command: &Command) -> Result<Reply, NoMemory>
         requires fits { FitsForm command.now }
         requires apart { needs_disk command.now ≡ false }
         ensures step { (m : Machine) → KeepsStates self.old m → Performs result self.new m command.now }
@@ -145,7 +145,7 @@ impl Manager {
     }
 
     // What each line does that needs the disk.
-    fn perform_on<D: Disk>(
+    fn perform_on_disk<D: Disk>(
         &mut self,
         alloc: Global,
         command: &Command,
@@ -153,7 +153,7 @@ impl Manager {
     ) -> Result<Reply, StoreError>
         requires needs { needs_disk command.now ≡ true }
         requires numbers { self.old.store.given ≤ 2 ^ 60 }
-        requires over { IsTrue D.tells → IsOver self.old.store (D.view disk.old).state.files }
+        requires over { IsTrue D.tells → MatchesFiles self.old.store (D.view disk.old).state.files }
         ensures line { DoesLine D.tells self.old self.new (D.view disk.old) (D.view disk.new) result command.now }
         ensures cause { StoreCause (D.faults disk.old) (D.faults disk.new) result }
     {
@@ -182,16 +182,16 @@ impl Manager {
     ) -> Result<Reply, StoreError>
         requires fits { FitsForm command.now }
         requires numbers { self.old.store.given ≤ 2 ^ 60 }
-        requires over { IsTrue D.tells → IsOver self.old.store (D.view disk.old).state.files }
+        requires over { IsTrue D.tells → MatchesFiles self.old.store (D.view disk.old).state.files }
         ensures line { DoesLine D.tells self.old self.new (D.view disk.old) (D.view disk.new) result command.now }
         ensures cause { StoreCause (D.faults disk.old) (D.faults disk.new) result }
     {
         // Its contract says what the types of the command's fields hold.
         command.types();
         if needs_disk(command) {
-            return self.perform_on(alloc, command, disk);
+            return self.perform_on_disk(alloc, command, disk);
         }
-        Ok(self.perform_apart(alloc, command)?)
+        Ok(self.perform_in_memory(alloc, command)?)
     }
 
     /// Applies a command, and answers its reply. The disk's files are as this manager's last call left them, and it has given
@@ -210,12 +210,12 @@ impl Manager {
     ) -> Result<Reply, Stop>
         requires fits { FitsForm command.now }
         requires numbers { self.old.store.given ≤ 2 ^ 60 }
-        requires over { IsTrue D.tells → self.old.stopped ≡ None → IsOver self.old.store (D.view disk.old).state.files }
+        requires over { IsTrue D.tells → self.old.stopped ≡ None → MatchesFiles self.old.store (D.view disk.old).state.files }
 
         ensures step { IsTrue D.tells → (m : Machine) → Keeps self.old (D.view disk.old).state m → Applies result self.new (D.view disk.new).state m command.now }
         ensures images { IsTrue D.tells → (m : Machine) → Keeps self.old (D.view disk.old).state m
             → LeavesOnly (D.view disk.old) (D.view disk.new) (StandsForEither m.published (step m command.now).after.published) }
-        ensures over { IsTrue D.tells → OnOk result (IsOver self.new.store (D.view disk.new).state.files) }
+        ensures over { IsTrue D.tells → OnOk result (MatchesFiles self.new.store (D.view disk.new).state.files) }
         ensures spends { IsTrue D.tells → (m : Machine) → Keeps self.old (D.view disk.old).state m
             → OnOk result (Spends (appends m command.now) (reads m command.now) (D.view disk.old) (D.view disk.new)) }
         ensures given { GivesFew self.old.store self.new.store }

@@ -4,7 +4,7 @@ ghost use Rattle.std.specs.Prelude.{◌≤◌, ◌<◌, ◌^◌, length, IsTrue}
 ghost use Rattle.std.specs.List.{AllByRecursion};
 ghost use Rattle.format_spec.specs.declared.limits.TheConstants.{MAX_HEIGHT, MAX_PUBLISHED};
 ghost use Rattle.height_store.specs.Errors.{HasCause as StoreCause};
-ghost use Rattle.height_store.specs.Kept.{IsOver};
+ghost use Rattle.height_store.specs.Kept.{MatchesFiles};
 ghost use Rattle.state_manager.specs.Publishes.{Publishes};
 
 use disk_model::Disk;
@@ -25,7 +25,7 @@ pub fn publish<D: Disk>(
     requires above { AllByRecursion (λ h. h.mark.height < state.now.height) store.old.heights }
     requires few { length store.old.heights < MAX_PUBLISHED }
     requires numbers { store.old.given ≤ 2 ^ 60 }
-    requires over { IsTrue D.tells → IsOver store.old (D.view disk.old).state.files }
+    requires over { IsTrue D.tells → MatchesFiles store.old (D.view disk.old).state.files }
     ensures publishes { Publishes D.tells state.now store.old store.new (D.view disk.old) (D.view disk.new) result }
     ensures cause { StoreCause (D.faults disk.old) (D.faults disk.new) result }
 {

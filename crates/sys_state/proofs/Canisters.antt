@@ -13,7 +13,7 @@ use Rattle.sys_state.specs.declared.record.CanisterRecord.{CanisterRecord}
 use Rattle.sys_state.specs.Calls.{all_pages_of, pages_of, extended, newborn, with_certified, with_module, Changes, Creates, Removes}
 use Rattle.sys_state.specs.Id.{IsId}
 use Rattle.sys_state.specs.Places.{Stands, IsAbsent}
-use Rattle.sys_state.specs.System.{System, IsKept}
+use Rattle.sys_state.specs.System.{System, IsWithinLimits}
 use Rattle.sys_state.proofs.Keys.{ids_total}
 use Rattle.sys_state.proofs.Kept.{ids_sorted, few_canisters, Good, goods, kept_with, pages, pages-join, pages-one}
 use Rattle.sys_state.proofs.Lists.{all_parts, all_join}
@@ -24,16 +24,16 @@ Named = Bytes × CanisterRecord
 
 -- what a change of a canister leaves
 pub record Changed (old new : System) (id : Bytes) (more : ℕ) (change : CanisterRecord → CanisterRecord) : Type 0 where
-  pub kept : IsKept new
+  pub kept : IsWithinLimits new
   pub pages : all_pages_of new ≡ all_pages_of old + more
   pub changes : Changes old new id change
 
 pub record Removed (old new : System) (id : Bytes) (fewer : ℕ) : Type 0 where
-  pub kept : IsKept new
+  pub kept : IsWithinLimits new
   pub pages : all_pages_of new + fewer ≡ all_pages_of old
   pub removes : Removes old new id
 
-module _ (s : System) (kept : IsKept s) (id : Bytes) (i : ℕ) (at : Stands bytes_cmp id s.canisters i) where
+module _ (s : System) (kept : IsWithinLimits s) (id : Bytes) (i : ℕ) (at : Stands bytes_cmp id s.canisters i) where
   sorted : is_sorted bytes_cmp s.canisters ≡ true
   sorted = ids_sorted s kept
 
@@ -145,11 +145,11 @@ pub id_test : (id : Bytes) → IsId id → IsTrue (is_id id)
 id_test id h = and_from (nat_lt 0 (length id)) (nat_le (length id) MAX_ID) (lt-ltb 0 (length id) h.0) (le-leb (length id) MAX_ID h.1)
 
 pub record Created (old new : System) (id : Bytes) (birth : ℕ) : Type 0 where
-  pub kept : IsKept new
+  pub kept : IsWithinLimits new
   pub pages : all_pages_of new ≡ all_pages_of old
   pub creates : Creates old new id (newborn birth)
 
-pub creates : (s : System) → IsKept s → (id : Bytes) (i : ℕ) → IsAbsent bytes_cmp id s.canisters i → (birth : ℕ) → birth < 2 ^ 64 → IsTrue (is_id id) → IsBytes id → length s.canisters < MAX_CANISTERS
+pub creates : (s : System) → IsWithinLimits s → (id : Bytes) (i : ℕ) → IsAbsent bytes_cmp id s.canisters i → (birth : ℕ) → birth < 2 ^ 64 → IsTrue (is_id id) → IsBytes id → length s.canisters < MAX_CANISTERS
     → Created s (record s { canisters = insert s.canisters i (id, newborn birth) }) id birth
 creates s kept id i a birth small is bytes room =
     let d : CanisterRecord = newborn birth in

@@ -13,7 +13,7 @@ use Rattle.format_spec.specs.declared.limits.TheConstants.{MAX_ENTRIES, MAX_VALU
 use Rattle.state_spec.specs.State.{FitsEntry, is_path, is_reserved, is_prefix, has_conflict, are_apart}
 use Rattle.sys_state.specs.Calls.{put_refusal, with_entry, without_entry}
 use Rattle.sys_state.specs.Places.{Stands, IsAbsent}
-use Rattle.sys_state.specs.System.{System, IsKept, IsEntry}
+use Rattle.sys_state.specs.System.{System, IsWithinLimits, IsEntry}
 use Rattle.sys_state.proofs.Keys.{paths_total}
 use Rattle.sys_state.proofs.Lists.{all_parts, all_join}
 use Rattle.sys_state.proofs.Paths.{Entry, begins_path, goes_on, conflicts_with, conflicts_before, conflicts_after, place_within}
@@ -33,7 +33,7 @@ all_fit (e ∷ es) good = let p = all_fit es good.1 in ((good.0.fits, p.0), (goo
 
 -- ---- with other entries
 
-module _ (s : System) (kept : IsKept s) where
+module _ (s : System) (kept : IsWithinLimits s) where
   abbrev with_entries : List Entry → System
   with_entries es = record s { entries = es }
 
@@ -46,7 +46,7 @@ module _ (s : System) (kept : IsKept s) where
   pub apart : are_apart s.entries ≡ true
   apart = kept.system.paths_apart
 
-  kept_with : (es : List Entry) → length es ≤ MAX_ENTRIES → is_sorted path_cmp es ≡ true → are_apart es ≡ true → AllByRecursion Good es → IsKept (with_entries es)
+  kept_with : (es : List Entry) → length es ≤ MAX_ENTRIES → is_sorted path_cmp es ≡ true → are_apart es ≡ true → AllByRecursion Good es → IsWithinLimits (with_entries es)
   kept_with es few in_order apart_now good =
       let fit = all_fit es good in
       record {
@@ -149,7 +149,7 @@ pushed es e sorted apart fits =
 
 -- ---- changes of a state
 
-module _ (s : System) (kept : IsKept s) (path : List Bytes) (i : ℕ) where
+module _ (s : System) (kept : IsWithinLimits s) (path : List Bytes) (i : ℕ) where
   module _ (at : Stands path_cmp path s.entries i) where
     apart_there : are_apart (at.at.before ++ (path, at.value) ∷ at.at.after) ≡ true
     apart_there = subst (λ l. are_apart l ≡ true) at.at.split (apart s kept)
@@ -170,7 +170,7 @@ module _ (s : System) (kept : IsKept s) (path : List Bytes) (i : ℕ) where
 
     -- another value
     pub value_put : (value : Bytes) (x : Entry) → x ≡ get_or s.entries i x → IsBytes value → length value ≤ MAX_VALUE
-        → IsKept (record s { entries = set s.entries i (x.0, value) }) × (record s { entries = set s.entries i (x.0, value) } ≡ with_entry s path value)
+        → IsWithinLimits (record s { entries = set s.entries i (x.0, value) }) × (record s { entries = set s.entries i (x.0, value) } ≡ with_entry s path value)
     value_put value x read bytes small =
         let path_is : path ≡ x.0 = sym (ap (λ (e : Entry). e.0) (entry_there path_cmp paths_total path s.entries (sorted s kept) i at x read)) in
         let split = set_split path_cmp paths_total path s.entries (sorted s kept) i at value in
@@ -179,14 +179,14 @@ module _ (s : System) (kept : IsKept s) (path : List Bytes) (i : ℕ) where
           fits = record { path = parts_good.1.0.fits.path; free = parts_good.1.0.fits.free; value = small };
           bytes = record { path = parts_good.1.0.bytes.path; value = bytes };
         } in
-        let now : IsKept (record s { entries = set s.entries i (path, value) }) = kept_with s kept (set s.entries i (path, value)) (omega (arith, length-set s.entries i (path, value), kept.system.few_entries))
+        let now : IsWithinLimits (record s { entries = set s.entries i (path, value) }) = kept_with s kept (set s.entries i (path, value)) (omega (arith, length-set s.entries i (path, value), kept.system.few_entries))
         (ap (is_sorted path_cmp) is_put ∙ sorted_put path_cmp paths_total path value s.entries (sorted s kept))
         (ap are_apart split ∙ apart_value path value at.value at.at.before at.at.after ∙ apart_there)
         (subst (AllByRecursion Good) (sym split) (all_join Good at.at.before ((path, value) ∷ at.at.after) parts_good.0 (good, parts_good.1.1))) in
-        subst (λ (p : List Bytes). IsKept (record s { entries = set s.entries i (p, value) }) × (record s { entries = set s.entries i (p, value) } ≡ with_entry s path value)) path_is
+        subst (λ (p : List Bytes). IsWithinLimits (record s { entries = set s.entries i (p, value) }) × (record s { entries = set s.entries i (p, value) } ≡ with_entry s path value)) path_is
         (now, ap (λ (es : List Entry). record s { entries = es }) is_put)
 
-    pub entry_deleted : IsKept (record s { entries = remove s.entries i }) × (record s { entries = remove s.entries i } ≡ without_entry s path)
+    pub entry_deleted : IsWithinLimits (record s { entries = remove s.entries i }) × (record s { entries = remove s.entries i } ≡ without_entry s path)
     entry_deleted =
         let split = remove_split path_cmp paths_total path s.entries (sorted s kept) i at in
         let fewer : length s.entries ≡ length (remove s.entries i) + 1 =
@@ -199,7 +199,7 @@ module _ (s : System) (kept : IsKept s) (path : List Bytes) (i : ℕ) where
 
   module _ (a : IsAbsent path_cmp path s.entries i) where
     pub entry_put : (value : Bytes) → has_conflict s.entries path ≡ false → is_path path ≡ true → AllByRecursion IsBytes path → is_reserved path ≡ false → IsBytes value → length value ≤ MAX_VALUE → length s.entries < MAX_ENTRIES
-        → IsKept (record s { entries = insert s.entries i (path, value) }) × (record s { entries = insert s.entries i (path, value) } ≡ with_entry s path value)
+        → IsWithinLimits (record s { entries = insert s.entries i (path, value) }) × (record s { entries = insert s.entries i (path, value) } ≡ with_entry s path value)
     entry_put value none is_one labels not_reserved bytes small room =
         let split = insert_split path_cmp paths_total path s.entries i a value in
         let is_put = insert_is_put path_cmp paths_total path s.entries i a value in

@@ -18,7 +18,7 @@ use Rattle.state_spec.specs.State.{memory_limit}
 use Rattle.sys_state.specs.Calls.{pages_of}
 use Rattle.sys_state.specs.declared.mem.Mem.{Mem}
 use Rattle.sys_state.specs.declared.mem.Mem.TheVariants.{Heap, Stable}
-use Rattle.sys_state.specs.System.{System, part_of_record, IsKept, IsCanister}
+use Rattle.sys_state.specs.System.{System, part_of_record, IsWithinLimits, IsCanister}
 
 -- ---- keys beside other values are in order as before
 
@@ -34,10 +34,10 @@ module _ {K X Y : Type 0} (R : K → K → Ordering) (f : X → Y) where
   is_sorted-over [] = refl
   is_sorted-over (e ∷ es) = λ i. below_all-over e.0 es i && is_sorted-over es i
 
-pub ids_sorted : (s : System) → IsKept s → is_sorted bytes_cmp s.canisters ≡ true
+pub ids_sorted : (s : System) → IsWithinLimits s → is_sorted bytes_cmp s.canisters ≡ true
 ids_sorted s kept = sym (is_sorted-over bytes_cmp part_of_record s.canisters) ∙ kept.system.ids_ascend
 
-pub few_canisters : (s : System) → IsKept s → length s.canisters ≤ MAX_CANISTERS
+pub few_canisters : (s : System) → IsWithinLimits s → length s.canisters ≤ MAX_CANISTERS
 few_canisters s kept = omega (arith, kept.system.few_canisters, length-map s.canisters (over bytes_cmp part_of_record))
 
 -- ---- what holds of each canister
@@ -50,7 +50,7 @@ goods_in : (cs : List (Bytes × CanisterRecord)) → AllByRecursion (FitsCaniste
 goods_in [] fits bytes = tt
 goods_in (c ∷ cs) fits bytes = (record { fits = fits.0; bytes = bytes.0 }, goods_in cs fits.1 bytes.1)
 
-pub goods : (s : System) → IsKept s → AllByRecursion Good s.canisters
+pub goods : (s : System) → IsWithinLimits s → AllByRecursion Good s.canisters
 goods s kept = goods_in s.canisters kept.system.canisters_fit kept.canisters
 
 all_fit : (cs : List (Bytes × CanisterRecord)) → AllByRecursion Good cs → AllByRecursion (FitsCanister 1) (map (over bytes_cmp part_of_record) cs) × AllByRecursion IsCanister cs
@@ -70,7 +70,7 @@ pages-one c = omega arith
 
 -- ---- with other canisters
 
-pub kept_with : (s : System) → IsKept s → (cs : List (Bytes × CanisterRecord)) → length cs ≤ MAX_CANISTERS → is_sorted bytes_cmp cs ≡ true → AllByRecursion Good cs → pages cs ≤ MAX_STATE_PAGES → IsKept (record s { canisters = cs })
+pub kept_with : (s : System) → IsWithinLimits s → (cs : List (Bytes × CanisterRecord)) → length cs ≤ MAX_CANISTERS → is_sorted bytes_cmp cs ≡ true → AllByRecursion Good cs → pages cs ≤ MAX_STATE_PAGES → IsWithinLimits (record s { canisters = cs })
 kept_with s kept cs few sorted good sum =
     let fit = all_fit cs good in
     record {
@@ -93,7 +93,7 @@ fits_in : (cs : List (Bytes × CanisterRecord)) → AllByRecursion (FitsCanister
 fits_in [] h = tt
 fits_in (c ∷ cs) h = (h.0, fits_in cs h.1)
 
-pub canisters_fit : (s : System) → IsKept s → AllByRecursion (λ c. FitsCanister 1 (c.0, part_of_record c.1)) s.canisters
+pub canisters_fit : (s : System) → IsWithinLimits s → AllByRecursion (λ c. FitsCanister 1 (c.0, part_of_record c.1)) s.canisters
 canisters_fit s kept = fits_in s.canisters kept.system.canisters_fit
 
 -- a canister that is found has no more pages in a memory than there may be

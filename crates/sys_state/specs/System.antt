@@ -56,7 +56,7 @@ pub record IsEntry (e : List Bytes × Bytes) : Type 0 where
   pub value : IsBytes e.1
 
 -- within all limits, so that a text spells it
-pub record IsKept (s : System) : Type 0 where
+pub record IsWithinLimits (s : System) : Type 0 where
   pub system : IsSystem 1 (part_of s)
   pub canisters : AllByRecursion IsCanister s.canisters
   pub entries : AllByRecursion IsEntry s.entries

@@ -2,7 +2,7 @@ ghost use Rattle.std.specs.Prelude.{◌≡◌, ◌≤◌, [], length, IfOk, IfSo
 ghost use Rattle.std.specs.Option.{option_copied};
 ghost use Rattle.std.specs.FinMap.{find};
 ghost use Rattle.format_spec.specs.Bytes.{bytes_cmp};
-ghost use Rattle.sys_state.specs.System.{IsKept};
+ghost use Rattle.sys_state.specs.System.{IsWithinLimits};
 ghost use Rattle.state_spec.specs.State.{memory_limit};
 ghost use Rattle.sys_state.specs.Places.{Places};
 ghost use Rattle.sys_state.specs.Calls.{canister_in, pages_of};
@@ -41,12 +41,12 @@ impl Model for SysState {
     ghost Value = { System };
 
     ghost use Rattle.std.specs.Prelude.{◌≡◌};
-    ghost use Rattle.sys_state.specs.System.{IsKept, system};
+    ghost use Rattle.sys_state.specs.System.{IsWithinLimits, system};
     ghost use Rattle.sys_state.specs.Calls.{all_pages_of};
 
     ghost view = { λ s. system s.time s.canisters.items s.entries.items };
 
-    ghost invariant = { λ s. IsKept (system s.time s.canisters.items s.entries.items) × (s.pages ≡ all_pages_of (system s.time s.canisters.items s.entries.items)) };
+    ghost invariant = { λ s. IsWithinLimits (system s.time s.canisters.items s.entries.items) × (s.pages ≡ all_pages_of (system s.time s.canisters.items s.entries.items)) };
 }
 
 impl SysState {
@@ -79,7 +79,7 @@ impl SysState {
     /// How many canisters there are: at most 1,024.
     pub fn canisters(&self) -> u32
         ensures count { result ≡ length self.now.canisters }
-        ensures kept { IsKept self.now }
+        ensures kept { IsWithinLimits self.now }
     {
         self.canisters.len() as u32
     }
@@ -87,7 +87,7 @@ impl SysState {
     /// How many entries there are: at most 16,384.
     pub fn entries(&self) -> u32
         ensures count { result ≡ length self.now.entries }
-        ensures kept { IsKept self.now }
+        ensures kept { IsWithinLimits self.now }
     {
         self.entries.len() as u32
     }

@@ -13,7 +13,7 @@ use Rattle.disk_model.specs.View.{DiskView}
 use Rattle.disk_model.specs.Laws.{same_name_eq}
 use Rattle.disk_model.specs.Frame.{TouchesOnly, touches_then, touches_none, touches_wider}
 use Rattle.disk_model.specs.Spending.{Spends, spends_none, spends_then}
-use Rattle.page_file.specs.Files.{NumberedFile, IsKept, IsFinished}
+use Rattle.page_file.specs.Files.{NumberedFile, IsAsKnown, IsFinished}
 use Rattle.height_store.specs.Store.{Store, StoredHeight, IsNextFree, heights_in, is_used}
 use Rattle.height_store.specs.Kept.{IsReadable, HasRoom, HasMark, HasStacks}
 use Rattle.height_store.specs.Shown.{or_right, listing_apart}
@@ -124,22 +124,22 @@ touches_next old new number before after free is touches = touches_wider (same_n
 none_some : (f : Files) (q : Name) (text : Bytes) → f q ≡ Some text → f q ≡ None → ⊥
 none_some f q text there none = absurd cc
 
-pub kept_used : (store : Store) (f : Files) (file : NumberedFile) → HasRoom store f → IsKept f file → is_used store file.number ≡ true
+pub kept_used : (store : Store) (f : Files) (file : NumberedFile) → HasRoom store f → IsAsKnown f file → is_used store file.number ≡ true
 kept_used store f file room kept = elim (cases_Bool (is_used store file.number)) [
   | inl used ↦ used
   | inr unused ↦ absurd (none_some f (name.Page file.number) kept.1.text kept.1.there (room file.number unused))
 ]
 
 module _ (most : ℕ) (old new : Store) (f g : Files) (gives : GivesNumbers most old new) (same : (q : Name) → is_given_since old new q ≡ false → g q ≡ f q) (room : HasRoom old f) where
-  kept_here : (file : NumberedFile) → IsKept f file → IsKept g file
+  kept_here : (file : NumberedFile) → IsAsKnown f file → IsAsKnown g file
   kept_here file kept =
       (kept.0, record { text = kept.1.text; there = same (name.Page file.number) (apart_from_used old new file.number (kept_used old f file room kept)) ∙ kept.1.there; good = kept.1.good })
 
-  stack_here : (stack : List NumberedFile) → AllByRecursion (IsKept f) stack → AllByRecursion (IsKept g) stack
+  stack_here : (stack : List NumberedFile) → AllByRecursion (IsAsKnown f) stack → AllByRecursion (IsAsKnown g) stack
   stack_here [] kept = tt
   stack_here (file ∷ stack) kept = (kept_here file kept.0, stack_here stack kept.1)
 
-  stacks_here : (stacks : List (List NumberedFile)) → AllByRecursion (AllByRecursion (IsKept f)) stacks → AllByRecursion (AllByRecursion (IsKept g)) stacks
+  stacks_here : (stacks : List (List NumberedFile)) → AllByRecursion (AllByRecursion (IsAsKnown f)) stacks → AllByRecursion (AllByRecursion (IsAsKnown g)) stacks
   stacks_here [] kept = tt
   stacks_here (stack ∷ stacks) kept = (stack_here stack kept.0, stacks_here stacks kept.1)
 

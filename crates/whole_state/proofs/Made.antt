@@ -16,7 +16,7 @@ use Rattle.sys_state.specs.System.{System, part_of, kept_of, record_of, part_of_
 use Rattle.manifest.specs.Fits.{FitMemories}
 use Rattle.disk_model.specs.declared.name.Name.TheVariants as name
 use Rattle.disk_model.specs.State.{DiskState}
-use Rattle.page_file.specs.Files.{NumberedFile, IsKept}
+use Rattle.page_file.specs.Files.{NumberedFile, IsAsKnown}
 use Rattle.layer_stack.specs.Stacks.{AreLayers}
 use Rattle.height_store.specs.Store.{FitsMark, FitsPages, numbers_of}
 use Rattle.height_store.specs.Kept.{IsMadeOf, HasFirmPages}
@@ -78,11 +78,11 @@ all_fit (b ∷ memories) (f ∷ fs) (s ∷ stacks) fit are =
 pub fits_mark : (m : Mark) (s : SystemPart) (memories : List Bytes) (stacks : List (List NumberedFile)) → IsMark m s → map (λ x. x.layers) m.memories ≡ map numbers_of stacks → FitMemories s memories → AllZip IsWholeStack memories stacks → FitsMark m s stacks
 fits_mark m s memories stacks good layers fit are = record { mark = good; numbers = sym layers; fits = all_fit memories (memories_in s) stacks fit are }
 
-files_kept : (s : DiskState) (bytes : Bytes) (stack : List NumberedFile) → AreFinished s bytes stack → AllByRecursion (IsKept s.files) stack
+files_kept : (s : DiskState) (bytes : Bytes) (stack : List NumberedFile) → AreFinished s bytes stack → AllByRecursion (IsAsKnown s.files) stack
 files_kept s bytes [] done = tt
 files_kept s bytes (file ∷ stack) done = ((bytes, done.0.there), files_kept s bytes stack done.1)
 
-pub all_kept : (s : DiskState) (memories : List Bytes) (stacks : List (List NumberedFile)) → AllZip (AreFinished s) memories stacks → AllByRecursion (AllByRecursion (IsKept s.files)) stacks
+pub all_kept : (s : DiskState) (memories : List Bytes) (stacks : List (List NumberedFile)) → AllZip (AreFinished s) memories stacks → AllByRecursion (AllByRecursion (IsAsKnown s.files)) stacks
 all_kept s [] [] done = tt
 all_kept s [] (stack ∷ stacks) done = absurd done
 all_kept s (b ∷ memories) [] done = absurd done

@@ -18,7 +18,7 @@ use Rattle.disk_model.specs.View.{DiskView, LeavesOnly}
 use Rattle.disk_model.specs.Moments.{weaker}
 use Rattle.disk_model.specs.Frame.{TouchesOnly}
 use Rattle.disk_model.specs.Laws.{IsSound}
-use Rattle.page_file.specs.Files.{NumberedFile, IsKept}
+use Rattle.page_file.specs.Files.{NumberedFile, IsAsKnown}
 use Rattle.height_store.specs.Store.{Store, StoredHeight, GivesFew, mark_names, is_named, is_needed, is_used, numbers_of}
 use Rattle.height_store.specs.Kept.{IsReadable, HasRoom, ShowsHeight, HasStacks, IsMadeOf, HasFirmPages, KeepsHeights, StandsForEither}
 use Rattle.height_store.specs.Laws.{kept_apart, stands_apart}
@@ -28,14 +28,14 @@ use Rattle.whole_state.proofs.Made.{is_made, pages_firm}
 use Rattle.whole_state.proofs.Giving.{kept_used, apart_from_used}
 
 module _ (store : Store) (f : Files) (room : HasRoom store f) (n : ℕ) where
-  in_stack : (stack : List NumberedFile) → AllByRecursion (IsKept f) stack → list_any (nat_eq n) (numbers_of stack) ≡ true → is_used store n ≡ true
+  in_stack : (stack : List NumberedFile) → AllByRecursion (IsAsKnown f) stack → list_any (nat_eq n) (numbers_of stack) ≡ true → is_used store n ≡ true
   in_stack [] kept named = absurd (false≢true named)
   in_stack (file ∷ stack) kept named = elim (cases_Bool (nat_eq n file.number)) [
     | inl here ↦ subst (λ (k : ℕ). is_used store k ≡ true) (sym (eqb-true n file.number here)) (kept_used store f file room kept.0)
     | inr apart ↦ in_stack stack kept.1 (sym (rw apart refl) ∙ named)
   ]
 
-  in_stacks : (stacks : List (List NumberedFile)) (layers : List (List ℕ)) → map numbers_of stacks ≡ layers → AllByRecursion (AllByRecursion (IsKept f)) stacks → list_any (λ ns. list_any (nat_eq n) ns) layers ≡ true → is_used store n ≡ true
+  in_stacks : (stacks : List (List NumberedFile)) (layers : List (List ℕ)) → map numbers_of stacks ≡ layers → AllByRecursion (AllByRecursion (IsAsKnown f)) stacks → list_any (λ ns. list_any (nat_eq n) ns) layers ≡ true → is_used store n ≡ true
   in_stacks [] layers is kept named = absurd (false≢true (ap (list_any (λ ns. list_any (nat_eq n) ns)) is ∙ named))
   in_stacks (stack ∷ stacks) layers is kept named =
       let here = ap (list_any (λ ns. list_any (nat_eq n) ns)) is ∙ named in

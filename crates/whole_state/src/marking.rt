@@ -17,8 +17,7 @@ ghost use Rattle.whole_state.specs.Written.{IsWholeStack};
 
 use byte_codec::{Blob, NoMemory};
 use format_spec::{CHUNK_SIZE, VERSION};
-use hash_domain::Hash32;
-use hash_domain::chunk_hashes;
+use hash_domain::{Hash32, chunk_hashes};
 use layer_stack::Stack;
 use manifest::Manifest;
 use mark_file::{Mark, MarkMem};

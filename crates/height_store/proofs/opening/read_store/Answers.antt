@@ -6,7 +6,7 @@ use Rattle.std.specs.List.Sorted.{IsStrictlyIncreasing}
 use Rattle.std.proofs.Common.{subst, sym, ◌∙◌, ap}
 use Rattle.disk_model.specs.State.{DiskState}
 use Rattle.disk_model.specs.Looking.{looks_then}
-use Rattle.page_file.specs.Files.{IsKept}
+use Rattle.page_file.specs.Files.{IsAsKnown}
 use Rattle.height_store.specs.Found.{IsFound}
 use Rattle.height_store.specs.Opened.{ReadsAtMost}
 use Rattle.height_store.specs.Store.{Store, numbers_of, is_named}
@@ -47,16 +47,16 @@ returns-clause-named g c = subst (λ (store : Store). (n : ℕ) → list_any (na
 pub returns-clause-found : goal.returns-clause-found
 returns-clause-found g c = λ told.
     let files = (g.D.Disk.view c.args.disk.now).state.files in
-    let kept = subst (λ (s : DiskState). AllByRecursion (IsKept s.files) c.in_ok-files.files.items) (c.in_ok-marks.ensures.looks told).state (c.in_ok-files.ensures.kept told) in
+    let kept = subst (λ (s : DiskState). AllByRecursion (IsAsKnown s.files) c.in_ok-files.files.items) (c.in_ok-marks.ensures.looks told).state (c.in_ok-files.ensures.kept told) in
     subst (λ (store : Store). IsFound store files) (sym c.new.ensures)
     (found_by c.in_ok-heights.heights.items _ c.in_ok-heights.ensures.marks files _ 0 0 c.in_ok-files.files.items (c.in_ok-marks.ensures.good told)
     (c.in_ok-named.ensures ∙ ap numbers_of c.deref-2.ensures.value) kept
-    (λ all are. c.in_ok-heights.ensures.stacks all (subst (AllByRecursion (IsKept all)) (sym c.deref-3.ensures.value) are)))
+    (λ all are. c.in_ok-heights.ensures.stacks all (subst (AllByRecursion (IsAsKnown all)) (sym c.deref-3.ensures.value) are)))
 
 pub returns-clause-read : goal.returns-clause-read
 returns-clause-read g c = λ told.
     let files = (g.D.Disk.view c.args.disk.now).state.files in
-    let kept = subst (λ (s : DiskState). AllByRecursion (IsKept s.files) c.in_ok-files.files.items) (c.in_ok-marks.ensures.looks told).state (c.in_ok-files.ensures.kept told) in
+    let kept = subst (λ (s : DiskState). AllByRecursion (IsAsKnown s.files) c.in_ok-files.files.items) (c.in_ok-marks.ensures.looks told).state (c.in_ok-files.ensures.kept told) in
     subst (λ (store : Store). ReadsAtMost files store (g.D.Disk.view c.args.disk.now).bytes_read (g.D.Disk.view c.open_pages.new.disk).bytes_read) (sym c.new.ensures)
     (read_by c.in_ok-heights.heights.items _ c.in_ok-heights.ensures.marks files _ 0 0 c.in_ok-files.files.items _ _ _
     (c.in_ok-named.ensures ∙ ap numbers_of c.deref-2.ensures.value) kept (c.in_ok-marks.ensures.looks told) (c.in_ok-files.ensures.looks told))
@@ -64,10 +64,10 @@ returns-clause-read g c = λ told.
 pub returns-clause-opens : goal.returns-clause-opens
 returns-clause-opens g c = λ told.
     let files = (g.D.Disk.view c.args.disk.now).state.files in
-    let kept = subst (λ (s : DiskState). AllByRecursion (IsKept s.files) c.in_ok-files.files.items) (c.in_ok-marks.ensures.looks told).state (c.in_ok-files.ensures.kept told) in
+    let kept = subst (λ (s : DiskState). AllByRecursion (IsAsKnown s.files) c.in_ok-files.files.items) (c.in_ok-marks.ensures.looks told).state (c.in_ok-files.ensures.kept told) in
     let found = found_by c.in_ok-heights.heights.items _ c.in_ok-heights.ensures.marks files _ 0 0 c.in_ok-files.files.items (c.in_ok-marks.ensures.good told)
     (c.in_ok-named.ensures ∙ ap numbers_of c.deref-2.ensures.value) kept
-    (λ all are. c.in_ok-heights.ensures.stacks all (subst (AllByRecursion (IsKept all)) (sym c.deref-3.ensures.value) are)) in
+    (λ all are. c.in_ok-heights.ensures.stacks all (subst (AllByRecursion (IsAsKnown all)) (sym c.deref-3.ensures.value) are)) in
     let few : length c.in_ok-heights.heights.items ≤ MAX_PUBLISHED =
     subst (λ (n : ℕ). n ≤ MAX_PUBLISHED) (sym (sym (length-map c.in_ok-heights.heights.items read_of) ∙ ap length c.in_ok-heights.ensures.marks)) c.in_ok-marks.ensures.few in
     marks_open files c.in_ok-heights.heights.items c.in_ok-heights.ensures.good few found.listed found.marks (found.stacks files found.kept)

@@ -1,7 +1,7 @@
 use Rattle.std.proofs.Common.{◌≡◌, map}
 use Rattle.std.specs.List.{AllByRecursion}
 use Rattle.disk_model.specs.Files.{Files}
-use Rattle.page_file.specs.Files.{IsKept}
+use Rattle.page_file.specs.Files.{IsAsKnown}
 use Rattle.height_store.specs.Kept.{HasStacks}
 use Rattle.height_store.specs.Store.{IsHeight}
 use Rattle.height_store.proofs.pages.heights_of.Given as goal
@@ -13,5 +13,5 @@ invariant-loop-mark l =
     record {
       marks : map (λ h. record { mark = h.mark; system = h.system }) l.heights.items ≡ l.yielded;
       good : AllByRecursion IsHeight l.heights.items;
-      stacks : (all : Files) → AllByRecursion (IsKept all) l.files → AllByRecursion (HasStacks all) l.heights.items;
+      stacks : (all : Files) → AllByRecursion (IsAsKnown all) l.files → AllByRecursion (HasStacks all) l.heights.items;
     }

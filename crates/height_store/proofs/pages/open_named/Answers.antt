@@ -3,7 +3,7 @@ use Rattle.std.specs.List.{AllByRecursion}
 use Rattle.std.proofs.lemmas.Result.{err_from_is_err_and}
 use Rattle.disk_model.specs.State.{DiskState}
 use Rattle.disk_model.specs.Looking.{OnlyLooks, looks_then}
-use Rattle.page_file.specs.Files.{IsKept}
+use Rattle.page_file.specs.Files.{IsAsKnown}
 use Rattle.height_store.specs.declared.error.StoreError.TheVariants.{BadPage}
 use Rattle.height_store.specs.Bad.{IsGoodNaming}
 use Rattle.height_store.specs.Naming.{IsFirstBadNaming, index_bytes}
@@ -31,7 +31,7 @@ loop-naming-preserved g c =
     record {
       opened = opened_next c.loop-naming.files.items c.open_one.new.files.items c.args.named.now c.loop-naming.naming-index (0, 0) c.loop-naming-test.true c.requires.ordered c.loop-naming.invariant.opened c.in_ok-open_one.ensures.takes;
       faults = omega (arith, c.open_one.ensures.cause.never_falls, c.loop-naming.invariant.faults);
-      kept = λ told. subst (λ (s : DiskState). AllByRecursion (IsKept s.files) c.open_one.new.files.items) (c.loop-naming.invariant.looks told).state (c.in_ok-open_one.ensures.kept told);
+      kept = λ told. subst (λ (s : DiskState). AllByRecursion (IsAsKnown s.files) c.open_one.new.files.items) (c.loop-naming.invariant.looks told).state (c.in_ok-open_one.ensures.kept told);
       good = λ told. good_next (g.D.Disk.view c.args.disk.now).state.files c.args.named.now c.loop-naming.naming-index (0, 0) c.loop-naming-test.true (c.loop-naming.invariant.good told)
           (subst (λ (s : DiskState). IsGoodNaming s.files (get_or c.args.named.now c.loop-naming.naming-index (0, 0))) (c.loop-naming.invariant.looks told).state (c.in_ok-open_one.ensures.good told));
       looks = λ told.

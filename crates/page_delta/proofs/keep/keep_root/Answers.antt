@@ -1,5 +1,5 @@
 use Rattle.std.proofs.Common.{◌≡◌, ◌∙◌, List, Option, Some, None, refl, sym, ap, subst, arith}
-use Rattle.page_delta.specs.Roots.{root_at, IsKept}
+use Rattle.page_delta.specs.Roots.{root_at, AreSound}
 use Rattle.page_delta.specs.declared.roots.Root.{Root}
 use Rattle.page_delta.proofs.RootCopies.{stands-kept}
 use Rattle.page_delta.proofs.RootCalls.{added-at}
@@ -12,7 +12,7 @@ keep_tree-requires-clause-stands c = stands-kept c.args.nodes.now.slots c.args.i
 
 pub returns-in_err-root-clause-kept : goal.returns-in_err-root-clause-kept
 returns-in_err-root-clause-kept c =
-    subst (λ (ids : List (Option Root)). IsKept c.keep_tree.new.nodes.slots ids) (sym c.make_id.ensures.ids)
+    subst (λ (ids : List (Option Root)). AreSound c.keep_tree.new.nodes.slots ids) (sym c.make_id.ensures.ids)
     (kept-tree c.args.nodes.now.slots c.keep_tree.new.nodes.slots c.args.ids.now.slots c.args.pool.now c.keep_tree.new.pool None
     c.requires.kept c.requires.held c.in_err-root.ensures.err refl)
 

@@ -6,7 +6,7 @@ use Rattle.format_spec.specs.declared.limits.TheConstants.{MAX_LINE, MAX_LINES}
 use Rattle.disk_model.specs.Moments.{at_start}
 use Rattle.io_edge.specs.Moves.{Moves}
 use Rattle.io_edge.proofs.Known.{gives_nothing}
-use Rattle.script_text.specs.declared.ending.Stop.TheVariants.{ReadFault, ManyLines}
+use Rattle.script_text.specs.declared.ending.RunStop.TheVariants.{ReadFault, ManyLines}
 use Rattle.state_manager.specs.Kept.{Keeps}
 use Rattle.state_cli.proofs.Progress.{begun, goes_on, joins}
 use Rattle.state_cli.proofs.Standing.{keeps_stand}

@@ -3,7 +3,7 @@ use Rattle.std.specs.List.{AllByRecursion}
 use Rattle.store_spec.specs.Mark.{Mark}
 use Rattle.disk_model.specs.View.{LeavesOnly}
 use Rattle.disk_model.specs.Frame.{TouchesOnly}
-use Rattle.page_file.specs.Files.{IsKept}
+use Rattle.page_file.specs.Files.{IsAsKnown}
 use Rattle.mark_file.proofs.Wholes.{mark_fits}
 use Rattle.height_store.specs.Kept.{IsReadable, IsWritable, KeepsHeights}
 use Rattle.height_store.specs.Store.{Store, StoredHeight, IsStore}
@@ -73,7 +73,7 @@ returns-clause-readable g c = λ told.
     let pushed = c.in_ok-push.ensures.items ∙ ap (λ (l : List StoredHeight). l ++ h ∷ []) c.reserve.ensures.items in
     subst (λ (store : Store). IsReadable store.heights v1.state.files) (sym (gained _ c.args.self.now c.push.new.self.items h c.self.view_is pushed))
     (readable_push c.args.self.now v0 v1 h written touches (c.requires.readable told) (below_mark c.args.self.now.heights c.args.mark h c.in_ok-published.ensures.mark c.requires.above)
-    (subst (AllByRecursion (AllByRecursion (IsKept v0.state.files))) (sym c.in_ok-published.ensures.stacks) (c.requires.kept told)))
+    (subst (AllByRecursion (AllByRecursion (IsAsKnown v0.state.files))) (sym c.in_ok-published.ensures.stacks) (c.requires.kept told)))
 
 pub returns-clause-writable : goal.returns-clause-writable
 returns-clause-writable g c = λ told n writable.

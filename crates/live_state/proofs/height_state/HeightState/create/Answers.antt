@@ -1,6 +1,6 @@
 use Rattle.std.proofs.Common.{map, sym, subst, refl, arith}
 use Rattle.std.proofs.lemmas.List.{length-map}
-use Rattle.live_state.specs.StateKept.{HeldState, KeepsState, live_of}
+use Rattle.live_state.specs.StateKept.{StateView, KeepsState, live_of}
 use Rattle.live_state.proofs.Indexed.{pair_for_each}
 use Rattle.live_state.proofs.Lines.{step_create}
 use Rattle.live_state.proofs.Sized.{after_create}
@@ -19,4 +19,4 @@ invariant_of-self c = record {
 }
 
 pub returns : goal.returns
-returns c = λ m k. step_create _ _ m (subst (λ (h : HeldState). KeepsState h (live_of m)) (sym c.self.view_is) k) (record { height = refl }) c.args.id.now c.create_canister.result c.create_canister.ensures
+returns c = λ m k. step_create _ _ m (subst (λ (h : StateView). KeepsState h (live_of m)) (sym c.self.view_is) k) (record { height = refl }) c.args.id.now c.create_canister.result c.create_canister.ensures

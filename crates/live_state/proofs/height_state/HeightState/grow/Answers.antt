@@ -1,14 +1,14 @@
 use Rattle.std.proofs.Common.{◌≡◌, ℕ, length, get_or, sym, subst, refl, ap, ◌∙◌, arith}
 use Rattle.std.specs.Vec.{vec_len}
 use Rattle.sys_state.specs.Calls as calls
-use Rattle.live_state.specs.StateKept.{HeldState, KeepsState, live_of}
+use Rattle.live_state.specs.StateKept.{StateView, KeepsState, live_of}
 use Rattle.live_state.proofs.Grown.{kept_grown}
 use Rattle.live_state.proofs.MemoryLines.{step_grow, absent_there}
 use Rattle.live_state.proofs.Sized.{is_within, has_pages, keeps_grow, steps_grow}
 use Rattle.live_state.proofs.height_state.HeightState.grow.Goals as goal
 
 pub returns-in_default : goal.returns-in_default
-returns-in_default c = λ m k. absent_there c.args.self.now m k c.args.id.now _ (sym (ap (λ (h : HeldState). calls.canister_in h.system c.args.id.now) c.self.view_is) ∙ c.in_default.ensures.found)
+returns-in_default c = λ m k. absent_there c.args.self.now m k c.args.id.now _ (sym (ap (λ (h : StateView). calls.canister_in h.system c.args.id.now) c.self.view_is) ∙ c.in_default.ensures.found)
 
 pub index_mut-memory-requires : goal.index_mut-memory-requires
 index_mut-memory-requires c =
@@ -34,6 +34,6 @@ invariant_of-self c =
 pub returns : goal.returns
 returns c = λ m k.
     let memory = c.index_mut-memory.result.now in
-    step_grow _ _ m (subst (λ (h : HeldState). KeepsState h (live_of m)) (sym c.self.view_is) k) (record { height = refl }) c.args.id.now c.args.mem c.args.pages c.in-Ok.ensures.value c.grow_memory.new.memory.items c.grow_memory.result c.in-Ok.ensures.found
+    step_grow _ _ m (subst (λ (h : StateView). KeepsState h (live_of m)) (sym c.self.view_is) k) (record { height = refl }) c.args.id.now c.args.mem c.args.pages c.in-Ok.ensures.value c.grow_memory.new.memory.items c.grow_memory.result c.in-Ok.ensures.found
     (steps_grow (λ v. v.items) c.self.inside.memories.items c.self.inside.sys c.grow_memory.new.sys c.args.id.now c.in-Ok.place c.args.mem memory c.grow_memory.new.memory c.self.invariant.sizes c.in-Ok.ensures
     c.memory_index.result c.memory_index.ensures c.index_mut-memory.ensures.value _ c.grow_memory.result c.args.pages c.grow_memory.ensures)

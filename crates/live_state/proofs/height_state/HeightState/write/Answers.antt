@@ -5,7 +5,7 @@ use Rattle.std.proofs.Common.{Option, ◌≤◌, ◌≡◌, ◌/◌, ℕ, length
 use Rattle.std.specs.Vec.{vec_len}
 use Rattle.format_spec.specs.declared.limits.TheConstants.{PAGE_SIZE}
 use Rattle.sys_state.specs.Calls as calls
-use Rattle.live_state.specs.StateKept.{HeldState, KeepsState, live_of}
+use Rattle.live_state.specs.StateKept.{StateView, KeepsState, live_of}
 use Rattle.live_state.proofs.Grown.{kept_grown}
 use Rattle.live_state.proofs.MemoryLines.{step_write, absent_there}
 use Rattle.live_state.proofs.Sized.{is_within, has_pages, keeps_write, steps_write}
@@ -19,7 +19,7 @@ sized o r (Some n) mem limit e f h =
     subst (λ (k : ℕ). k ≤ limit) is h
 
 pub returns-in_default : goal.returns-in_default
-returns-in_default c = λ m k. absent_there c.args.self.now m k c.args.id.now _ (sym (ap (λ (h : HeldState). calls.canister_in h.system c.args.id.now) c.self.view_is) ∙ c.in_default.ensures.found)
+returns-in_default c = λ m k. absent_there c.args.self.now m k c.args.id.now _ (sym (ap (λ (h : StateView). calls.canister_in h.system c.args.id.now) c.self.view_is) ∙ c.in_default.ensures.found)
 
 pub index_mut-memory-requires : goal.index_mut-memory-requires
 index_mut-memory-requires c =
@@ -52,7 +52,7 @@ returns c = λ m k.
     let pages = has_pages (λ v. v.items) c.self.inside.memories.items c.self.inside.sys c.self.inside.sys c.args.id.now c.in-Ok.place c.args.mem memory memory c.self.invariant.sizes c.in-Ok.ensures memory (vec_len memory) count
     (c.index_mut-memory.ensures.value ∙ ap (λ (i : ℕ). get_or c.self.inside.memories.items i memory) c.memory_index.ensures) (Some c.in-Ok.ensures.value) c.in-Ok.ensures.found in
     let few = sized (calls.canister_in c.self.inside.sys c.args.id.now) c.in-Ok.ensures.value c.pages-pages.result c.args.mem 65536 c.in-Ok.ensures.found c.pages-pages.ensures.value c.pages-pages.ensures.limit in
-    step_write _ _ m (subst (λ (h : HeldState). KeepsState h (live_of m)) (sym c.self.view_is) k) (record { height = refl }) c.args.id.now c.args.mem c.args.offset (vec_len memory / PAGE_SIZE) c.args.bytes.now c.in-Ok.ensures.value c.write_memory.new.memory.items c.write_memory.result c.in-Ok.ensures.found
+    step_write _ _ m (subst (λ (h : StateView). KeepsState h (live_of m)) (sym c.self.view_is) k) (record { height = refl }) c.args.id.now c.args.mem c.args.offset (vec_len memory / PAGE_SIZE) c.args.bytes.now c.in-Ok.ensures.value c.write_memory.new.memory.items c.write_memory.result c.in-Ok.ensures.found
     (omega (arith, pages)) (omega (arith, pages, few))
     (steps_write (λ v. v.items) c.self.inside.memories.items c.self.inside.sys c.write_memory.new.sys c.args.id.now c.in-Ok.place c.args.mem memory c.write_memory.new.memory c.self.invariant.sizes c.in-Ok.ensures
     c.memory_index.result c.memory_index.ensures c.index_mut-memory.ensures.value _ c.write_memory.result (vec_len memory / PAGE_SIZE) c.args.offset c.args.bytes.now c.write_memory.ensures)

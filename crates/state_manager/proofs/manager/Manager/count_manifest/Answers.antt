@@ -3,7 +3,7 @@ use Rattle.script_text.specs.declared.command.Command.TheVariants as commands
 use Rattle.height_store.specs.Store.{height_at}
 use Rattle.machine_spec.specs.HeightSteps.{counts_of}
 use Rattle.machine_spec.specs.Machine.{answered}
-use Rattle.state_manager.specs.Kept.{Held}
+use Rattle.state_manager.specs.Kept.{ManagerView}
 use Rattle.state_manager.proofs.Standing.{at_some, knows_some, line_none, line_published, performs_in_memory}
 use Rattle.state_manager.proofs.manager.Manager.count_manifest.Goals as goal
 
@@ -11,7 +11,7 @@ pub returns-in-Some : goal.returns-in-Some
 returns-in-Some c = λ m k.
     let p = knows_some c.args.self.now m k c.args.at c.in-Some.height c.in-Some.ensures in
     line_published c.args.self.now m k c.args.at c.in-Some.height c.in-Some.ensures (λ s. answered (counts_of s) m) c.count_published.result (λ s. refl)
-    (c.count_published.ensures p.stored p.published (ap (λ (h : Held). height_at h.store.heights c.in-Some.height) c.self.view_is ∙ p.found) p.related)
+    (c.count_published.ensures p.stored p.published (ap (λ (h : ManagerView). height_at h.store.heights c.in-Some.height) c.self.view_is ∙ p.found) p.related)
 
 pub returns-in-Some-state_at : goal.returns-in-Some-state_at
 returns-in-Some-state_at c = λ m k.

@@ -1,9 +1,9 @@
 use Rattle.std.proofs.Common.{◌∙◌, ap, sym, subst, refl, arith}
 use Rattle.std.specs.Prelude.{IsTrue}
-use Rattle.height_store.specs.Kept.{IsOver}
+use Rattle.height_store.specs.Kept.{MatchesFiles}
 use Rattle.height_store.specs.Laws.{over_after}
 use Rattle.script_text.specs.declared.command.Command.TheVariants as commands
-use Rattle.state_manager.specs.Kept.{Held, DoesLine}
+use Rattle.state_manager.specs.Kept.{ManagerView, DoesLine}
 use Rattle.state_manager.proofs.Purging.{Purges, RepliesTo, purge_line}
 use Rattle.state_manager.proofs.Spending.{purge_spends}
 use Rattle.state_manager.proofs.manager.Manager.purge.Goals as goal
@@ -11,9 +11,9 @@ use Rattle.state_manager.proofs.manager.Manager.purge.Goals.{in-Ok, in-Err}
 
 pub returns-clause-line : goal.returns-clause-line
 returns-clause-line g c =
-    let over : IsTrue g.D.Disk.tells → IsOver c.self.inside.store (g.D.Disk.view c.args.disk.now).state.files = λ told. subst (λ (h : Held). IsOver h.store (g.D.Disk.view c.args.disk.now).state.files) (sym c.self.view_is) (c.requires.over told) in
-    let old : Held = record { live = c.self.inside.live; memory = c.self.inside.memory.items; store = c.self.inside.store; stopped = c.self.inside.stopped } in
-    let now : Held = record { live = c.self.inside.live; memory = c.self.inside.memory.items; store = c.purge.new.self; stopped = c.self.inside.stopped } in
+    let over : IsTrue g.D.Disk.tells → MatchesFiles c.self.inside.store (g.D.Disk.view c.args.disk.now).state.files = λ told. subst (λ (h : ManagerView). MatchesFiles h.store (g.D.Disk.view c.args.disk.now).state.files) (sym c.self.view_is) (c.requires.over told) in
+    let old : ManagerView = record { live = c.self.inside.live; memory = c.self.inside.memory.items; store = c.self.inside.store; stopped = c.self.inside.stopped } in
+    let now : ManagerView = record { live = c.self.inside.live; memory = c.self.inside.memory.items; store = c.purge.new.self; stopped = c.self.inside.stopped } in
     let says : RepliesTo c.purge.result c.match-purge.result = elim c.match-purge.branch [
       | in-Ok w ↦ subst (λ r. RepliesTo r c.match-purge.result) (sym w.in-Ok.is) w.result-is
       | in-Err w ↦ subst (λ r. RepliesTo r c.match-purge.result) (sym w.in-Err.is) (w.result-is ∙ w.refused_purge.ensures)
@@ -29,5 +29,5 @@ returns-clause-line g c =
       images = c.purge.ensures.images;
       settled = c.purge.ensures.settled;
     } in
-    subst (λ (h : Held). DoesLine g.D.Disk.tells h now (g.D.Disk.view c.args.disk.now) (g.D.Disk.view c.purge.new.disk) c.match-purge.result (commands.Purge c.args.height)) c.self.view_is
+    subst (λ (h : ManagerView). DoesLine g.D.Disk.tells h now (g.D.Disk.view c.args.disk.now) (g.D.Disk.view c.purge.new.disk) c.match-purge.result (commands.Purge c.args.height)) c.self.view_is
     (purge_line g.D.Disk.tells old now (g.D.Disk.view c.args.disk.now) (g.D.Disk.view c.purge.new.disk) c.args.height c.purge.result c.match-purge.result says purges refl refl refl over (λ told. g.met.D.Disk.reads_as_image c.purge.new.disk told))

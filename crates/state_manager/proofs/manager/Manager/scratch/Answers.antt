@@ -10,7 +10,7 @@ use Rattle.script_text.specs.declared.command.Command.TheVariants as commands
 use Rattle.script_text.specs.declared.reply.Reply.TheVariants as replies
 use Rattle.machine_spec.specs.Machine.{answered}
 use Rattle.store_spec.specs.Image.{opened}
-use Rattle.state_manager.specs.Kept.{Held}
+use Rattle.state_manager.specs.Kept.{ManagerView}
 use Rattle.state_manager.proofs.DiskLines.{failed_line, looks_line, shown_some, still_line}
 use Rattle.state_manager.proofs.Spending.{bytes_there}
 use Rattle.state_manager.proofs.Standing.{asks_none, asks_there, at_none, at_some, published_none}
@@ -26,11 +26,11 @@ pub returns-in-Some-clause-line : goal.returns-in-Some-clause-line
 returns-in-Some-clause-line g c =
     looks_line g.D.Disk.tells c.args.self.now (g.D.Disk.view c.args.disk.now) _ (Ok (replies.Scratch c.in_ok-root.field-0)) (commands.Scratch c.args.at) c.requires.over (λ told. (_, c.load.ensures.looks told))
     (λ told m k.
-    let most = ap (λ (h : Held). bytes_at h.store.heights c.in-Some.height) c.self.view_is ∙ bytes_there c.args.self.now m k.states c.args.at c.in-Some.height c.in-Some.ensures in
+    let most = ap (λ (h : ManagerView). bytes_at h.store.heights c.in-Some.height) c.self.view_is ∙ bytes_there c.args.self.now m k.states c.args.at c.in-Some.height c.in-Some.ensures in
     subst (λ (n : ℕ). Spends 0 n (g.D.Disk.view c.args.disk.now) (g.D.Disk.view c.load.new.disk)) most (spends_looks _ _ _ (c.load.ensures.looks told)))
     (λ told m k.
     let p = shown_some c.args.self.now _ m (g.met.D.Disk.reads_as_image c.args.disk.now told) k c.args.at c.in-Some.height c.in-Some.ensures in
-    let state = c.in_ok-state.ensures.state told p.stored p.published (ap (λ (h : Held). height_at h.store.heights c.in-Some.height) c.self.view_is ∙ p.found) p.related in
+    let state = c.in_ok-state.ensures.state told p.stored p.published (ap (λ (h : ManagerView). height_at h.store.heights c.in-Some.height) c.self.view_is ∙ p.found) p.related in
     let root = c.in_ok-root.ensures (p.published.height + 1, opened p.published) state ∙ (shown_known _ p.stored p.published p.related).same_root in
     asks_there m c.args.at p.published.state p.state (λ s. answered (replies.Scratch (root_of s)) m) (replies.Scratch c.in_ok-root.field-0) (ap (λ (r : Bytes). replies.Scratch r) root) refl)
 

@@ -6,7 +6,7 @@ use Rattle.state_spec.specs.State.{memory_limit}
 use Rattle.format_spec.specs.Bytes.{Bytes, bytes_cmp}
 use Rattle.sys_state.specs.Calls.{pages_of}
 use Rattle.sys_state.specs.Places.{Places, Stands}
-use Rattle.sys_state.specs.System.{System, IsKept}
+use Rattle.sys_state.specs.System.{System, IsWithinLimits}
 use Rattle.sys_state.proofs.Kept.{found_fits, canisters_fit}
 use Rattle.sys_state.specs.declared.mem.Mem.{Mem}
 use Rattle.sys_state.specs.declared.record.CanisterRecord.{CanisterRecord}
@@ -37,6 +37,6 @@ returns-clause-limit c =
     let s = c.args.self.now in
     let at = stands c.args.id.now s c.place.result c.in_ok-i.i (sym c.ok.ensures.value ∙ c.in_ok-i.was) c.place.ensures in
     let read : c.index.result.now ≡ get_or s.canisters c.in_ok-i.i c.index.result.now = c.index.ensures ∙ ap (λ (t : System). get_or t.canisters c.in_ok-i.i c.index.result.now) c.self.view_is in
-    let kept : IsKept s = subst IsKept c.self.view_is c.self.invariant.0 in
+    let kept : IsWithinLimits s = subst IsWithinLimits c.self.view_is c.self.invariant.0 in
     subst (λ (n : ℕ). n ≤ memory_limit 1) (sym (pages_at c.args.id.now s c.args.mem c.in_ok-i.i at c.index.result.now c.pages.result read c.pages.ensures))
     (found_fits s.canisters (canisters_fit s kept) c.args.id.now c.args.mem at.value at.found)

@@ -5,7 +5,7 @@ use Rattle.disk_model.specs.Looking.{OnlyLooks, looks_none}
 use Rattle.height_store.specs.Known.{bytes_at}
 use Rattle.height_store.specs.Kept.{ShowsHeight}
 use Rattle.state_manager.proofs.AtHeights.{begun, begun_empty, last_there, newest_found, newest_none}
-use Rattle.state_manager.proofs.stored.begin.Goals as goal
+use Rattle.state_manager.proofs.published.begin.Goals as goal
 
 pub load-requires-clause-there : goal.load-requires-clause-there
 load-requires-clause-there g c = last_there c.args.store.now.heights c.in-Some.height c.in-Some.ensures.newest

@@ -1,7 +1,7 @@
 use Rattle.std.proofs.Common.{◌<◌, arith}
 use Rattle.std.proofs.lemmas.Bool.Decides.{nat_tests}
 use Rattle.state_manager.proofs.AtHeights.{all_below, none_below}
-use Rattle.state_manager.proofs.stored.is_low.Goals as goal
+use Rattle.state_manager.proofs.published.is_low.Goals as goal
 
 pub returns-in-Some-clause-above : goal.returns-in-Some-clause-above
 returns-in-Some-clause-above c = λ high.

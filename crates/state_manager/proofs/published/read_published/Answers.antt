@@ -9,7 +9,7 @@ use Rattle.height_store.specs.Store.{StoredHeight}
 use Rattle.height_store.specs.KnownLaws.{shown_known}
 use Rattle.state_manager.proofs.AtHeights.{system_found}
 use Rattle.state_manager.proofs.ReadHeights.{file_there, index_fits, pages_are, past, reads_no_canister, these}
-use Rattle.state_manager.proofs.stored.read_published.Goals as goal
+use Rattle.state_manager.proofs.published.read_published.Goals as goal
 
 pub returns-in_default-place-clause-reply : goal.returns-in_default-place-clause-reply
 returns-in_default-place-clause-reply g c = λ told h p found shows.
