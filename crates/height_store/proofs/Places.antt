@@ -160,11 +160,6 @@ copied_some (Some x) = refl
 pub found_is : {X : Type 0} (f : StoredHeight → X) (o : Option StoredHeight) (x : X) (h : StoredHeight) → Some x ≡ option_map f o → o ≡ Some h → x ≡ f h
 found_is f o x h is at = same_Some x (f h) (is ∙ ap (option_map f) at)
 
--- what holds of the system that was found holds of the height's
-pub of_system : (o : Option StoredHeight) (system : System) (P : System → Type 0) → Some system ≡ option_map (λ h. h.system) o → P system → IfSome o (λ h. P h.system)
-of_system None system P is holds = absurd cc
-of_system (Some h) system P is holds = subst P (same_Some system h.system is) holds
-
 pub sums_fit_found : (o : Option StoredHeight) (m : Mark) (s : System) (lists : List (List Bytes)) → Some m ≡ option_map (λ h. h.mark) o → Some s ≡ option_map (λ h. h.system) o → IfSome o IsHeight → lists ≡ map (λ m. m.sums) m.memories → FitSums (part_of s) lists
 sums_fit_found None m s lists is is' good are = absurd cc
 sums_fit_found (Some h) m s lists is is' good are =

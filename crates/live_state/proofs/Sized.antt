@@ -129,5 +129,3 @@ module _ {V : Type 0} (bytes : V → Bytes) (vs : List V) (old new : System) (id
         (λ g. (g.0, is_set, g.1 ∙ ap (λ (b : Bytes). written b at w) was)) (λ g. (g.0, is_same g.1))
 
     -- the bytes of the memory, as the manager holds them
-    pub it_was : bytes d ≡ get_or (map bytes vs) (index_of (place_of bytes_cmp id old.canisters) mem) []
-    it_was = was

@@ -46,13 +46,6 @@ from_answers (Some error) (Err other) (Err no_memory) done same e a d s = s
 refuses : (e : SysError) (r : Refusal) (reply : Reply) → refusal_of e ≡ Some r → Refuses (refusal_of e) (Ok reply) → reply ≡ Refused r
 refuses e r reply p h = subst (λ (x : Option Refusal). Refuses x (Ok reply)) p h
 
-pub alters_one : (b : Bool) (e : SysError) (r : Refusal) (result : Result Reply NoMemory) (now : StateView) (m : Machine) (act : Machine → Outcome) (done same : Type 0)
-    → refusal_of e ≡ Some r → Alters (if b then Some e else None) result done same → (same → KeepsState now (live_of m)) → (done → (Fine ≡ (act m).reply) × KeepsState now (live_of (act m).after))
-    → AfterState result now (unless ((b, r) ∷ []) m act)
-alters_one b e r (Err x) now m act done same p h keep did = tt
-alters_one true e r (Ok reply) now m act done same p h keep did = (refuses e r reply p h.0, keep h.1)
-alters_one false e r (Ok reply) now m act done same p h keep did = (h.0 ∙ (did h.1).0, (did h.1).1)
-
 pub alters_two : (b c : Bool) (e f : SysError) (r s : Refusal) (result : Result Reply NoMemory) (now : StateView) (m : Machine) (act : Machine → Outcome) (done same : Type 0)
     → refusal_of e ≡ Some r → refusal_of f ≡ Some s → Alters (if b then Some e else if c then Some f else None) result done same → (same → KeepsState now (live_of m)) → (done → (Fine ≡ (act m).reply) × KeepsState now (live_of (act m).after))
     → AfterState result now (unless ((b, r) ∷ (c, s) ∷ []) m act)

@@ -25,10 +25,6 @@ pub each_fresh : (h : ℕ) (cs : Canisters) → canisters_from h (map (λ c. (c.
 each_fresh h [] = refl
 each_fresh h (c ∷ cs) = ap (λ (l : Canisters). fresh h c ∷ l) (each_fresh h cs)
 
-pub opened_canisters : (p : Published) → (opened p).canisters ≡ map (fresh p.height) p.state.canisters
-unfolding opened state_from system_of
-opened_canisters p = each_fresh p.height p.state.canisters
-
 opened_is : (p : Published) → opened p ≡ record p.state { canisters = map (fresh p.height) p.state.canisters }
 unfolding opened state_from system_of
 opened_is p = ap (λ (cs : Canisters). record p.state { canisters = cs }) (each_fresh p.height p.state.canisters)

@@ -20,18 +20,6 @@ touches_page call result old new n m is apart sound does = subst (λ k. TouchesO
 
 -- ---- a page more
 
-pub appends_next : {T : Type 0} (inside writer : UnfinishedFile) (page bytes : Bytes) (result : Result T DiskError) (old new : DiskView) → inside ≡ writer → bytes ≡ text_added inside page → Does (append (Page inside.number) bytes) result old new
-    → Does (append (Page writer.number) (text_added writer page)) result old new
-appends_next inside writer page bytes result old new same is does =
-    subst (λ (w : UnfinishedFile). Does (append (Page w.number) (text_added w page)) result old new) same (subst (λ (b : Bytes). Does (append (Page inside.number) b) result old new) is does)
-
--- the first page goes out behind the index, and each later one alone
-pub first_added : (writer : UnfinishedFile) (page bytes : Bytes) → writer.added ≡ 0 → bytes ≡ index_text writer.index ++ page → bytes ≡ text_added writer page
-first_added writer page bytes none is = is ∙ sym (rw none refl)
-
-pub later_added : (writer : UnfinishedFile) (page : Bytes) → 1 ≤ writer.added → page ≡ text_added writer page
-later_added writer page some = let ne : (writer.added == 0) ≡ false = ne_eqb writer.added 0 (λ e. omega (arith, e, some)) in sym (rw ne refl)
-
 pub length-text_added : (writer : UnfinishedFile) (page : Bytes) → length page ≡ 4096 → length (text_added writer page) ≡ length_added writer
 length-text_added writer page long = elim (cases_Bool (writer.added == 0)) [
   | inl first ↦ rw first (omega (arith, length-append (index_text writer.index) page, length-index_text writer.index, long))

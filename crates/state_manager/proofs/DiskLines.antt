@@ -139,13 +139,6 @@ last_kept helds ks a each e = from None helds ks each e
         let next : length (b ∷ c ∷ helds) - 1 ≡ suc (length (c ∷ helds) - 1) = omega arith in
         from (Some k) (c ∷ helds) (l ∷ ks) each.1 (subst (λ (i : ℕ). Some a ≡ slice_get (b ∷ c ∷ helds) i) next e)
 
-pub last_in : (P : StateView → Type 0) (helds : List StateView) (a : StateView) → AllByRecursion P helds → Some a ≡ slice_get helds (length helds - 1) → P a
-last_in P [] a each e = absurd (cc e)
-last_in P (b ∷ []) a each e = let one : a ≡ b = cc e in subst P (sym one) each.0
-last_in P (b ∷ c ∷ helds) a each e =
-    let next : length (b ∷ c ∷ helds) - 1 ≡ suc (length (c ∷ helds) - 1) = omega arith in
-    last_in P (c ∷ helds) a each.1 (subst (λ (i : ℕ). Some a ≡ slice_get (b ∷ c ∷ helds) i) next e)
-
 pub none_kept : (helds : List StateView) (ks : List (ℕ × State)) → KeepsEach helds ks → length helds ≡ 0 → last_or None ks ≡ None
 none_kept [] [] each e = refl
 none_kept [] (k ∷ ks) each e = absurd each

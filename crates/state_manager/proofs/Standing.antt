@@ -177,15 +177,6 @@ knows_same h p knows = knows.height
 pub shows_same : (files : Files) (h : StoredHeight) (p : Published) → ShowsHeight files h p → h.mark.height ≡ p.height
 shows_same files h p shows = sym shows.made.height
 
--- the height is published
-pub published_there : (held : ManagerView) (at : HeightOrLive) (height : ℕ) → Some height ≡ published_height held at → is_some (height_at held.store.heights height) ≡ true
-published_there held Live height e = absurd (cc e)
-published_there held (Height h) height e = by (is_some (height_at held.store.heights h)) refl e
-  where
-    by : (b : Bool) → is_some (height_at held.store.heights h) ≡ b → Some height ≡ (if b then Some h else None) → is_some (height_at held.store.heights height) ≡ true
-    by true there e = let one : height ≡ h = cc e in subst (λ (n : ℕ). is_some (height_at held.store.heights n) ≡ true) (sym one) there
-    by false there e = absurd (cc e)
-
 pub knows_some : (held : ManagerView) (m : Machine) → KeepsStates held m → (at : HeightOrLive) (height : ℕ) → Some height ≡ published_height held at → PublishedAt KnowsHeight held.store.heights m at height
 knows_some held m k at height e = published_some KnowsHeight knows_same held m k.published at height e
 

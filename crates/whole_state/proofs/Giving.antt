@@ -85,9 +85,6 @@ given_second most old mid new (name.Mark n) gives apart = refl
 given_second most old mid new (name.Draft n) gives apart = refl
 given_second most old mid new (name.Stage n) gives apart = refl
 
-pub gives_none : (store : Store) → GivesNumbers 0 store store
-gives_none store = record { heights = refl; named = refl; next = omega arith; given_least = omega arith; given_most = omega arith }
-
 pub gives_then : (most : ℕ) (old mid new : Store) → GivesNumbers most old mid → GivesNumbers 1 mid new → GivesNumbers (most + 1) old new
 gives_then most old mid new first second = record {
   heights = second.heights ∙ first.heights;
@@ -178,9 +175,6 @@ pub record WritesSome (first store : Store) (memories : List Bytes) (stacks : Li
   pub touches : TouchesOnly (is_given_since first store) old new
   pub settled : IsSettled old.state → IsSettled new.state
   pub spends : Spends (sum_by file_bytes memories) 0 old new
-
-pub writes_none : (store : Store) (view : DiskView) → HasRoom store view.state.files → WritesSome store store [] [] view view
-writes_none store view room = record { room = room; finished = tt; touches = touches_none (is_given_since store store) view; settled = λ settled. settled; spends = spends_none view }
 
 file_here : (mid store : Store) (bytes : Bytes) (old new : DiskView) → TouchesOnly (is_given_since mid store) old new → (file : NumberedFile) → is_used mid file.number ≡ true → IsFinished file bytes old.state → IsFinished file bytes new.state
 file_here mid store bytes old new touches file used done =

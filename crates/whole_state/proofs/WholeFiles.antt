@@ -79,15 +79,6 @@ more_so_far i first writer is = subst (λ (w : UnfinishedFile). file_so_far i fi
     later : (i + 1 == 0) ≡ false
     later = ne_eqb (i + 1) 0 (λ e. omega (arith, e))
 
-pub adds_none : (memory : Bytes) (first writer : UnfinishedFile) (old : DiskView) → writer ≡ first → IsLoose old.state (Page first.number) → AddsPages memory 0 first writer old old
-adds_none memory first writer old is loose = record {
-  loose = loose;
-  written = λ was. subst (λ (w : UnfinishedFile). IsWriting w [] old.state) (sym is) was;
-  touches = touches_none (same_name (Page first.number)) old;
-  settled = λ settled. settled;
-  spends = spends_none old;
-}
-
 -- one page more
 pub adds_more : (memory page : Bytes) (i : ℕ) (first writer next : UnfinishedFile) (old mid new : DiskView) → writer ≡ record first { added = i } → page ≡ take 4096 (drop (i * 4096) memory)
     → IsLoose new.state (Page writer.number) → ((pages : Bytes) → IsWriting writer pages mid.state → IsWriting next (pages ++ page) new.state)
@@ -113,9 +104,6 @@ adds_spent memory i first writer old new some all so_far =
     let later : (i == 0) ≡ false = ne_eqb i 0 (λ e. omega (arith, e, some, all)) in
     let whole : file_so_far i first.index ≡ index_length first.index + length memory = rw later (omega (arith, all)) in
     subst (λ (n : ℕ). Spends n 0 old new) whole so_far.spends
-
-pub adds_all : (memory : Bytes) (i : ℕ) (first writer : UnfinishedFile) (old new : DiskView) → length memory ≤ i * 4096 → AddsPages memory i first writer old new → IsWriting first [] old.state → IsWriting writer memory new.state
-adds_all memory i first writer old new all so_far was = subst (λ (bytes : Bytes). IsWriting writer bytes new.state) (take_all (i * 4096) memory all) (so_far.written was)
 
 -- the writer of a file with all pages of a memory
 pub room_for : (memory : Bytes) (number : ℕ) (index : PageIndex) (writer : UnfinishedFile) → length memory % 4096 ≡ 0 → index ≡ whole_index (length memory / 4096) → writer ≡ record { number = number; index = index; added = 0 }
