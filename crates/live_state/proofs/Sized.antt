@@ -127,5 +127,4 @@ module _ {V : Type 0} (bytes : V → Bytes) (vs : List V) (old new : System) (id
         alters_map why result (calls.Changes old new id (calls.extended mem (pages_more p at (length w))) × (bytes v ≡ written (bytes d) at w)) ((new ≡ old) × (bytes v ≡ bytes d))
         (calls.Changes old new id (calls.extended mem (pages_more p at (length w))) × (map bytes (set vs i v) ≡ set (map bytes vs) (index_of (place_of bytes_cmp id old.canisters) mem) (bytes v)) × (bytes v ≡ written (get_or (map bytes vs) (index_of (place_of bytes_cmp id old.canisters) mem) []) at w)) ((new ≡ old) × (map bytes (set vs i v) ≡ map bytes vs)) a
         (λ g. (g.0, is_set, g.1 ∙ ap (λ (b : Bytes). written b at w) was)) (λ g. (g.0, is_same g.1))
-
     -- the bytes of the memory, as the manager holds them
