@@ -41,7 +41,7 @@ fn by_sha2(alloc: Global, bytes: &[u8]) -> Result<Vec<Hash32>, NoMemory> {
 // So many zeros, but for one byte of each chunk.
 fn stamped(alloc: Global, size: usize) -> Result<Vec<u8>, NoMemory> {
     let mut bytes = vec![in alloc; 0u8; size]?;
-    for i in 0..16 {
+    for i in 0..18 {
         if let Some(byte) = bytes.get_mut(i * 1_050_000) {
             *byte = i as u8 + 1;
         }
@@ -58,13 +58,14 @@ fn lanes_have_the_hashes_of_sha2(rt: HostRuntime) {
     }
 }
 
-// Files of so many whole chunks, and so many bytes behind them.
+// Files of 1 to 17 chunks, the last of which has each of these sizes.
 #[test]
 fn files_have_the_hashes_of_sha2(rt: HostRuntime) {
-    let bytes = stamped(rt.alloc(), 10 * CHUNK_SIZE).expect(&rt, "memory");
-    for (whole, more) in [(0, 0), (0, 1), (1, 55), (5, 63), (9, 64)] {
+    let bytes = stamped(rt.alloc(), 17 * CHUNK_SIZE).expect(&rt, "memory");
+    let sizes = [1, 55, 56, 63, 64, 65, 1_048_575, 1_048_576];
+    for whole in 0..17 {
         let file = bytes
-            .get(..whole * CHUNK_SIZE + more)
+            .get(..whole * CHUNK_SIZE + sizes[whole % 8])
             .expect(&rt, "so many bytes");
         let hashes = chunk_hashes(rt.alloc(), file).expect(&rt, "memory");
         assert_eq!(rt; hashes, by_sha2(rt.alloc(), file).expect(&rt, "memory"));
