@@ -66,6 +66,18 @@ fn refuses(rt: &impl Abort, alloc: Global, at: usize, value: u8) -> Result<(), P
     Ok(())
 }
 
+// The first bytes of page file 5, as many as the index of the overlay has.
+fn front_of(alloc: Global, disk: &mut MemDisk) -> Result<[u8; 56], PageError> {
+    match disk.size(alloc, Name::Page(5))? {
+        Some(size) if size >= 56 => {
+            let mut front = [0; 56];
+            disk.read(alloc, Name::Page(5), 0, &mut front)?;
+            Ok(front)
+        }
+        _ => Err(PageError::BadPage(5)),
+    }
+}
+
 #[test]
 fn an_overlay_is_written_and_read(rt: HostRuntime) -> Result<(), Fail> {
     let alloc = rt.alloc();
@@ -75,16 +87,16 @@ fn an_overlay_is_written_and_read(rt: HostRuntime) -> Result<(), Fail> {
     writer.add(alloc, &mut disk, &[22; 4096])?;
     writer.add(alloc, &mut disk, &[33; 4096])?;
     writer.add(alloc, &mut disk, &[77; 4096])?;
-    let file = writer.finish(alloc, &mut disk)?;
+    writer.finish(alloc, &mut disk)?;
     assert_eq!(rt; disk.appended(), 12_344);
     assert_eq!(rt; disk.size(alloc, Name::Page(5))?, Some(12_344));
+    let file = PageFile::open(alloc, &mut disk, 5)?;
+    assert_eq!(rt; file.index().count(), 3);
     let mut page = [0; 4096];
     file.read_page(alloc, &mut disk, 1, &mut page)?;
     assert_eq!(rt; page[4095], 33);
-    assert_eq!(rt; disk.bytes_read(), 4096);
-    let mut front = [0; 56];
-    disk.read(alloc, Name::Page(5), 0, &mut front)?;
-    assert_eq!(rt; front.as_slice(), overlay());
+    assert_eq!(rt; disk.bytes_read(), 4152);
+    assert_eq!(rt; front_of(alloc, &mut disk)?.as_slice(), overlay());
     Ok(())
 }
 
