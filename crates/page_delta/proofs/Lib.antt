@@ -1,4 +1,5 @@
 pub mod Sums
+pub mod Arrays
 pub mod Sharing
 pub mod Looks
 pub mod Counting

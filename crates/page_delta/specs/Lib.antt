@@ -1,4 +1,6 @@
 pub mod Totals
+pub mod Arrays
+pub mod Leaves
 pub mod Delta
 pub mod Nodes
 pub mod Shared

@@ -2,7 +2,9 @@
 //! its way that others share.
 #![tactic(auto)]
 
+mod children;
 mod deltas;
+mod entries;
 mod entry;
 mod keep;
 mod newer;

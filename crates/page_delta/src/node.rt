@@ -4,6 +4,8 @@ ghost use Rattle.std.specs.Prelude.{◌≡◌, ◌<◌, Some};
 ghost use Rattle.page_delta.specs.Nodes.{child_in, entry_in, count_in, level_in, recount, with_child, with_entry, empty_node};
 ghost use Rattle.page_delta.specs.Shared.{IsNewer};
 
+use crate::children::Children;
+use crate::entries::Entries;
 use crate::entry::Entry;
 
 /// A branch has nodes at its places, so many levels above the leaves, and a leaf has entries. Both are counted: how
@@ -13,13 +15,15 @@ pub(crate) enum Node {
     Branch {
         count: usize,
         level: u32,
-        children: [Option<usize>; 32],
+        children: Children,
     },
     Leaf {
         count: usize,
-        entries: [Option<Entry>; 32],
+        entries: Entries,
     },
 }
+
+const _: () = prove!(size_of::<Node>() == 440);
 
 impl Node {
     // A node with nothing in it, counted once.
@@ -29,13 +33,13 @@ impl Node {
         if level == 0 {
             Node::Leaf {
                 count: 1,
-                entries: [None; 32],
+                entries: Entries::empty(),
             }
         } else {
             Node::Branch {
                 count: 1,
                 level,
-                children: [None; 32],
+                children: Children::empty(),
             }
         }
     }
@@ -52,11 +56,11 @@ impl Node {
             } => Node::Branch {
                 count: 1,
                 level: *level,
-                children: *children,
+                children: children.copied(),
             },
             Node::Leaf { entries, .. } => Node::Leaf {
                 count: 1,
-                entries: copy_of(entries),
+                entries: entries.copied(),
             },
         }
     }
@@ -94,7 +98,7 @@ impl Node {
         ensures { result ≡ child_in (Some self.now) digit }
     {
         match self {
-            Node::Branch { children, .. } => children[digit as usize],
+            Node::Branch { children, .. } => children.at(digit),
             Node::Leaf { .. } => None,
         }
     }
@@ -105,7 +109,7 @@ impl Node {
     {
         match self {
             Node::Branch { .. } => None,
-            Node::Leaf { entries, .. } => entries[digit as usize],
+            Node::Leaf { entries, .. } => entries.at(digit),
         }
     }
 
@@ -114,7 +118,7 @@ impl Node {
         ensures { self.new ≡ with_child self.old digit child }
     {
         match self {
-            Node::Branch { children, .. } => children[digit as usize] = Some(child),
+            Node::Branch { children, .. } => children.set(digit, child),
             Node::Leaf { .. } => {}
         }
     }
@@ -125,7 +129,7 @@ impl Node {
     {
         match self {
             Node::Branch { .. } => {}
-            Node::Leaf { entries, .. } => entries[digit as usize] = Some(entry),
+            Node::Leaf { entries, .. } => entries.set(digit, entry),
         }
     }
 
@@ -145,15 +149,4 @@ impl Node {
         }
         (leaf, pages)
     }
-}
-
-// The same entries.
-fn copy_of(entries: &[Option<Entry>; 32]) -> [Option<Entry>; 32]
-    ensures { result ≡ entries.now }
-{
-    let mut copy = [None; 32];
-    for place in 0..32 {
-        copy[place] = entries[place];
-    }
-    copy
 }

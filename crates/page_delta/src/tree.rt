@@ -118,8 +118,6 @@ pub(crate) fn put(nodes: &mut Slab<Node>, node: Node) -> usize
     ensures len { slab_len nodes.new ≡ slab_len nodes.old + 1 }
     ensures capacity { nodes.new.capacity ≡ nodes.old.capacity }
 {
-    // The checker wants to be told of this type where a node is moved.
-    let _place: Option<Entry> = None;
     nodes.insert_reserved(node)
 }
 
@@ -132,7 +130,6 @@ fn take(nodes: &mut Slab<Node>, node: usize) -> Node
     ensures len { slab_len nodes.new + 1 ≡ slab_len nodes.old }
     ensures capacity { nodes.new.capacity ≡ nodes.old.capacity }
 {
-    let _place: Option<Entry> = None;
     nodes.remove(node)
 }
 
@@ -150,8 +147,8 @@ pub(crate) fn share(nodes: &mut Slab<Node>, pool: &mut PagePool, node: &Node)
     ensures leaf { (count : ℕ) (places : List (Option Held)) → node.now ≡ Leaf count places → nodes.new.slots ≡ nodes.old.slots }
 {
     match node {
-        Node::Branch { children, .. } => raise_each(nodes, children),
-        Node::Leaf { entries, .. } => retain_each(pool, entries),
+        Node::Branch { children, .. } => raise_each(nodes, &children.all()),
+        Node::Leaf { entries, .. } => retain_each(pool, &entries.all()),
     }
 }
 
@@ -319,11 +316,11 @@ pub(crate) fn release(nodes: &mut Slab<Node>, pool: &mut PagePool, node: usize, 
         return;
     }
     match take(nodes, node) {
-        Node::Leaf { entries, .. } => release_each(pool, &entries),
+        Node::Leaf { entries, .. } => release_each(pool, &entries.all()),
         Node::Branch { children, .. } => {
-            for child in &children {
-                if let Some(child) = child {
-                    release(nodes, pool, *child, level - 1);
+            for digit in 0..32 {
+                if let Some(child) = children.at(digit) {
+                    release(nodes, pool, child, level - 1);
                 }
             }
         }

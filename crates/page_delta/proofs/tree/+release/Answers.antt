@@ -2,6 +2,7 @@ use Rattle.std.proofs.Common.{◌≡◌, ◌+◌, ◌∙◌, ℕ, length, Some, 
 use Rattle.page_pool.specs.Pool.{count_at}
 use Rattle.slab.specs.Slab.{Slab}
 use Rattle.page_delta.specs.Totals.{total}
+use Rattle.page_delta.specs.Delta.{uses}
 use Rattle.page_delta.specs.Nodes.{node_at, once, level_in, count_in, names}
 use Rattle.page_delta.specs.Shared.{IsShared, slots_in}
 use Rattle.page_delta.specs.declared.node.Node.{Node}
@@ -19,10 +20,10 @@ returns-then-count-gt1-clause-shared t c = λ hands loose s.
 pub release_each-requires-clause-enough : goal.release_each-requires-clause-enough
 release_each-requires-clause-enough t c =
     let s = c.requires.shared in
-    uses-enough c.args.nodes.now.slots (count_at c.args.pool.now) (λ m. s.0 m + once m (Some c.args.node)) s.1 c.args.node c.in-Leaf.count c.in-Leaf.entries s.2 c.in-Leaf.ensures.was
+    rw c.all.ensures (uses-enough c.args.nodes.now.slots (count_at c.args.pool.now) (λ m. s.0 m + once m (Some c.args.node)) s.1 c.args.node c.in-Leaf.count c.in-Leaf.entries s.2 c.in-Leaf.ensures.was)
 
-pub loop-child-init : goal.loop-child-init
-loop-child-init t c = record {
+pub loop-digit-init : goal.loop-digit-init
+loop-digit-init t c = record {
   shared = λ hands loose s.
       let few : count_in (node_at c.args.nodes.now.slots c.args.node) ≡ c.count.result = ap count_in c.index.ensures ∙ sym c.count.ensures in
       let node = Branch c.in-Branch.count c.in-Branch.level c.in-Branch.children in
@@ -39,30 +40,30 @@ release-requires t c =
     let s = c.requires.shared in
     let high = s.2.tall c.args.node c.in-Branch.count c.in-Branch.level c.in-Branch.children c.in-Branch.ensures.was in
     let level_is : level_in (node_at c.args.nodes.now.slots c.args.node) ≡ c.in-Branch.level = ap level_in c.in-Branch.ensures.was in
-    let over = hand-over c.loop-child.nodes.slots (count_at c.loop-child.pool) s.0 s.1 c.in-Branch.children c.loop-child.child-index c.in-Some.child (let wide : length c.in-Branch.children ≡ 32 = c.requires.shared.2.wide c.args.node (Branch c.in-Branch.count c.in-Branch.level c.in-Branch.children) c.in-Branch.ensures.was in omega (arith, wide)) c.in-Some.is (c.loop-child.invariant.shared s.0 s.1 s.2) in
-    let hands = λ (m : ℕ). s.0 m + total (once m) (drop (c.loop-child.child-index + 1) c.in-Branch.children) in
-    let below = child-level c.args.nodes.now.slots c.loop-child.nodes.slots (count_at c.args.pool.now) (λ m. s.0 m + once m (Some c.args.node)) s.1 (count_at c.loop-child.pool) hands s.1 c.args.node c.in-Branch.count c.in-Branch.level c.loop-child.child-index c.in-Some.child c.in-Branch.children s.2 c.in-Branch.ensures.was c.in-Some.is c.loop-child.invariant.shrinks over in
-    (omega (arith, c.requires.level, c.decreases), ((hands, s.1, over), (c.loop-child.invariant.counted, omega (arith, c.requires.level, below))))
+    let over = hand-over c.loop-digit.nodes.slots (count_at c.loop-digit.pool) s.0 s.1 c.in-Branch.children c.loop-digit.digit c.in-Some.child (let wide : length c.in-Branch.children ≡ 32 = c.requires.shared.2.wide c.args.node (Branch c.in-Branch.count c.in-Branch.level c.in-Branch.children) c.in-Branch.ensures.was in omega (arith, wide)) (sym c.at.ensures ∙ c.in-Some.is) (c.loop-digit.invariant.shared s.0 s.1 s.2) in
+    let hands = λ (m : ℕ). s.0 m + total (once m) (drop (c.loop-digit.digit + 1) c.in-Branch.children) in
+    let below = child-level c.args.nodes.now.slots c.loop-digit.nodes.slots (count_at c.args.pool.now) (λ m. s.0 m + once m (Some c.args.node)) s.1 (count_at c.loop-digit.pool) hands s.1 c.args.node c.in-Branch.count c.in-Branch.level c.loop-digit.digit c.in-Some.child c.in-Branch.children s.2 c.in-Branch.ensures.was (sym c.at.ensures ∙ c.in-Some.is) c.loop-digit.invariant.shrinks over in
+    (omega (arith, c.requires.level, c.decreases), ((hands, s.1, over), (c.loop-digit.invariant.counted, omega (arith, c.requires.level, below))))
 
-pub loop-child-preserved : goal.loop-child-preserved
-loop-child-preserved t c =
-    elim c.match-child.branch [
+pub loop-digit-preserved : goal.loop-digit-preserved
+loop-digit-preserved t c =
+    elim c.match-at.branch [
       | in-Some w ↦
           rw (w.nodes-is, w.pool-is) record {
             shared = λ hands loose s.
-                w.release.ensures.shared (λ m. hands m + total (once m) (drop (c.loop-child.child-index + 1) c.in-Branch.children)) loose (hand-over c.loop-child.nodes.slots (count_at c.loop-child.pool) hands loose c.in-Branch.children c.loop-child.child-index w.in-Some.child (let wide : length c.in-Branch.children ≡ 32 = c.requires.shared.2.wide c.args.node (Branch c.in-Branch.count c.in-Branch.level c.in-Branch.children) c.in-Branch.ensures.was in omega (arith, wide)) w.in-Some.is (c.loop-child.invariant.shared hands loose s));
+                w.release.ensures.shared (λ m. hands m + total (once m) (drop (c.loop-digit.digit + 1) c.in-Branch.children)) loose (hand-over c.loop-digit.nodes.slots (count_at c.loop-digit.pool) hands loose c.in-Branch.children c.loop-digit.digit w.in-Some.child (let wide : length c.in-Branch.children ≡ 32 = c.requires.shared.2.wide c.args.node (Branch c.in-Branch.count c.in-Branch.level c.in-Branch.children) c.in-Branch.ensures.was in omega (arith, wide)) (sym c.at.ensures ∙ w.in-Some.is) (c.loop-digit.invariant.shared hands loose s));
             counted = w.release.ensures.counted;
-            shrinks = shrinks-trans c.args.nodes.now.slots c.loop-child.nodes.slots w.release.new.nodes.slots c.loop-child.invariant.shrinks w.release.ensures.shrinks;
-            grows = record { len = omega (arith, w.release.ensures.grows.len, c.loop-child.invariant.grows.len); capacity = w.release.ensures.grows.capacity ∙ c.loop-child.invariant.grows.capacity };
-            keeps = keeps-trans c.args.pool.now c.loop-child.pool w.release.new.pool c.loop-child.invariant.keeps w.release.ensures.keeps;
+            shrinks = shrinks-trans c.args.nodes.now.slots c.loop-digit.nodes.slots w.release.new.nodes.slots c.loop-digit.invariant.shrinks w.release.ensures.shrinks;
+            grows = record { len = omega (arith, w.release.ensures.grows.len, c.loop-digit.invariant.grows.len); capacity = w.release.ensures.grows.capacity ∙ c.loop-digit.invariant.grows.capacity };
+            keeps = keeps-trans c.args.pool.now c.loop-digit.pool w.release.new.pool c.loop-digit.invariant.keeps w.release.ensures.keeps;
           }
       | in_default w ↦
           rw (w.nodes-is, w.pool-is) record {
-            shared = λ hands loose s. pass-over c.loop-child.nodes.slots (count_at c.loop-child.pool) hands loose c.in-Branch.children c.loop-child.child-index (let wide : length c.in-Branch.children ≡ 32 = c.requires.shared.2.wide c.args.node (Branch c.in-Branch.count c.in-Branch.level c.in-Branch.children) c.in-Branch.ensures.was in omega (arith, wide)) w.in_default.is (c.loop-child.invariant.shared hands loose s);
-            counted = c.loop-child.invariant.counted;
-            shrinks = c.loop-child.invariant.shrinks;
-            grows = c.loop-child.invariant.grows;
-            keeps = c.loop-child.invariant.keeps;
+            shared = λ hands loose s. pass-over c.loop-digit.nodes.slots (count_at c.loop-digit.pool) hands loose c.in-Branch.children c.loop-digit.digit (let wide : length c.in-Branch.children ≡ 32 = c.requires.shared.2.wide c.args.node (Branch c.in-Branch.count c.in-Branch.level c.in-Branch.children) c.in-Branch.ensures.was in omega (arith, wide)) (sym c.at.ensures ∙ w.in_default.is) (c.loop-digit.invariant.shared hands loose s);
+            counted = c.loop-digit.invariant.counted;
+            shrinks = c.loop-digit.invariant.shrinks;
+            grows = c.loop-digit.invariant.grows;
+            keeps = c.loop-digit.invariant.keeps;
           }
     ]
 
@@ -70,8 +71,8 @@ pub returns-in-Leaf-clause-shared : goal.returns-in-Leaf-clause-shared
 returns-in-Leaf-clause-shared t c = λ hands loose s.
     let few : count_in (node_at c.args.nodes.now.slots c.args.node) ≡ c.count.result = ap count_in c.index.ensures ∙ sym c.count.ensures in
     let taken = shared-taken c.args.nodes.now.slots c.take.new.nodes.slots (count_at c.args.pool.now) hands loose c.args.node (Leaf c.in-Leaf.count c.in-Leaf.entries) s c.in-Leaf.ensures.was c.take.ensures.gone c.take.ensures.rest (omega (arith, c.if-count-gt1.false)) in
-    shared-counts c.take.new.nodes.slots (count_at c.args.pool.now) (count_at c.release_each.new.pool) hands (λ slot. loose slot + slots_in slot (Some (Leaf c.in-Leaf.count c.in-Leaf.entries))) loose (shared-as c.take.new.nodes.slots (count_at c.args.pool.now) (λ m. hands m + names m (Some (Leaf c.in-Leaf.count c.in-Leaf.entries))) hands (λ slot. loose slot + slots_in slot (Some (Leaf c.in-Leaf.count c.in-Leaf.entries))) (λ slot. loose slot + slots_in slot (Some (Leaf c.in-Leaf.count c.in-Leaf.entries))) taken (λ m. omega arith) (λ slot. refl)) (λ slot. let m = c.release_each.ensures.counts slot in omega arith)
+    shared-counts c.take.new.nodes.slots (count_at c.args.pool.now) (count_at c.release_each.new.pool) hands (λ slot. loose slot + slots_in slot (Some (Leaf c.in-Leaf.count c.in-Leaf.entries))) loose (shared-as c.take.new.nodes.slots (count_at c.args.pool.now) (λ m. hands m + names m (Some (Leaf c.in-Leaf.count c.in-Leaf.entries))) hands (λ slot. loose slot + slots_in slot (Some (Leaf c.in-Leaf.count c.in-Leaf.entries))) (λ slot. loose slot + slots_in slot (Some (Leaf c.in-Leaf.count c.in-Leaf.entries))) taken (λ m. omega arith) (λ slot. refl)) (λ slot. let m = c.release_each.ensures.counts slot in let same = ap (total (uses slot)) c.all.ensures in omega arith)
 
-pub returns-after-loop-child-clause-shared : goal.returns-after-loop-child-clause-shared
-returns-after-loop-child-clause-shared t c = λ hands loose s.
-    all-over c.loop-child.nodes.slots (count_at c.loop-child.pool) hands loose c.in-Branch.children c.loop-child.child-index (let wide : length c.in-Branch.children ≡ 32 = c.requires.shared.2.wide c.args.node (Branch c.in-Branch.count c.in-Branch.level c.in-Branch.children) c.in-Branch.ensures.was in omega (arith, wide)) (c.loop-child.invariant.shared hands loose s)
+pub returns-after-loop-digit-clause-shared : goal.returns-after-loop-digit-clause-shared
+returns-after-loop-digit-clause-shared t c = λ hands loose s.
+    all-over c.loop-digit.nodes.slots (count_at c.loop-digit.pool) hands loose c.in-Branch.children c.loop-digit.digit (let wide : length c.in-Branch.children ≡ 32 = c.requires.shared.2.wide c.args.node (Branch c.in-Branch.count c.in-Branch.level c.in-Branch.children) c.in-Branch.ensures.was in omega (arith, wide)) (c.loop-digit.invariant.shared hands loose s)

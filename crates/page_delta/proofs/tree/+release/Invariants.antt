@@ -8,10 +8,10 @@ use Rattle.page_delta.proofs.tree.+release.Given as goal
 abbrev pub decreases-release : goal.decreases-release
 decreases-release l = l.level
 
-abbrev pub invariant-loop-child : goal.invariant-loop-child
-invariant-loop-child l =
+abbrev pub invariant-loop-digit : goal.invariant-loop-digit
+invariant-loop-digit l =
     record {
-      shared : (hands loose : ℕ → ℕ) → IsShared l.fn.nodes.slots (count_at l.fn.pool) (λ m. hands m + once m (Some l.fn.node)) loose → IsShared l.nodes.slots (count_at l.pool) (λ m. hands m + total (once m) (drop l.child-index l.child-items)) loose;
+      shared : (hands loose : ℕ → ℕ) → IsShared l.fn.nodes.slots (count_at l.fn.pool) (λ m. hands m + once m (Some l.fn.node)) loose → IsShared l.nodes.slots (count_at l.pool) (λ m. hands m + total (once m) (drop l.digit l.children)) loose;
       counted : IsCounted l.pool;
       shrinks : Shrinks l.fn.nodes.slots l.nodes.slots;
       grows : Grows l.fn.nodes l.nodes 0;

@@ -1,10 +1,20 @@
-use Rattle.std.proofs.Common.{◌∙◌, Some, sym, ap}
+use Rattle.std.proofs.Common.{◌≡◌, ◌∙◌, ℕ, Some, refl, sym, ap}
 use Rattle.page_pool.specs.Pool.{count_at}
-use Rattle.page_delta.specs.Nodes.{child_in, entry_in}
+use Rattle.page_delta.specs.Nodes.{child_in, entry_in, width, recount}
+use Rattle.page_delta.specs.declared.node.Node.{Node}
+use Rattle.page_delta.specs.declared.node.Node.TheVariants.{Branch, Leaf}
 use Rattle.page_delta.proofs.Sharing.{child-recounted, entry-recounted}
 use Rattle.page_delta.proofs.Looks.{child-live}
 use Rattle.page_delta.proofs.Copies.{entry-live, shared-copy, looks-copy, alike-copy}
 use Rattle.page_delta.proofs.tree.copy.Goals as goal
+
+width-recount : (node : Node) (count : ℕ) → width (recount node count) ≡ width node
+width-recount (Branch before level children) count = refl
+width-recount (Leaf before entries) count = refl
+
+pub share-requires-clause-wide : goal.share-requires-clause-wide
+share-requires-clause-wide c =
+    ap width c.copied-copy.ensures ∙ width-recount c.index.result.now 1 ∙ c.requires.stands.shared.wide c.args.node c.index.result.now c.index.ensures
 
 pub share-requires-clause-children : goal.share-requires-clause-children
 share-requires-clause-children c = λ d child e.
