@@ -1,13 +1,13 @@
--- A field that was read with no rule, judged by its rule.
+-- A field that was read with no rule, reading_by_rule by its rule.
 use Rattle.std.proofs.Common.{◌≡◌, ℕ, ◌+◌, Bool, true, false, cond, drop, Option, Some, None, Ok, Err, refl, ap, ◌∙◌}
-use Rattle.format_spec.specs.Fields.{Cursor, Form, field, judged, any}
+use Rattle.format_spec.specs.Fields.{Cursor, Form, field, reading_by_rule, any}
 use Rattle.format_spec.proofs.Readings.{ok_is}
 
 module _ {X : Type 0} (form : Form X) (rule : X → Bool) (c : Cursor) (x : X) (d : Cursor) where
   let_through : (b : Bool) (place : ℕ) (v : X × Cursor) → b ≡ true → cond b (Ok v) (Err place) ≡ Ok v
   let_through b place v e = rw e refl
 
-  keeps : (o : Option (X × ℕ)) → judged any o c ≡ Ok (x, d) → rule x ≡ true → judged rule o c ≡ Ok (x, d)
+  keeps : (o : Option (X × ℕ)) → reading_by_rule any o c ≡ Ok (x, d) → rule x ≡ true → reading_by_rule rule o c ≡ Ok (x, d)
   keeps None e good = absurd cc
   keeps (Some v) e good =
       let at : ℕ = c.at + v.1 in
@@ -18,7 +18,7 @@ module _ {X : Type 0} (form : Form X) (rule : X → Bool) (c : Cursor) (x : X) (
   pub field_keeps : field form any c ≡ Ok (x, d) → rule x ≡ true → field form rule c ≡ Ok (x, d)
   field_keeps e good = keeps (form c.rest) e good
 
-  breaks : (o : Option (X × ℕ)) → judged any o c ≡ Ok (x, d) → rule x ≡ false → judged rule o c ≡ Err c.at
+  breaks : (o : Option (X × ℕ)) → reading_by_rule any o c ≡ Ok (x, d) → rule x ≡ false → reading_by_rule rule o c ≡ Err c.at
   breaks None e bad = absurd cc
   breaks (Some v) e bad =
       let at : ℕ = c.at + v.1 in

@@ -1,4 +1,4 @@
--- Loose files spoiled one by one, and all at once.
+-- Loose files spoiled_file one by one, and all at once.
 use Rattle.std.proofs.Common.{◌≡◌, ℕ, Bool, true, false, ◌&&◌, List, [], ◌∷◌, Option, Some, None, is_some, unwrap_or, if◌then◌else◌, Vec, refl, inl, inr, sym, ◌∙◌, ap, subst}
 use Rattle.std.specs.Map.{keys_of}
 use Rattle.std.specs.List.{AllByRecursion}
@@ -11,9 +11,9 @@ use Rattle.format_spec.proofs.Lists.{and_false}
 use Rattle.disk_model.specs.declared.name.Name.{Name}
 use Rattle.disk_model.specs.declared.event.Event.{Event}
 use Rattle.disk_model.specs.contracts.name.NameOrd.TheImpl.{cmp-value}
-use Rattle.disk_model.specs.Files.{Files, same_name, replaced}
+use Rattle.disk_model.specs.Files.{Files, same_name, files_with}
 use Rattle.disk_model.specs.Record.{Entries, files_in}
-use Rattle.disk_model.specs.Images.{spoiled, spoiled_where, spoiled_in, is_marked_after}
+use Rattle.disk_model.specs.Images.{spoiled_file, spoiled_where, spoiled_in, is_marked_after}
 use Rattle.disk_model.specs.Laws.{same_name_eq, same_name_refl, replaced_here, replaced_apart}
 use Rattle.disk_model.proofs.Keys.{cmp_same}
 
@@ -34,22 +34,22 @@ module _ (how : ℕ) (events : List Event) where
   unspoiled reading chosen q none = rw (and_false (loose q) (is_some (reading q)) (ap is_some none)) refl
 
   here : (e : Name × Vec ℕ Global) (es : Entries) (f : Files) (q : Name) → same_name q e.0 ≡ true → files_in es q ≡ None
-      → spoiled_where how loose (files_in es) (if loose e.0 then replaced f e.0 (spoiled how e.1.items) else f) q ≡ spoiled_where how loose (files_in (e ∷ es)) f q
-  here e es f q same none = unspoiled (files_in es) (if loose e.0 then replaced f e.0 (spoiled how e.1.items) else f) q none ∙ by_mark (loose e.0) (ap loose (same_name_eq q e.0 same)) ∙ sym (ap (λ (o : Option (List ℕ)). if loose q && is_some o then spoiled how (unwrap_or o []) else f q) found)
+      → spoiled_where how loose (files_in es) (if loose e.0 then files_with f e.0 (spoiled_file how e.1.items) else f) q ≡ spoiled_where how loose (files_in (e ∷ es)) f q
+  here e es f q same none = unspoiled (files_in es) (if loose e.0 then files_with f e.0 (spoiled_file how e.1.items) else f) q none ∙ by_mark (loose e.0) (ap loose (same_name_eq q e.0 same)) ∙ sym (ap (λ (o : Option (List ℕ)). if loose q && is_some o then spoiled_file how (unwrap_or o []) else f q) found)
     where
       found : files_in (e ∷ es) q ≡ Some e.1.items
       found = rw same refl
 
-      by_mark : (b : Bool) → loose q ≡ b → (if b then replaced f e.0 (spoiled how e.1.items) else f) q ≡ (if loose q && true then spoiled how e.1.items else f q)
-      by_mark true is = rw is (replaced_here f e.0 (spoiled how e.1.items) q (subst (λ n. same_name n q ≡ true) (same_name_eq q e.0 same) (same_name_refl q)))
+      by_mark : (b : Bool) → loose q ≡ b → (if b then files_with f e.0 (spoiled_file how e.1.items) else f) q ≡ (if loose q && true then spoiled_file how e.1.items else f q)
+      by_mark true is = rw is (replaced_here f e.0 (spoiled_file how e.1.items) q (subst (λ n. same_name n q ≡ true) (same_name_eq q e.0 same) (same_name_refl q)))
       by_mark false is = rw is refl
 
   off : (e : Name × Vec ℕ Global) (es : Entries) (f : Files) (q : Name) → same_name q e.0 ≡ false → same_name e.0 q ≡ false
-      → spoiled_where how loose (files_in es) (if loose e.0 then replaced f e.0 (spoiled how e.1.items) else f) q ≡ spoiled_where how loose (files_in (e ∷ es)) f q
-  off e es f q not_here not_there = rw not_here (ap (λ (x : Option (List ℕ)). if loose q && is_some (files_in es q) then spoiled how (unwrap_or (files_in es q) []) else x) (by_mark (loose e.0)))
+      → spoiled_where how loose (files_in es) (if loose e.0 then files_with f e.0 (spoiled_file how e.1.items) else f) q ≡ spoiled_where how loose (files_in (e ∷ es)) f q
+  off e es f q not_here not_there = rw not_here (ap (λ (x : Option (List ℕ)). if loose q && is_some (files_in es q) then spoiled_file how (unwrap_or (files_in es q) []) else x) (by_mark (loose e.0)))
     where
-      by_mark : (b : Bool) → (if b then replaced f e.0 (spoiled how e.1.items) else f) q ≡ f q
-      by_mark true = replaced_apart f e.0 (spoiled how e.1.items) q not_there
+      by_mark : (b : Bool) → (if b then files_with f e.0 (spoiled_file how e.1.items) else f) q ≡ f q
+      by_mark true = replaced_apart f e.0 (spoiled_file how e.1.items) q not_there
       by_mark false = refl
 
   -- of entries with ascending keys
@@ -57,7 +57,7 @@ module _ (how : ℕ) (events : List Event) where
   unfolding IsStrictlySortedBy
   spoiled_each [] sorted f q = sym (unspoiled (files_in []) f q refl)
   spoiled_each (e ∷ es) sorted f q =
-      spoiled_each es sorted.1 (if loose e.0 then replaced f e.0 (spoiled how e.1.items) else f) q
+      spoiled_each es sorted.1 (if loose e.0 then files_with f e.0 (spoiled_file how e.1.items) else f) q
       ∙ elim (cases_Bool (same_name q e.0)) [
         | inl same ↦ here e es f q same (subst (λ n. files_in es n ≡ None) (sym (same_name_eq q e.0 same)) (none_after e.0 es sorted.0))
         | inr apart ↦ off e es f q apart (not_back q e.0 apart)

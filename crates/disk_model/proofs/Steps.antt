@@ -3,19 +3,19 @@ use Rattle.std.proofs.Common.{Some, unwrap_or, ◌≡◌, ℕ, true, false, List
 use Rattle.disk_model.specs.declared.event.Act.{Act}
 use Rattle.disk_model.specs.declared.event.Event.{Event}
 use Rattle.disk_model.specs.declared.name.Name.{Name}
-use Rattle.disk_model.specs.Files.{Files, replaced}
+use Rattle.disk_model.specs.Files.{Files, files_with}
 use Rattle.disk_model.specs.State.{DiskState}
-use Rattle.disk_model.specs.Call.{append, look, done, appended_after, counted}
+use Rattle.disk_model.specs.Call.{append, look, done, appended_after, count_after}
 use Rattle.disk_model.specs.View.{DiskView, Done, Failed, Looks}
 use Rattle.disk_model.specs.Laws.{under_way_files}
-use Rattle.disk_model.specs.Record.{started, call_of, state_after, appended_of, view_of}
+use Rattle.disk_model.specs.Record.{disk_of_files, call_of, state_after, appended_of, view_of}
 use Rattle.format_spec.specs.Bytes.{IsBytes}
 use Rattle.disk_model.specs.OfBytes.{WroteBytes, bytes_given, wrote_more}
 use Rattle.disk_model.specs.Replay.{state_push, past_push, appended_push}
 
 module _ (first : Files) (es : List Event) (act : Act) where
   abbrev state : DiskState
-  state = state_after (started first) es
+  state = state_after (disk_of_files first) es
 
   abbrev failure : List Event
   failure = es ++ record { act = act; done = false } ∷ []
@@ -23,20 +23,20 @@ module _ (first : Files) (es : List Event) (act : Act) where
   abbrev success : List Event
   success = es ++ record { act = act; done = true } ∷ []
 
-  pub files_after_failure : (later : List Event) → later ≡ failure → (state_after (started first) later).files ≡ state.files
-  files_after_failure later is = ap (λ es. (state_after (started first) es).files) is ∙ ap (λ (s : DiskState). s.files) (state_push (started first) es _) ∙ under_way_files (call_of act) state
+  pub files_after_failure : (later : List Event) → later ≡ failure → (state_after (disk_of_files first) later).files ≡ state.files
+  files_after_failure later is = ap (λ es. (state_after (disk_of_files first) es).files) is ∙ ap (λ (s : DiskState). s.files) (state_push (disk_of_files first) es _) ∙ under_way_files (call_of act) state
 
   pub appended_after_failure : (later : List Event) → later ≡ failure → appended_of 0 later ≡ appended_of 0 es
   appended_after_failure later is = ap (appended_of 0) is ∙ appended_push 0 es _
 
   failed_here : (r : ℕ) → Failed (call_of act) (view_of first es r) (view_of first failure r)
   failed_here r = let counts = appended_push 0 es (record { act = act; done = false }) in record {
-    state = let e = state_push (started first) es (record { act = act; done = false }) in record {
+    state = let e = state_push (disk_of_files first) es (record { act = act; done = false }) in record {
       loose = ap (λ (s : DiskState). s.loose) e;
       outcomes = ap (λ (s : DiskState). s.outcomes) e;
       others = λ q _. ap (λ (s : DiskState). s.files q) e ∙ ap (λ (f : Files). f q) (under_way_files (call_of act) state);
     };
-    past = past_push (started first) es _;
+    past = past_push (disk_of_files first) es _;
     appended_least = omega (arith, counts);
     appended_most = omega (arith, counts);
     bytes_read = refl;
@@ -47,8 +47,8 @@ module _ (first : Files) (es : List Event) (act : Act) where
 
   done_here : (r : ℕ) → Done (call_of act) (view_of first es r) (view_of first success r)
   done_here r = record {
-    state = state_push (started first) es _;
-    past = past_push (started first) es _;
+    state = state_push (disk_of_files first) es _;
+    past = past_push (disk_of_files first) es _;
     appended = appended_push 0 es _;
     bytes_read = refl;
   }
@@ -61,12 +61,12 @@ module _ (first : Files) (es : List Event) (act : Act) where
   did room later r same is = subst (λ l. Done (call_of act) (view_of first es r) (view_of first l r)) (sym (pushed room later same is)) (done_here r)
 
   -- the files that the map has are those that the record tells
-  pub reads_after : (room later : List Event) (files : Files) → room ≡ es → later ≡ room ++ record { act = act; done = true } ∷ [] → files ≡ (done (call_of act) state).files → files ≡ (state_after (started first) later).files
-  reads_after room later files same is then = then ∙ sym (ap (λ es. (state_after (started first) es).files) (pushed room later same is) ∙ ap (λ (s : DiskState). s.files) (state_push (started first) es _))
+  pub reads_after : (room later : List Event) (files : Files) → room ≡ es → later ≡ room ++ record { act = act; done = true } ∷ [] → files ≡ (done (call_of act) state).files → files ≡ (state_after (disk_of_files first) later).files
+  reads_after room later files same is then = then ∙ sym (ap (λ es. (state_after (disk_of_files first) es).files) (pushed room later same is) ∙ ap (λ (s : DiskState). s.files) (state_push (disk_of_files first) es _))
 
-  -- and the bytes appended are counted
-  pub total_after : (room later : List Event) (n : ℕ) → room ≡ es → later ≡ room ++ record { act = act; done = true } ∷ [] → n ≡ counted 0 (appended_after (call_of act) (appended_of 0 es)) → n ≡ counted 0 (appended_of 0 later)
-  total_after room later n same is then = then ∙ sym (ap (λ es. counted 0 (appended_of 0 es)) (pushed room later same is) ∙ ap (counted 0) (appended_push 0 es _))
+  -- and the bytes appended are count_after
+  pub total_after : (room later : List Event) (n : ℕ) → room ≡ es → later ≡ room ++ record { act = act; done = true } ∷ [] → n ≡ count_after 0 (appended_after (call_of act) (appended_of 0 es)) → n ≡ count_after 0 (appended_of 0 later)
+  total_after room later n same is then = then ∙ sym (ap (λ es. count_after 0 (appended_of 0 es)) (pushed room later same is) ∙ ap (count_after 0) (appended_push 0 es _))
 
   -- and what was written was bytes
   pub wrote_after : (room later : List Event) → room ≡ es → later ≡ room ++ record { act = act; done = true } ∷ [] → WroteBytes es → IsBytes (bytes_given (call_of act)) → WroteBytes later
@@ -85,11 +85,11 @@ done_look old mid new most does state past appended least most_read = record {
   read_most = omega arith;
 }
 
-pub appended_files : (f g : Files) (name : Name) (bytes kept : List ℕ) → f ≡ g → kept ≡ bytes → replaced f name (Some (unwrap_or (f name) [] ++ bytes)) ≡ replaced g name (Some (unwrap_or (g name) [] ++ kept))
-appended_files f g name bytes kept same is = λ i. replaced (same i) name (Some (unwrap_or (same i name) [] ++ sym is i))
+pub appended_files : (f g : Files) (name : Name) (bytes kept : List ℕ) → f ≡ g → kept ≡ bytes → files_with f name (Some (unwrap_or (f name) [] ++ bytes)) ≡ files_with g name (Some (unwrap_or (g name) [] ++ kept))
+appended_files f g name bytes kept same is = λ i. files_with (same i) name (Some (unwrap_or (same i name) [] ++ sym is i))
 
 -- the count of bytes appended stays at the top
-pub counted_more : (count total now : ℕ) (bytes kept : List ℕ) → count ≡ counted 0 total → now ≡ counted count (length bytes) → kept ≡ bytes → now ≡ counted 0 (total + length kept)
+pub counted_more : (count total now : ℕ) (bytes kept : List ℕ) → count ≡ count_after 0 total → now ≡ count_after count (length bytes) → kept ≡ bytes → now ≡ count_after 0 (total + length kept)
 counted_more count total now bytes kept was is same = omega (arith, ap length same)
 
 pub append_of : (old new : DiskView) (name : Name) (bytes kept : List ℕ) → kept ≡ bytes → Done (append name kept) old new → Done (append name bytes) old new

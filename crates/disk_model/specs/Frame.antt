@@ -4,7 +4,7 @@ use Rattle.std.proofs.Common.{sym, ◌∙◌, ap, subst}
 use Rattle.disk_model.specs.declared.disk.DiskError.{DiskError}
 use Rattle.disk_model.specs.declared.disk.DiskError.TheVariants.{Fault, Memory}
 use Rattle.disk_model.specs.declared.name.Name.{Name}
-use Rattle.disk_model.specs.Files.{Files, same_name, replaced}
+use Rattle.disk_model.specs.Files.{Files, same_name, files_with}
 use Rattle.disk_model.specs.State.{DiskState, IsImageNow, IsLoose, IsSettled}
 use Rattle.disk_model.specs.Call.{Call, look, settle, create, append, seal, rename, remove, is_given, under_way, done}
 use Rattle.disk_model.specs.View.{DiskView, EachImage, LeavesOnly, Done, Does}
@@ -27,7 +27,7 @@ done_apart (create n) s q apart = replaced_apart s.files n _ q apart
 done_apart (append n bytes) s q apart = replaced_apart s.files n _ q apart
 done_apart (seal n) s q apart = refl
 done_apart (rename from to) s q apart =
-    let parts = or_false _ _ apart in replaced_apart (replaced s.files from None) to (s.files from) q parts.1 ∙ replaced_apart s.files from None q parts.0
+    let parts = or_false _ _ apart in replaced_apart (files_with s.files from None) to (s.files from) q parts.1 ∙ replaced_apart s.files from None q parts.0
 done_apart (remove n) s q apart = replaced_apart s.files n None q apart
 
 pub does_apart : {T : Type 0} (call : Call) (result : Result T DiskError) (old new : DiskView) → Does call result old new → (q : Name) → is_given call q ≡ false → new.state.files q ≡ old.state.files q

@@ -7,8 +7,8 @@ use Rattle.std.proofs.lemmas.Map.Views.{exact_unsigned_eq}
 use Rattle.std.specs.List.{AllByRecursion}
 use Rattle.disk_model.specs.declared.name.Name.{Name}
 use Rattle.disk_model.specs.declared.name.Name.TheVariants.{Page, Mark, Draft, Stage}
-use Rattle.disk_model.specs.Files.{Files, same_name, replaced, moved}
-use Rattle.disk_model.specs.State.{DiskState, Shows, ShowsOneOf, IsImageNow, IsSettled, IsFirm, IsLoose, marked}
+use Rattle.disk_model.specs.Files.{Files, same_name, files_with, files_after_rename}
+use Rattle.disk_model.specs.State.{DiskState, Shows, ShowsOneOf, IsImageNow, IsSettled, IsFirm, IsLoose, marks_with}
 use Rattle.disk_model.specs.Call.{Call, look, settle, create, append, seal, rename, remove, is_given, without, under_way, done}
 
 pub same_name_eq : (a b : Name) → same_name a b ≡ true → a ≡ b
@@ -24,10 +24,10 @@ same_name_refl (Mark n) = grind (arith, nat_tests)
 same_name_refl (Draft n) = grind (arith, nat_tests)
 same_name_refl (Stage n) = grind (arith, nat_tests)
 
-pub replaced_here : (f : Files) (n : Name) (x : Option (List ℕ)) (q : Name) → same_name n q ≡ true → replaced f n x q ≡ x
+pub replaced_here : (f : Files) (n : Name) (x : Option (List ℕ)) (q : Name) → same_name n q ≡ true → files_with f n x q ≡ x
 replaced_here f n x q h = rw h refl
 
-pub replaced_apart : (f : Files) (n : Name) (x : Option (List ℕ)) (q : Name) → same_name n q ≡ false → replaced f n x q ≡ f q
+pub replaced_apart : (f : Files) (n : Name) (x : Option (List ℕ)) (q : Name) → same_name n q ≡ false → files_with f n x q ≡ f q
 replaced_apart f n x q h = rw h refl
 
 pub or_false : (a b : Bool) → (a || b) ≡ false → (a ≡ false) × (b ≡ false)
@@ -75,20 +75,20 @@ shows_more step (x ∷ xs) (inr there) = inr (shows_more step xs there)
 -- ---- calls
 
 -- what a call does to loose marks and to each possibility, off the names that it is given: nothing
-marked_here : (m : Name → Bool) (n : Name) (b : Bool) (q : Name) → same_name n q ≡ true → marked m n b q ≡ b
+marked_here : (m : Name → Bool) (n : Name) (b : Bool) (q : Name) → same_name n q ≡ true → marks_with m n b q ≡ b
 marked_here m n b q h = rw h refl
 
-marked_apart : (m : Name → Bool) (n : Name) (b : Bool) (q : Name) → same_name n q ≡ false → marked m n b q ≡ m q
+marked_apart : (m : Name → Bool) (n : Name) (b : Bool) (q : Name) → same_name n q ≡ false → marks_with m n b q ≡ m q
 marked_apart m n b q h = rw h refl
 
 -- The image with what these files have at the names that a call is given.
-abbrev restored : Call → Files → Files → Files
-restored call files image = λ q. if is_given call q then files q else image q
+abbrev image_with_given : Call → Files → Files → Files
+image_with_given call files image = λ q. if is_given call q then files q else image q
 
 restored_shows : (call : Call) (loose other : Name → Bool) (f g image : Files) → ((q : Name) → is_given call q ≡ false → other q ≡ false → (loose q ≡ false) × (g q ≡ f q)) → Shows loose g image
     → (j : Files) × Shows other f j × ((q : Name) → is_given call q ≡ false → image q ≡ j q)
 restored_shows call loose other f g image apart shows = (
-  restored call f image,
+  image_with_given call f image,
   record {
     firm = λ q firm. elim (cases_Bool (is_given call q)) [
       | inl given ↦ rw given refl
@@ -107,8 +107,8 @@ under_way_apart (append n bytes) s image h = shows_each _ (λ f. restored_shows 
 under_way_apart (seal n) s image h = shows_each _ (λ f. restored_shows (seal n) _ _ f f image (λ q not_given firm. (marked_apart s.loose n true q not_given ∙ firm, refl))) s.outcomes h
 under_way_apart (rename from to) s image h = elim (shows_either _ _ s.outcomes _ h) [
   | inl before ↦ (image, before, λ q _. refl)
-  | inr after ↦ shows_map (λ f. moved f from to (s.files from)) _ (λ f. restored_shows (rename from to) _ _ f (moved f from to (s.files from)) image (λ q not_given firm.
-      let parts = or_false _ _ not_given in (firm, replaced_apart (replaced f from None) to (s.files from) q parts.1 ∙ replaced_apart f from None q parts.0))) s.outcomes after
+  | inr after ↦ shows_map (λ f. files_after_rename f from to (s.files from)) _ (λ f. restored_shows (rename from to) _ _ f (files_after_rename f from to (s.files from)) image (λ q not_given firm.
+      let parts = or_false _ _ not_given in (firm, replaced_apart (files_with f from None) to (s.files from) q parts.1 ∙ replaced_apart f from None q parts.0))) s.outcomes after
 ]
 under_way_apart (remove n) s image h = elim (shows_either _ _ s.outcomes _ h) [
   | inl before ↦ (image, before, λ q _. refl)
@@ -116,10 +116,10 @@ under_way_apart (remove n) s image h = elim (shows_either _ _ s.outcomes _ h) [
 ]
 
 -- A loose mark more allows more.
-looser : (m : Name → Bool) (n : Name) (f image : Files) → Shows m f image → Shows (marked m n true) f image
+looser : (m : Name → Bool) (n : Name) (f image : Files) → Shows m f image → Shows (marks_with m n true) f image
 looser m n f image shows = record { firm = λ q firm. shows.firm q (unmarked m n q firm) }
   where
-    unmarked : (m : Name → Bool) (n q : Name) → marked m n true q ≡ false → m q ≡ false
+    unmarked : (m : Name → Bool) (n q : Name) → marks_with m n true q ≡ false → m q ≡ false
     unmarked m n q firm = elim (cases_Bool (same_name n q)) [
       | inl same ↦ absurd (false≢true (sym firm ∙ rw same refl))
       | inr apart ↦ sym (marked_apart m n true q apart) ∙ firm
@@ -141,17 +141,17 @@ shows_from g step (x ∷ xs) (inl here) = inl (step x here)
 shows_from g step (x ∷ xs) (inr there) = inr (shows_from g step xs there)
 
 -- A loose mark less allows less.
-unloosed : (m : Name → Bool) (n : Name) (q : Name) → m q ≡ false → marked m n false q ≡ false
+unloosed : (m : Name → Bool) (n : Name) (q : Name) → m q ≡ false → marks_with m n false q ≡ false
 unloosed m n q firm = elim (cases_Bool (same_name n q)) [
   | inl same ↦ rw same refl
   | inr apart ↦ marked_apart m n false q apart ∙ firm
 ]
 
-unloosed_shows : (m : Name → Bool) (n : Name) (f image : Files) → Shows (marked m n false) f image → Shows m f image
+unloosed_shows : (m : Name → Bool) (n : Name) (f image : Files) → Shows (marks_with m n false) f image → Shows m f image
 unloosed_shows m n f image shows = record { firm = λ q firm. shows.firm q (unloosed m n q firm) }
 
 -- To give a name the same in both keeps what one shows of the other.
-both_replaced : (m : Name → Bool) (n : Name) (x : Option (List ℕ)) (f image : Files) → Shows m f image → Shows (marked m n false) (replaced f n x) (replaced image n x)
+both_replaced : (m : Name → Bool) (n : Name) (x : Option (List ℕ)) (f image : Files) → Shows m f image → Shows (marks_with m n false) (files_with f n x) (files_with image n x)
 both_replaced m n x f image shows = record {
   firm = λ q firm. elim (cases_Bool (same_name n q)) [
     | inl same ↦ rw same refl
@@ -159,7 +159,7 @@ both_replaced m n x f image shows = record {
   ];
 }
 
-one_replaced : (m : Name → Bool) (n : Name) (x : Option (List ℕ)) (f image : Files) → Shows m f image → Shows (marked m n true) f (replaced image n x)
+one_replaced : (m : Name → Bool) (n : Name) (x : Option (List ℕ)) (f image : Files) → Shows m f image → Shows (marks_with m n true) f (files_with image n x)
 one_replaced m n x f image shows = record {
   firm = λ q firm. elim (cases_Bool (same_name n q)) [
     | inl same ↦ absurd (false≢true (sym firm ∙ rw same refl))
@@ -167,7 +167,7 @@ one_replaced m n x f image shows = record {
   ];
 }
 
-sealed_shows : (m : Name → Bool) (n : Name) (x : Option (List ℕ)) (f image : Files) → Shows (marked m n false) (replaced f n x) image → Shows (marked m n true) f image
+sealed_shows : (m : Name → Bool) (n : Name) (x : Option (List ℕ)) (f image : Files) → Shows (marks_with m n false) (files_with f n x) image → Shows (marks_with m n true) f image
 sealed_shows m n x f image shows = record {
   firm = λ q firm. elim (cases_Bool (same_name n q)) [
     | inl same ↦ absurd (false≢true (sym firm ∙ rw same refl))
@@ -175,7 +175,7 @@ sealed_shows m n x f image shows = record {
   ];
 }
 
-pub replaced_same : (f : Files) (n q : Name) → replaced f n (f n) q ≡ f q
+pub replaced_same : (f : Files) (n q : Name) → files_with f n (f n) q ≡ f q
 replaced_same f n q = elim (cases_Bool (same_name n q)) [
   | inl same ↦ replaced_here f n (f n) q same ∙ ap f (same_name_eq n q same)
   | inr apart ↦ replaced_apart f n (f n) q apart
@@ -198,9 +198,9 @@ under_way_from_done settle s image sound (inl shows) = shows_more (λ f read. re
 under_way_from_done settle s image sound (inr none) = absurd none
 under_way_from_done (create n) s image sound h = h
 under_way_from_done (append n bytes) s image sound h = h
-under_way_from_done (seal n) s image sound h = shows_from (λ f. replaced f n (s.files n)) (λ f shows. sealed_shows s.loose n (s.files n) f image shows) s.outcomes h
+under_way_from_done (seal n) s image sound h = shows_from (λ f. files_with f n (s.files n)) (λ f shows. sealed_shows s.loose n (s.files n) f image shows) s.outcomes h
 under_way_from_done (rename from to) s image sound h =
-    shows_right _ _ s.outcomes _ (shows_more (λ f shows. unloosed_shows s.loose from f image (unloosed_shows (marked s.loose from false) to f image shows)) _ h)
+    shows_right _ _ s.outcomes _ (shows_more (λ f shows. unloosed_shows s.loose from f image (unloosed_shows (marks_with s.loose from false) to f image shows)) _ h)
 under_way_from_done (remove n) s image sound h = shows_right _ _ s.outcomes _ (shows_more (λ f shows. unloosed_shows s.loose n f image shows) _ h)
 
 pub done_is_sound : (call : Call) (s : DiskState) → IsSound s → IsSound (done call s)
@@ -208,9 +208,9 @@ done_is_sound look s sound = sound
 done_is_sound settle s sound = inl (record { firm = λ q _. refl })
 done_is_sound (create n) s sound = shows_more (λ f shows. one_replaced s.loose n _ f s.files shows) s.outcomes sound
 done_is_sound (append n bytes) s sound = shows_more (λ f shows. one_replaced s.loose n _ f s.files shows) s.outcomes sound
-done_is_sound (seal n) s sound = shows_into (λ f. replaced f n (s.files n)) (λ f shows. same_image _ _ _ s.files (λ q. sym (replaced_same s.files n q)) (both_replaced s.loose n (s.files n) f s.files shows)) s.outcomes sound
+done_is_sound (seal n) s sound = shows_into (λ f. files_with f n (s.files n)) (λ f shows. same_image _ _ _ s.files (λ q. sym (replaced_same s.files n q)) (both_replaced s.loose n (s.files n) f s.files shows)) s.outcomes sound
 done_is_sound (rename from to) s sound =
-    shows_into (λ f. moved f from to (s.files from)) (λ f shows. both_replaced (marked s.loose from false) to (s.files from) _ _ (both_replaced s.loose from None f s.files shows)) s.outcomes sound
+    shows_into (λ f. files_after_rename f from to (s.files from)) (λ f shows. both_replaced (marks_with s.loose from false) to (s.files from) _ _ (both_replaced s.loose from None f s.files shows)) s.outcomes sound
 done_is_sound (remove n) s sound = shows_into (without n) (λ f shows. both_replaced s.loose n None f s.files shows) s.outcomes sound
 
 -- A call that fails and changes nothing that reads leaves the disk sound.
@@ -253,17 +253,17 @@ done_is_settled settle s settled = (record { firm = λ q _. refl }, tt)
 done_is_settled (create n) s settled = settled_more s.loose _ s.files _ (λ f shows. one_replaced s.loose n _ f s.files shows) s.outcomes settled
 done_is_settled (append n bytes) s settled = settled_more s.loose _ s.files _ (λ f shows. one_replaced s.loose n _ f s.files shows) s.outcomes settled
 done_is_settled (seal n) s settled =
-    settled_map s.loose _ s.files s.files (λ f. replaced f n (s.files n)) (λ f shows. same_image _ _ _ s.files (λ q. sym (replaced_same s.files n q)) (both_replaced s.loose n (s.files n) f s.files shows)) s.outcomes settled
+    settled_map s.loose _ s.files s.files (λ f. files_with f n (s.files n)) (λ f shows. same_image _ _ _ s.files (λ q. sym (replaced_same s.files n q)) (both_replaced s.loose n (s.files n) f s.files shows)) s.outcomes settled
 done_is_settled (rename from to) s settled =
-    settled_map s.loose _ s.files _ (λ f. moved f from to (s.files from)) (λ f shows. both_replaced (marked s.loose from false) to (s.files from) _ _ (both_replaced s.loose from None f s.files shows)) s.outcomes settled
+    settled_map s.loose _ s.files _ (λ f. files_after_rename f from to (s.files from)) (λ f shows. both_replaced (marks_with s.loose from false) to (s.files from) _ _ (both_replaced s.loose from None f s.files shows)) s.outcomes settled
 done_is_settled (remove n) s settled = settled_map s.loose _ s.files _ (without n) (λ f shows. both_replaced s.loose n None f s.files shows) s.outcomes settled
 
 -- In the middle of a rename where nothing else is pending, each image is as before it or as after it.
-pub rename_images : (s : DiskState) (from to : Name) (image : Files) → IsSettled s → IsImageNow (under_way (rename from to) s) image → Shows s.loose s.files image ⊎ Shows s.loose (moved s.files from to (s.files from)) image
+pub rename_images : (s : DiskState) (from to : Name) (image : Files) → IsSettled s → IsImageNow (under_way (rename from to) s) image → Shows s.loose s.files image ⊎ Shows s.loose (files_after_rename s.files from to (s.files from)) image
 rename_images s from to image settled middle = elim (shows_either _ _ s.outcomes _ middle) [
   | inl before ↦ inl (settled_each s.loose s.files image s.outcomes settled before)
-  | inr after ↦ inr (settled_each s.loose (moved s.files from to (s.files from)) image _ (settled_map s.loose s.loose s.files _ (λ f. moved f from to (s.files from)) (λ f shows.
-      unloosed_shows s.loose from _ _ (unloosed_shows (marked s.loose from false) to _ _ (both_replaced (marked s.loose from false) to (s.files from) _ _ (both_replaced s.loose from None f s.files shows)))) s.outcomes settled) after)
+  | inr after ↦ inr (settled_each s.loose (files_after_rename s.files from to (s.files from)) image _ (settled_map s.loose s.loose s.files _ (λ f. files_after_rename f from to (s.files from)) (λ f shows.
+      unloosed_shows s.loose from _ _ (unloosed_shows (marks_with s.loose from false) to _ _ (both_replaced (marks_with s.loose from false) to (s.files from) _ _ (both_replaced s.loose from None f s.files shows)))) s.outcomes settled) after)
 ]
 
 -- and of a removal
@@ -291,7 +291,7 @@ done_firm_apart settle s q apart firm = and_false (s.loose q) (is_some (s.files 
 done_firm_apart (create n) s q apart firm = marked_apart s.loose n true q apart ∙ firm
 done_firm_apart (append n bytes) s q apart firm = marked_apart s.loose n true q apart ∙ firm
 done_firm_apart (seal n) s q apart firm = marked_apart s.loose n false q apart ∙ firm
-done_firm_apart (rename from to) s q apart firm = unloosed (marked s.loose from false) to q (unloosed s.loose from q firm)
+done_firm_apart (rename from to) s q apart firm = unloosed (marks_with s.loose from false) to q (unloosed s.loose from q firm)
 done_firm_apart (remove n) s q apart firm = marked_apart s.loose n false q apart ∙ firm
 
 -- ---- what each image has after a call that succeeded
@@ -302,18 +302,18 @@ mapped_at m g n x image all firm (f ∷ outcomes) (inl here) = here.firm n firm 
 mapped_at m g n x image all firm (f ∷ outcomes) (inr there) = mapped_at m g n x image all firm outcomes there
 
 pub sealed_is_there : (s : DiskState) (n : Name) (image : Files) → IsImageNow (done (seal n) s) image → image n ≡ s.files n
-sealed_is_there s n image h = mapped_at _ (λ f. replaced f n (s.files n)) n (s.files n) image (λ f. replaced_here f n (s.files n) n (same_name_refl n)) (marked_here s.loose n false n (same_name_refl n)) s.outcomes h
+sealed_is_there s n image h = mapped_at _ (λ f. files_with f n (s.files n)) n (s.files n) image (λ f. replaced_here f n (s.files n) n (same_name_refl n)) (marked_here s.loose n false n (same_name_refl n)) s.outcomes h
 
 pub removed_is_gone : (s : DiskState) (n : Name) (image : Files) → IsImageNow (done (remove n) s) image → image n ≡ None
 removed_is_gone s n image h = mapped_at _ (without n) n None image (λ f. replaced_here f n None n (same_name_refl n)) (marked_here s.loose n false n (same_name_refl n)) s.outcomes h
 
 pub renamed_is_there : (s : DiskState) (from to : Name) (image : Files) → IsImageNow (done (rename from to) s) image → image to ≡ s.files from
-renamed_is_there s from to image h = mapped_at _ (λ f. moved f from to (s.files from)) to (s.files from) image (λ f. replaced_here (replaced f from None) to (s.files from) to (same_name_refl to)) (marked_here (marked s.loose from false) to false to (same_name_refl to)) s.outcomes h
+renamed_is_there s from to image h = mapped_at _ (λ f. files_after_rename f from to (s.files from)) to (s.files from) image (λ f. replaced_here (files_with f from None) to (s.files from) to (same_name_refl to)) (marked_here (marks_with s.loose from false) to false to (same_name_refl to)) s.outcomes h
 
 pub renamed_is_gone : (s : DiskState) (from to : Name) (image : Files) → same_name to from ≡ false → IsImageNow (done (rename from to) s) image → image from ≡ None
 renamed_is_gone s from to image apart h =
-    mapped_at _ (λ f. moved f from to (s.files from)) from None image (λ f. replaced_apart (replaced f from None) to (s.files from) from apart ∙ replaced_here f from None from (same_name_refl from))
-    (marked_apart (marked s.loose from false) to false from apart ∙ marked_here s.loose from false from (same_name_refl from)) s.outcomes h
+    mapped_at _ (λ f. files_after_rename f from to (s.files from)) from None image (λ f. replaced_apart (files_with f from None) to (s.files from) from apart ∙ replaced_here f from None from (same_name_refl from))
+    (marked_apart (marks_with s.loose from false) to false from apart ∙ marked_here s.loose from false from (same_name_refl from)) s.outcomes h
 
 -- After `settle` each image has each firm file as it reads, and so does the disk.
 pub settled_is_settled : (s : DiskState) → IsSettled (done settle s)

@@ -8,7 +8,7 @@ use Rattle.disk_model.specs.declared.disk.DiskError.TheVariants.{Fault, Memory}
 use Rattle.disk_model.specs.Files.{Files}
 use Rattle.disk_model.specs.View.{DiskView}
 use Rattle.disk_model.specs.Laws.{IsSound}
-use Rattle.disk_model.specs.Record.{files_in, started, view_of}
+use Rattle.disk_model.specs.Record.{files_in, disk_of_files, view_of}
 use Rattle.disk_model.specs.Replay.{reads_as_image_now}
 use Rattle.disk_model.specs.OfBytes.{HoldsBytes, record_holds}
 
@@ -27,7 +27,7 @@ stop_of m = m.stop
 
 -- a disk of which no call has been asked, with these files
 abbrev pub fresh_view : Files → DiskView
-fresh_view files = record { state = started files; past = []; appended = 0; bytes_read = 0 }
+fresh_view files = record { state = disk_of_files files; past = []; appended = 0; bytes_read = 0 }
 
 pub mem_is_sound : (m : MemDisk) → IsSound (mem_view m).state
 unfolding mem_view

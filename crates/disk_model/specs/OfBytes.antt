@@ -6,10 +6,10 @@ use Rattle.format_spec.specs.Bytes.{IsBytes}
 use Rattle.format_spec.proofs.ByteStrings.{join_bytes}
 use Rattle.disk_model.specs.declared.name.Name.{Name}
 use Rattle.disk_model.specs.declared.event.Event.{Event}
-use Rattle.disk_model.specs.Files.{Files, same_name, replaced, moved}
+use Rattle.disk_model.specs.Files.{Files, same_name, files_with, files_after_rename}
 use Rattle.disk_model.specs.State.{DiskState, ShowsOneOf, IsImageNow}
 use Rattle.disk_model.specs.Call.{Call, look, settle, create, append, seal, rename, remove, under_way, done}
-use Rattle.disk_model.specs.Record.{started, call_of, after_event, state_after}
+use Rattle.disk_model.specs.Record.{disk_of_files, call_of, after_event, state_after}
 
 -- Each file is of bytes. A name without a file counts as one of none.
 abbrev pub AreOfBytes : Files → Type 0
@@ -39,15 +39,15 @@ bytes_given _ = []
 pub no_bytes : IsBytes []
 no_bytes i = omega arith
 
-replaced_bytes : (n : Name) (x : Option (List ℕ)) (f : Files) → IsBytes (unwrap_or x []) → AreOfBytes f → AreOfBytes (replaced f n x)
+replaced_bytes : (n : Name) (x : Option (List ℕ)) (f : Files) → IsBytes (unwrap_or x []) → AreOfBytes f → AreOfBytes (files_with f n x)
 replaced_bytes n x f file files q = by (same_name n q)
   where
     by : (b : Bool) → IsBytes (unwrap_or (cond b x (f q)) [])
     by true = file
     by false = files q
 
-moved_bytes : (from to : Name) (x : Option (List ℕ)) (f : Files) → IsBytes (unwrap_or x []) → AreOfBytes f → AreOfBytes (moved f from to x)
-moved_bytes from to x f file files = replaced_bytes to x (replaced f from None) file (replaced_bytes from None f no_bytes files)
+moved_bytes : (from to : Name) (x : Option (List ℕ)) (f : Files) → IsBytes (unwrap_or x []) → AreOfBytes f → AreOfBytes (files_after_rename f from to x)
+moved_bytes from to x f file files = replaced_bytes to x (files_with f from None) file (replaced_bytes from None f no_bytes files)
 
 mapped : (g : Files → Files) → ((f : Files) → AreOfBytes f → AreOfBytes (g f)) → (fs : List Files) → AllByRecursion AreOfBytes fs → AllByRecursion AreOfBytes (map g fs)
 mapped g step [] all = tt
@@ -107,5 +107,5 @@ events_hold s [] wrote holds = holds
 events_hold s (e ∷ es) wrote holds = events_hold (after_event s e) es (λ i. wrote (suc i)) (event_holds s e (wrote 0) holds)
 
 -- After any record of bytes written the disk holds bytes.
-pub record_holds : (first : Files) (es : List Event) → AreOfBytes first → WroteBytes es → HoldsBytes (state_after (started first) es)
-record_holds first es files wrote = events_hold (started first) es wrote (record { files = files; outcomes = (files, tt) })
+pub record_holds : (first : Files) (es : List Event) → AreOfBytes first → WroteBytes es → HoldsBytes (state_after (disk_of_files first) es)
+record_holds first es files wrote = events_hold (disk_of_files first) es wrote (record { files = files; outcomes = (files, tt) })

@@ -20,8 +20,8 @@ abbrev pub files_in : Entries → Files
 files_in entries = λ q. option_map (λ v. v.items) (lookup (same_name q) entries)
 
 -- a disk with these files, all of them firm, and nothing pending
-abbrev pub started : Files → DiskState
-started files = record { files = files; loose = λ _. false; outcomes = files ∷ [] }
+abbrev pub disk_of_files : Files → DiskState
+disk_of_files files = record { files = files; loose = λ _. false; outcomes = files ∷ [] }
 
 abbrev pub call_of : Act → Call
 call_of Look = look
@@ -53,8 +53,8 @@ appended_of appended (e ∷ events) = appended_of (if e.done then appended_after
 -- what a disk tells that began with these files and has had these events
 abbrev pub view_of : Files → List Event → ℕ → DiskView
 view_of first events bytes_read = record {
-  state = state_after (started first) events;
-  past = past_of (started first) events;
+  state = state_after (disk_of_files first) events;
+  past = past_of (disk_of_files first) events;
   appended = appended_of 0 events;
   bytes_read = bytes_read;
 }

@@ -6,7 +6,7 @@ use Rattle.disk_model.specs.Files.{Files}
 use Rattle.disk_model.specs.State.{DiskState, IsImageNow}
 use Rattle.disk_model.specs.Call.{Call, under_way, done, appended_after}
 use Rattle.disk_model.specs.Laws.{IsSound, done_is_sound, under_way_is_sound, under_way_files}
-use Rattle.disk_model.specs.Record.{started, call_of, after_event, state_after, past_of, appended_of}
+use Rattle.disk_model.specs.Record.{disk_of_files, call_of, after_event, state_after, past_of, appended_of}
 
 pub state_push : (s : DiskState) (es : List Event) (e : Event) → state_after s (es ++ e ∷ []) ≡ after_event (state_after s es) e
 state_push s [] e = refl
@@ -39,5 +39,5 @@ replay_is_sound s [] sound = sound
 replay_is_sound s (e ∷ es) sound = replay_is_sound (after_event s e) es (event_is_sound s e sound)
 
 -- After any record the disk as it reads is one of its images.
-pub reads_as_image_now : (first : Files) (es : List Event) → IsSound (state_after (started first) es)
-reads_as_image_now first es = replay_is_sound (started first) es (inl (record { firm = λ q _. refl }))
+pub reads_as_image_now : (first : Files) (es : List Event) → IsSound (state_after (disk_of_files first) es)
+reads_as_image_now first es = replay_is_sound (disk_of_files first) es (inl (record { firm = λ q _. refl }))

@@ -4,7 +4,7 @@ use Rattle.disk_model.specs.declared.disk.DiskError.{DiskError}
 use Rattle.disk_model.specs.declared.disk.DiskError.TheVariants.{Fault, Memory}
 use Rattle.disk_model.specs.Files.{Files}
 use Rattle.disk_model.specs.State.{DiskState, IsImageNow}
-use Rattle.disk_model.specs.Call.{Call, under_way, done, HasFailed, length_given, counted, appended_after}
+use Rattle.disk_model.specs.Call.{Call, under_way, done, HasFailed, length_given, count_after, appended_after}
 
 pub record DiskView : Type 0 where
   pub state : DiskState
@@ -73,5 +73,5 @@ LooksOrNot most _ old new = Looks most old new
 -- `Fault` comes only where the count of faults rose, or stands at the top of a `u64`
 pub record HasCause {T : Type 0} (old new : ℕ) (result : Result T DiskError) : Type 0 where
   pub never_falls : old ≤ new
-  pub fault : IsErrOf result Fault → counted old 1 ≤ new
+  pub fault : IsErrOf result Fault → count_after old 1 ≤ new
   pub memory : IsErrOf result Memory → new ≡ old

@@ -1,7 +1,7 @@
 //! What a crash may leave of a disk in memory, from its record.
 ghost use Rattle.std.specs.Prelude.{◌≡◌, false, OnOk, IfOk, option_map};
 ghost use Rattle.disk_model.specs.Record.{files_in, call_of};
-ghost use Rattle.disk_model.specs.Images.{chosen_after, reading_after, chosen_of, is_marked, is_marked_after, spoiled, spoiled_where};
+ghost use Rattle.disk_model.specs.Images.{chosen_after, reading_after, chosen_of, is_marked, is_marked_after, spoiled_file, spoiled_where};
 
 use crate::Name;
 use crate::event::{Act, Event};
@@ -111,7 +111,7 @@ pub fn chosen_files(
 
 // What becomes of a loose file.
 fn spoil(alloc: Global, bytes: &[u8], how: u8) -> Result<Option<Vec<u8>>, AllocError>
-    ensures { IfOk result (λ left. option_map (λ v. v.items) left ≡ spoiled how bytes.now) }
+    ensures { IfOk result (λ left. option_map (λ v. v.items) left ≡ spoiled_file how bytes.now) }
 {
     match how {
         0 => Ok(None),

@@ -4,11 +4,11 @@
 ghost use Rattle.std.specs.Prelude.{◌≡◌, ◌++◌, ◌+◌, ◌≤◌, take, drop, ◌∷◌, [], ◌<◌, Err, true, false, length, None, vec_len, vec_capacity, IfOk, OnOk, IsTrue, IsErrOf, IsSomeAnd, option_map};
 ghost use Rattle.disk_model.specs.State.{IsImageNow, IsThere, IsAbsent, IsFirm, IsLoose};
 ghost use Rattle.disk_model.specs.Files.{IsListing};
-ghost use Rattle.disk_model.specs.Record.{files_in, started, state_after, call_of, appended_of};
+ghost use Rattle.disk_model.specs.Record.{files_in, disk_of_files, state_after, call_of, appended_of};
 ghost use Rattle.format_spec.specs.Bytes.{IsBytes};
 ghost use Rattle.disk_model.specs.OfBytes.{AreOfBytes, WroteBytes, bytes_given};
 ghost use Rattle.disk_model.specs.View.{Failed, Does, LooksOrNot, HasCause, moment};
-ghost use Rattle.disk_model.specs.Call.{settle, create, append, seal, rename, remove, counted};
+ghost use Rattle.disk_model.specs.Call.{settle, create, append, seal, rename, remove, count_after};
 
 use crate::event::{Act, Event};
 use crate::files::{
@@ -45,8 +45,8 @@ pub struct MemDisk {
     faults: u64,
     appended: u64,
     bytes_read: u64,
-    ghost reads: { files_in files.entries ≡ (state_after (started (files_in first.entries)) events.items).files },
-    ghost total: { appended ≡ counted 0 (appended_of 0 events.items) },
+    ghost reads: { files_in files.entries ≡ (state_after (disk_of_files (files_in first.entries)) events.items).files },
+    ghost total: { appended ≡ count_after 0 (appended_of 0 events.items) },
     ghost first_bytes: { AreOfBytes (files_in first.entries) },
     ghost wrote_bytes: { WroteBytes events.items },
 }
@@ -55,7 +55,7 @@ impl MemDisk {
     ghost use Rattle.disk_model.specs.Mem.{mem_view, faults_of, fails_of, stop_of, fresh_view, is_to_fail, HasOrders, FollowsOrders};
     ghost use Rattle.disk_model.specs.Images.{image_of};
 
-    /// An empty disk, whose calls of these numbers fail, counted from 0, and all from number `stop` on.
+    /// An empty disk, whose calls of these numbers fail, count_after from 0, and all from number `stop` on.
     pub fn new(alloc: Global, fails: Vec<u64>, stop: Option<u64>) -> MemDisk
         ensures empty { mem_view result ≡ fresh_view (λ _. None) }
         ensures faults { faults_of result ≡ 0 }
@@ -83,7 +83,7 @@ impl MemDisk {
 
     /// How many bytes were appended, up to the greatest `u64`.
     pub fn appended(&self) -> u64
-        ensures { result ≡ counted 0 (mem_view self.now).appended }
+        ensures { result ≡ count_after 0 (mem_view self.now).appended }
     {
         self.appended
     }
@@ -158,7 +158,7 @@ impl MemDisk {
     // A call that only looks, and reads so many bytes.
     fn look(&mut self, count: u64) -> Result<(), DiskError>
         ensures looks { LooksOrNot count result (mem_view self.old) (mem_view self.new) }
-        ensures counted { OnOk result ((mem_view self.new).bytes_read ≡ counted (mem_view self.old).bytes_read count) }
+        ensures count_after { OnOk result ((mem_view self.new).bytes_read ≡ count_after (mem_view self.old).bytes_read count) }
         ensures cause { HasCause (faults_of self.old) (faults_of self.new) result }
         ensures orders { FollowsOrders result self.old self.new }
         ensures files { self.new.files ≡ self.old.files }
@@ -242,7 +242,7 @@ impl Disk for MemDisk {
     ) -> Result<(), DiskError>
         requires { IsSomeAnd ((mem_view self.old).state.files name) (λ bytes. at + length into.old ≤ length bytes) }
         ensures bytes { OnOk result (IsSomeAnd ((mem_view self.old).state.files name) (λ bytes. into.new ≡ take (length into.old) (drop at bytes))) }
-        ensures counted { OnOk result ((mem_view self.new).bytes_read ≡ counted (mem_view self.old).bytes_read (length into.old)) }
+        ensures count_after { OnOk result ((mem_view self.new).bytes_read ≡ count_after (mem_view self.old).bytes_read (length into.old)) }
         ensures looks { LooksOrNot (length into.old) result (mem_view self.old) (mem_view self.new) }
         ensures cause { HasCause (faults_of self.old) (faults_of self.new) result }
         ensures orders { FollowsOrders result self.old self.new }

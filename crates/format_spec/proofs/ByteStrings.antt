@@ -6,7 +6,7 @@ use Rattle.std.specs.Prelude.{slice_index}
 use Rattle.std.proofs.lemmas.Bool.{and_parts, and_from, lt-ltb, ltb-true}
 use Rattle.sha2.specs.Sha256.{sha256, digest_bytes}
 use Rattle.format_spec.specs.Bytes.{Bytes, IsBytes, AreByteStrings, are_bytes, be32, short_string, parts, part_count}
-use Rattle.format_spec.specs.Hashes.{separated}
+use Rattle.format_spec.specs.Hashes.{with_separator}
 
 -- ---- the test
 
@@ -46,7 +46,7 @@ drop_bytes (suc n) (b ∷ s) h = drop_bytes n s (λ i. h (suc i))
 pub short_bytes : (s : Bytes) → length s < 256 → IsBytes s → IsBytes (short_string s)
 short_bytes s lt h = one_byte (length s) s lt h
 
-pub named_bytes : (name s : Bytes) → are_bytes (short_string name) ≡ true → IsBytes s → IsBytes (separated name s)
+pub named_bytes : (name s : Bytes) → are_bytes (short_string name) ≡ true → IsBytes s → IsBytes (with_separator name s)
 named_bytes name s h p = join_bytes (short_string name) s (by_test (short_string name) h) p
 
 -- ---- lists of strings

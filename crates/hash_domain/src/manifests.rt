@@ -4,7 +4,7 @@ ghost use Rattle.std.specs.Prelude.{◌≡◌, ◌<◌, ◌^◌, ◌++◌, codes
 ghost use Rattle.sha2.specs.Hashers.{Holds256};
 ghost use Rattle.sha2.specs.Sha256.{sha256};
 ghost use Rattle.format_spec.specs.Bytes.{Bytes};
-ghost use Rattle.format_spec.specs.Hashes.{chunk_sum_text, separated};
+ghost use Rattle.format_spec.specs.Hashes.{chunk_sum_text, with_separator};
 ghost use Rattle.format_spec.specs.Hashes.{file_hash as hash_of_file, piece_hash as hash_of_piece, root_hash as hash_of_root};
 
 use crate::chunk_sum::ChunkSum;
@@ -67,7 +67,7 @@ pub fn root_hash(version: u32, pieces: &[Hash32]) -> Hash32
 
 /// The root hash by a meta-manifest's text: the hash of the text behind its name.
 pub fn root_hash_of_text(text: &[u8]) -> Hash32
-    ensures { result ≡ sha256 (separated (codes "ic-state-meta-manifest") text.now) }
+    ensures { result ≡ sha256 (with_separator (codes "ic-state-meta-manifest") text.now) }
 {
     let mut hasher = Sha256::new();
     hasher.update(ROOT);

@@ -5,7 +5,7 @@ use Rattle.std.specs.declared.cmp.Ordering.TheVariants.{Less, Greater}
 use Rattle.std.proofs.lemmas.List.{drop_more, append-nil}
 use Rattle.format_spec.specs.Bytes.{Bytes, bytes_cmp}
 use Rattle.tree_spec.specs.Tree.{Tree, labeled, leaf, forks}
-use Rattle.tree_spec.specs.Labelled.{Children, none, leaf_at, put_leaf, canister_children, with_canisters, entry_children, child_trees, labelled}
+use Rattle.tree_spec.specs.Labelled.{Children, none, leaf_at, put_leaf, canister_children, with_canisters, entry_children, child_trees, root_children}
 use Rattle.hash_tree.specs.declared.tree.HashTree.{HashTree}
 use Rattle.hash_tree.specs.View.{tree_view}
 use Rattle.hash_tree.specs.Levels.{Entries, behind, level, AreInOrder, IsLevel, IsGroup, HasFirst, IsBelow, IsAbove, EndsLabel, Parts}
@@ -214,8 +214,8 @@ canisters_below (c ∷ cs) = (refl, tt)
 -- the children of a state: entries before the canisters, the canisters, entries before the time, the time, and entries behind it
 pub state_children : (s : SystemPart) (es fs gs : Entries) → s.entries ≡ es ++ (fs ++ gs) → AllByRecursion (IsBelow canister_label) es
     → AllByRecursion (IsAbove canister_label) (fs ++ gs) → AllByRecursion (IsBelow time_label) fs → AllByRecursion (IsAbove time_label) gs
-    → child_trees (labelled s) ≡ child_trees (entry_children es) ++ (canister_trees s.canisters ++ (child_trees (entry_children fs) ++ (labeled time_label (leaf (leb s.time)) ∷ child_trees (entry_children gs))))
-unfolding labelled
+    → child_trees (root_children s) ≡ child_trees (entry_children es) ++ (canister_trees s.canisters ++ (child_trees (entry_children fs) ++ (labeled time_label (leaf (leb s.time)) ∷ child_trees (entry_children gs))))
+unfolding root_children
 state_children s es fs gs is low high middle last =
     let e : Children = entry_children es in
     let f : Children = entry_children fs in
@@ -242,7 +242,7 @@ state_children s es fs gs is low high middle last =
 
 -- the same, of entries from place to place
 pub state_trees : (s : System) (canisters time : ℕ) → Parts canister_label 0 canisters s.entries → Parts time_label canisters time s.entries
-    → child_trees (labelled (part_of s)) ≡ child_trees (entry_children (level 0 0 canisters s.entries)) ++ (canister_trees (parts s.canisters)
+    → child_trees (root_children (part_of s)) ≡ child_trees (entry_children (level 0 0 canisters s.entries)) ++ (canister_trees (parts s.canisters)
     ++ (child_trees (entry_children (level 0 canisters time s.entries)) ++ (labeled time_label (leaf (leb s.time)) ∷ child_trees (entry_children (level 0 time (length s.entries) s.entries)))))
 state_trees s canisters time p q =
     let n : ℕ = length s.entries in

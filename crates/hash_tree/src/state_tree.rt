@@ -3,7 +3,7 @@
 ghost use Rattle.std.specs.Prelude.{◌≡◌, IfOk, OnOk, OnErr};
 ghost use Rattle.format_spec.specs.Bytes.{leb};
 ghost use Rattle.tree_spec.specs.Tree.{reconstruct as hash_of_tree};
-ghost use Rattle.tree_spec.specs.Labelled.{child_trees, labelled, state_tree};
+ghost use Rattle.tree_spec.specs.Labelled.{child_trees, root_children, state_tree};
 ghost use Rattle.sys_state.specs.System.{part_of};
 ghost use Rattle.hash_tree.specs.Hashes.{AreHashesOf};
 ghost use Rattle.hash_tree.specs.Stack.{Pushes};
@@ -85,7 +85,7 @@ impl StateTree {
 
 // The branches of a state in order of their labels.
 fn push_children(alloc: Global, sys: &SysState, branches: &mut Vec<Branch>) -> Result<(), NoMemory>
-    ensures { IfOk result (λ _. Pushes branches.old.items branches.new.items (child_trees (labelled (part_of sys.now)))) }
+    ensures { IfOk result (λ _. Pushes branches.old.items branches.new.items (child_trees (root_children (part_of sys.now)))) }
 {
     let entries = sys.entries();
     let canisters = first_above(sys, 0, b"canister");

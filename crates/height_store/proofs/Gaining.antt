@@ -19,7 +19,7 @@ use Rattle.disk_model.specs.declared.name.Kind.TheVariants as kind
 use Rattle.disk_model.specs.declared.name.Name.{Name}
 use Rattle.disk_model.specs.declared.name.Name.TheVariants as name
 use Rattle.disk_model.specs.Files.{Files, IsListing, same_name}
-use Rattle.disk_model.specs.State.{DiskState, IsSettled, marked}
+use Rattle.disk_model.specs.State.{DiskState, IsSettled, marks_with}
 use Rattle.disk_model.specs.View.{DiskView, LeavesOnly}
 use Rattle.disk_model.specs.Laws.{IsSound, same_name_eq, same_name_refl, replaced_here, replaced_apart}
 use Rattle.disk_model.specs.Moments.{at_start, weaker}
@@ -136,7 +136,7 @@ firm_push hs h s firm pages (name.Stage n) needed = absurd (false≢true needed)
 
 -- ---- images while the mark is written
 
-draft_firm : (height : ℕ) (s : DiskState) (q : Name) → same_name (name.Draft height) q ≡ false → s.loose q ≡ false → marked s.loose (name.Draft height) true q ≡ false
+draft_firm : (height : ℕ) (s : DiskState) (q : Name) → same_name (name.Draft height) q ≡ false → s.loose q ≡ false → marks_with s.loose (name.Draft height) true q ≡ false
 draft_firm height s q apart firm = rw apart firm
 
 -- a height that may be published: it is above all heights that are kept, and made of page files that are on the disk

@@ -5,8 +5,8 @@ use Rattle.format_spec.specs.Bytes.{Bytes}
 use Rattle.disk_model.specs.declared.disk.DiskError.{DiskError}
 use Rattle.disk_model.specs.declared.name.Name.{Name}
 use Rattle.disk_model.specs.declared.name.Name.TheVariants.{Mark, Draft}
-use Rattle.disk_model.specs.Files.{same_name, replaced}
-use Rattle.disk_model.specs.State.{DiskState, IsSettled, Shows, marked}
+use Rattle.disk_model.specs.Files.{same_name, files_with}
+use Rattle.disk_model.specs.State.{DiskState, IsSettled, Shows, marks_with}
 use Rattle.disk_model.specs.Call.{create, append, seal, rename, under_way}
 use Rattle.disk_model.specs.View.{DiskView, EachImage, LeavesOnly, Done, Does}
 use Rattle.disk_model.specs.Laws.{IsSound, same_name_refl, replaced_here, replaced_apart, or_false, rename_images, image_of_settled}
@@ -15,9 +15,9 @@ use Rattle.disk_model.specs.Frame.{TouchesOnly, touches_call, touches_then, done
 use Rattle.height_store.specs.Written.{is_of, IsBeforeOrAfter, HasWritten}
 
 abbrev with_draft : ℕ → DiskState → Name → Bool
-with_draft height s = marked s.loose (Draft height) true
+with_draft height s = marks_with s.loose (Draft height) true
 
-marked_here : (m : Name → Bool) (n : Name) (b : Bool) (q : Name) → same_name n q ≡ true → marked m n b q ≡ b
+marked_here : (m : Name → Bool) (n : Name) (b : Bool) (q : Name) → same_name n q ≡ true → marks_with m n b q ≡ b
 marked_here m n b q h = rw h refl
 
 -- a name that isn't loose, and not the draft
@@ -102,8 +102,8 @@ renamed_images result height text v0 v3 v4 sound sealed touches does settled =
 pub written : {T : Type 0} (result : Result T DiskError) (height : ℕ) (text : Bytes) (v0 v3 v4 : DiskView) → IsSealed height text v0 v3 → Does (rename (Draft height) (Mark height)) result v3 v4 → OnOk result (HasWritten height text v0 v4)
 written (Err e) height text v0 v3 v4 sealed does = tt
 written (Ok x) height text v0 v3 v4 sealed does = record {
-  there = ap (λ (s : DiskState). s.files (Mark height)) does.state ∙ replaced_here (replaced v3.state.files (Draft height) None) (Mark height) (v3.state.files (Draft height)) (Mark height) (same_name_refl (Mark height)) ∙ sealed.content;
-  firm = ap (λ (s : DiskState). s.loose (Mark height)) does.state ∙ marked_here (marked v3.state.loose (Draft height) false) (Mark height) false (Mark height) (same_name_refl (Mark height));
+  there = ap (λ (s : DiskState). s.files (Mark height)) does.state ∙ replaced_here (files_with v3.state.files (Draft height) None) (Mark height) (v3.state.files (Draft height)) (Mark height) (same_name_refl (Mark height)) ∙ sealed.content;
+  firm = ap (λ (s : DiskState). s.loose (Mark height)) does.state ∙ marked_here (marks_with v3.state.loose (Draft height) false) (Mark height) false (Mark height) (same_name_refl (Mark height));
   no_draft = ap (λ (s : DiskState). s.files (Draft height)) does.state ∙ replaced_here v3.state.files (Draft height) None (Draft height) (same_name_refl (Draft height));
   settled = λ settled. done_settles (rename (Draft height) (Mark height)) v3 v4 does (sealed.settled settled);
   appended = does.appended ∙ sealed.appended;

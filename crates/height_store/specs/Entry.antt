@@ -12,7 +12,7 @@ use Rattle.store_spec.specs.Mark.{Mark, MarkMemory, FitsMemory, mark_text}
 use Rattle.page_spec.specs.PageFile.{PageIndex, index_text}
 use Rattle.disk_model.specs.declared.name.Name.{Name}
 use Rattle.disk_model.specs.declared.name.Name.TheVariants as name
-use Rattle.disk_model.specs.Files.{Files, same_name, replaced}
+use Rattle.disk_model.specs.Files.{Files, same_name, files_with}
 use Rattle.disk_model.specs.State.{DiskState, Shows, IsImageNow}
 use Rattle.disk_model.specs.View.{EachImage}
 use Rattle.disk_model.specs.Laws.{IsSound, same_name_eq, same_name_refl, replaced_here, replaced_apart, shows_more}
@@ -29,10 +29,10 @@ unfolding index_text
 no_page_file i pages e = absurd cc
 
 -- a loose file may be anything
-loose_image : (s : DiskState) (q : Name) (x : Option Bytes) → IsSound s → s.loose q ≡ true → IsImageNow s (replaced s.files q x)
+loose_image : (s : DiskState) (q : Name) (x : Option Bytes) → IsSound s → s.loose q ≡ true → IsImageNow s (files_with s.files q x)
 loose_image s q x sound loose = shows_more (λ f shows. shown f shows) s.outcomes sound
   where
-    shown : (f : Files) → Shows s.loose f s.files → Shows s.loose f (replaced s.files q x)
+    shown : (f : Files) → Shows s.loose f s.files → Shows s.loose f (files_with s.files q x)
     shown f shows = record {
       firm = λ r firm. elim (cases_Bool (same_name q r)) [
         | inl same ↦ absurd (false≢true (sym firm ∙ ap s.loose (sym (same_name_eq q r same)) ∙ loose))
@@ -91,13 +91,13 @@ page_not_empty image n h named good there empty stands =
 pub needed_firm : (hs : List StoredHeight) (s : DiskState) → AllByRecursion IsHeight hs → AllByRecursion (HasMark s.files) hs → IsSound s → EachImage s StandsForSome → (q : Name) → is_needed hs q ≡ true → s.loose q ≡ false
 needed_firm hs s good marks sound each (name.Mark n) needed = elim (cases_Bool (s.loose (name.Mark n))) [
   | inl loose ↦
-      let image : Files = replaced s.files (name.Mark n) (Some []) in
+      let image : Files = files_with s.files (name.Mark n) (Some []) in
       absurd (mark_not_empty image n (replaced_here s.files (name.Mark n) (Some []) (name.Mark n) (same_name_refl (name.Mark n))) (each image (loose_image s (name.Mark n) (Some []) sound loose)))
   | inr firm ↦ firm
 ]
 needed_firm hs s good marks sound each (name.Page n) needed = elim (cases_Bool (s.loose (name.Page n))) [
   | inl loose ↦
-      let image : Files = replaced s.files (name.Page n) (Some []) in
+      let image : Files = files_with s.files (name.Page n) (Some []) in
       let by = height_naming s.files n hs needed good marks in
       absurd (page_not_empty image n by.0 by.1 by.2 by.3 (replaced_here s.files (name.Page n) (Some []) (name.Page n) (same_name_refl (name.Page n))) (each image (loose_image s (name.Page n) (Some []) sound loose)))
   | inr firm ↦ firm

@@ -7,7 +7,7 @@ use Rattle.format_spec.specs.declared.limits.TheConstants.{PAGE_SIZE}
 use Rattle.state_spec.specs.State.{State, system_of, memory_bytes}
 use Rattle.state_spec.specs.Files.{memories_in}
 use Rattle.state_spec.specs.Memory.{pages_for}
-use Rattle.store_spec.specs.Image.{Published, HasTrueSums, opened}
+use Rattle.store_spec.specs.Image.{Published, HasTrueSums, opened_state}
 use Rattle.sys_state.specs.System.{part_of, kept_of}
 use Rattle.state_spec.specs.Root.{root_of}
 use Rattle.height_store.specs.Store.{StoredHeight, IsHeight, height_at}
@@ -19,12 +19,12 @@ pub record KnowsHeight (h : StoredHeight) (p : Published) : Type 0 where
   pub height : h.mark.height ≡ p.height
   pub version : p.state.version ≡ 1
   pub parts : system_of p.state ≡ part_of h.system
-  pub system : kept_of (opened p) ≡ h.system
-  pub bytes : memory_bytes (opened p) ≡ memory_bytes p.state
+  pub system : kept_of (opened_state p) ≡ h.system
+  pub bytes : memory_bytes (opened_state p) ≡ memory_bytes p.state
   pub sizes : map (λ bytes. length bytes) (memory_bytes p.state) ≡ map (λ m. m.1 * PAGE_SIZE) (memories_in (part_of h.system))
   pub sums : AllZip HasTrueSums h.mark.memories (memory_bytes p.state)
   pub root : h.mark.root ≡ root_of p.state
-  pub same_root : root_of (opened p) ≡ root_of p.state
+  pub same_root : root_of (opened_state p) ≡ root_of p.state
 
 -- the bytes of the memory at a place of a state, in the order of files
 abbrev pub IsMemoryAt : State → ℕ → Bytes → Type 0

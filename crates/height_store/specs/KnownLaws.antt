@@ -11,7 +11,7 @@ use Rattle.state_spec.specs.Root.{root_of, root_of_meta, meta_of}
 use Rattle.sys_state.specs.System.{part_of, kept_of}
 use Rattle.manifest.specs.Fits.{FitMemories}
 use Rattle.manifest.proofs.States.{of_state}
-use Rattle.store_spec.specs.Image.{Published, HasTrueSums, memories_from, opened}
+use Rattle.store_spec.specs.Image.{Published, HasTrueSums, memories_from, opened_state}
 use Rattle.store_spec.specs.Mark.{MarkMemory}
 use Rattle.disk_model.specs.Files.{Files}
 use Rattle.disk_model.specs.State.{DiskState}
@@ -61,22 +61,22 @@ module _ (files : Files) (h : StoredHeight) (p : Published) (shows : ShowsHeight
   long : FitMemories system (memory_bytes p.state)
   long = subst (FitMemories system) (sym bytes_made) fit
 
-  opened_is : opened p ≡ state_from p.state.version p.height system (memory_bytes p.state)
-  unfolding opened
+  opened_is : opened_state p ≡ state_from p.state.version p.height system (memory_bytes p.state)
+  unfolding opened_state
   opened_is = ap (λ (s : SystemPart). state_from p.state.version p.height s (memory_bytes p.state)) parts
 
   births : AllByRecursion (λ c. c.1.birth ≡ p.height) h.system.canisters
   births = subst (λ (n : ℕ). AllByRecursion (λ c. c.1.birth ≡ n) h.system.canisters) (sym shows.made.height) shows.good.births
 
-  opened_bytes : memory_bytes (opened p) ≡ memory_bytes p.state
+  opened_bytes : memory_bytes (opened_state p) ≡ memory_bytes p.state
   opened_bytes = ap memory_bytes opened_is ∙ made_bytes p.state.version p.height system (memory_bytes p.state) long
 
   sums : AllZip HasTrueSums h.mark.memories (memory_bytes p.state)
   sums = subst (AllZip HasTrueSums h.mark.memories) (sym bytes_made) shows.made.true_sums
 
-  manifest_same : manifest_of (opened p) ≡ manifest_of p.state
+  manifest_same : manifest_of (opened_state p) ≡ manifest_of p.state
   manifest_same =
-      sym (of_state (opened p) system (memory_bytes p.state) long
+      sym (of_state (opened_state p) system (memory_bytes p.state) long
       (ap (λ (s : State). s.version) opened_is ∙ made_version p.state.version p.height system (memory_bytes p.state) long ∙ version)
       (ap system_of opened_is ∙ made_parts p.state.version p.height system (memory_bytes p.state) long)
       opened_bytes)

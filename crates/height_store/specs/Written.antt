@@ -3,8 +3,8 @@ use Rattle.std.specs.Prelude.{◌≡◌, ◌⊎◌, ℕ, ◌+◌, Bool, true, fa
 use Rattle.format_spec.specs.Bytes.{Bytes}
 use Rattle.disk_model.specs.declared.name.Name.{Name}
 use Rattle.disk_model.specs.declared.name.Name.TheVariants as name
-use Rattle.disk_model.specs.Files.{Files, same_name, replaced}
-use Rattle.disk_model.specs.State.{DiskState, Shows, IsSettled, marked}
+use Rattle.disk_model.specs.Files.{Files, same_name, files_with}
+use Rattle.disk_model.specs.State.{DiskState, Shows, IsSettled, marks_with}
 use Rattle.disk_model.specs.View.{DiskView}
 
 -- the names that are given to write the mark of a height
@@ -13,12 +13,12 @@ is_of height q = same_name (name.Draft height) q || same_name (name.Mark height)
 
 -- the same files, and this mark
 abbrev pub with_mark : ℕ → Bytes → Files → Files
-with_mark height text files = replaced files (name.Mark height) (Some text)
+with_mark height text files = files_with files (name.Mark height) (Some text)
 
 -- the image has the files of this disk, or those and this mark, but for loose ones and the draft
 abbrev pub IsBeforeOrAfter : DiskState → ℕ → Bytes → Files → Type 0
 IsBeforeOrAfter s height text image =
-    let loose = marked s.loose (name.Draft height) true in
+    let loose = marks_with s.loose (name.Draft height) true in
     Shows loose s.files image ⊎ Shows loose (with_mark height text s.files) image
 
 -- the mark is written

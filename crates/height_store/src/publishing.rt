@@ -9,7 +9,7 @@ ghost use Rattle.store_spec.specs.Mark.{mark_text};
 ghost use Rattle.disk_model.specs.declared.name.Name.TheVariants as name;
 ghost use Rattle.disk_model.specs.Files.{same_name};
 ghost use Rattle.disk_model.specs.State.{IsSettled, IsAbsent};
-ghost use Rattle.disk_model.specs.Call.{counted};
+ghost use Rattle.disk_model.specs.Call.{count_after};
 ghost use Rattle.disk_model.specs.View.{LeavesOnly};
 ghost use Rattle.disk_model.specs.Frame.{TouchesOnly};
 ghost use Rattle.page_file.specs.Files.{IsAsKnown};
@@ -167,7 +167,7 @@ fn write_mark<D: Disk>(
     ensures touches { IsTrue D.tells → TouchesOnly (is_of height) (D.view disk.old) (D.view disk.new) }
     ensures read { IsTrue D.tells → (D.view disk.new).bytes_read ≡ (D.view disk.old).bytes_read }
     ensures faults { D.faults disk.old ≤ D.faults disk.new }
-    ensures fault { IsErrOf result DiskError.Fault → counted (D.faults disk.old) 1 ≤ D.faults disk.new }
+    ensures fault { IsErrOf result DiskError.Fault → count_after (D.faults disk.old) 1 ≤ D.faults disk.new }
 {
     let draft = Name::Draft(height);
     disk.create(alloc, draft)?;

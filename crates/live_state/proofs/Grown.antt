@@ -12,7 +12,7 @@ use Rattle.sys_state.specs.declared.error.SysError.{SysError}
 use Rattle.sys_state.specs.declared.mem.Mem.{Mem}
 use Rattle.sys_state.specs.declared.mem.Mem.TheVariants.{Heap, Stable}
 use Rattle.sys_state.specs.declared.record.CanisterRecord.{CanisterRecord}
-use Rattle.tree_spec.specs.Labelled.{Children, canister_children, labelled, put_node, state_tree, with_canisters}
+use Rattle.tree_spec.specs.Labelled.{Children, canister_children, root_children, put_node, state_tree, with_canisters}
 use Rattle.hash_tree.specs.declared.tree.HashTree.{HashTree}
 use Rattle.hash_tree.specs.View.{tree_view}
 use Rattle.live_state.specs.Changes.{Alters}
@@ -36,7 +36,7 @@ module _ (back : List (Bytes × CanisterRecord)) (id : Bytes) (mem : Mem) (more 
   same_node (f ∷ front) children = ap (λ (below : Children). put_node (codes "canister") (λ before. below) children) (same_children (f ∷ front))
 
 same_tree : (old new : System) (id : Bytes) (mem : Mem) (more : ℕ) → calls.Changes old new id (calls.extended mem more) → state_tree (part_of new) ≡ state_tree (part_of old)
-unfolding state_tree labelled
+unfolding state_tree root_children
 same_tree old new id mem more h =
     let time : new.time ≡ old.time = ap (λ (s : System). s.time) h.now in
     let entries : new.entries ≡ old.entries = ap (λ (s : System). s.entries) h.now in

@@ -8,7 +8,7 @@ use Rattle.format_spec.specs.declared.limits.TheConstants.{PAGE_SIZE}
 use Rattle.std.proofs.Common.{Some}
 use Rattle.std.specs.FinMap.{find}
 use Rattle.format_spec.specs.Bytes.{bytes_cmp}
-use Rattle.sys_state.specs.Calls.{pages_of, extended, newborn, Creates, Removes, Changes}
+use Rattle.sys_state.specs.Calls.{pages_of, with_more_pages, newborn, Creates, Removes, Changes}
 use Rattle.sys_state.specs.Places.{place_of, Stands}
 use Rattle.sys_state.specs.System.{System}
 use Rattle.sys_state.specs.declared.mem.Mem.{Mem}
@@ -76,7 +76,7 @@ size_at cs before after id c ms n mem d h split count =
 -- ---- sizes after a change
 
 pub resized : (cs new before after : List (Bytes × CanisterRecord)) (id : Bytes) (c : CanisterRecord) (ms : List Bytes) (n : ℕ) (mem : Mem) (more : ℕ) (x : Bytes) → HaveSizes cs ms
-    → cs ≡ before ++ (id, c) ∷ after → new ≡ before ++ (id, extended mem more c) ∷ after → length before ≡ n → length x ≡ (pages_of mem c + more) * PAGE_SIZE
+    → cs ≡ before ++ (id, c) ∷ after → new ≡ before ++ (id, with_more_pages mem more c) ∷ after → length before ≡ n → length x ≡ (pages_of mem c + more) * PAGE_SIZE
     → HaveSizes new (set ms (index_of n mem) x)
 resized cs new before after id c ms n mem more x h split now count size =
     let sizes : map (λ (bytes : Bytes). length bytes) ms ≡ sizes_of before ++ c.heap * PAGE_SIZE ∷ c.stable * PAGE_SIZE ∷ sizes_of after = h ∙ ap sizes_of split ∙ split_sizes before after id c in
@@ -84,9 +84,9 @@ resized cs new before after id c ms n mem more x h split now count size =
     map-set (λ (bytes : Bytes). length bytes) ms (index_of n mem) x ∙ ap (λ l. set l (index_of n mem) (length x)) sizes
     ∙ pair_set (sizes_of before) (sizes_of after) (c.heap * PAGE_SIZE) (c.stable * PAGE_SIZE) (length x) n mem front
     ∙ extended_sizes mem size
-    ∙ sym (ap sizes_of now ∙ split_sizes before after id (extended mem more c))
+    ∙ sym (ap sizes_of now ∙ split_sizes before after id (with_more_pages mem more c))
   where
-    extended_sizes : (mem : Mem) → length x ≡ (pages_of mem c + more) * PAGE_SIZE → sizes_of before ++ heap_with mem (c.heap * PAGE_SIZE) (length x) ∷ stable_with mem (c.stable * PAGE_SIZE) (length x) ∷ sizes_of after ≡ sizes_of before ++ (extended mem more c).heap * PAGE_SIZE ∷ (extended mem more c).stable * PAGE_SIZE ∷ sizes_of after
+    extended_sizes : (mem : Mem) → length x ≡ (pages_of mem c + more) * PAGE_SIZE → sizes_of before ++ heap_with mem (c.heap * PAGE_SIZE) (length x) ∷ stable_with mem (c.stable * PAGE_SIZE) (length x) ∷ sizes_of after ≡ sizes_of before ++ (with_more_pages mem more c).heap * PAGE_SIZE ∷ (with_more_pages mem more c).stable * PAGE_SIZE ∷ sizes_of after
     extended_sizes Heap e = ap (λ k. sizes_of before ++ k ∷ c.stable * PAGE_SIZE ∷ sizes_of after) e
     extended_sizes Stable e = ap (λ k. sizes_of before ++ c.heap * PAGE_SIZE ∷ k ∷ sizes_of after) e
 
@@ -147,7 +147,7 @@ module _ {V : Type 0} (bytes : V → Bytes) (vs : List V) where
       let within : index_of n mem < length vs = subst (λ (k : ℕ). index_of n mem < k) (length-map vs bytes) all.0 in
       (within, ap length (sym (get_or-map bytes vs (index_of n mem) d (bytes d) within)) ∙ all.1 ∙ ap (λ (x : CanisterRecord). pages_of mem x * PAGE_SIZE) value)
 
-pub sized_change : (old new : System) (id : Bytes) (n : ℕ) (mem : Mem) (more : ℕ) (ms now : List Bytes) (x : Bytes) → HaveSizes old.canisters ms → Changes old new id (extended mem more) → place_of bytes_cmp id old.canisters ≡ n
+pub sized_change : (old new : System) (id : Bytes) (n : ℕ) (mem : Mem) (more : ℕ) (ms now : List Bytes) (x : Bytes) → HaveSizes old.canisters ms → Changes old new id (with_more_pages mem more) → place_of bytes_cmp id old.canisters ≡ n
     → ((c : CanisterRecord) → find bytes_cmp id old.canisters ≡ Some c → length x ≡ (pages_of mem c + more) * PAGE_SIZE) → now ≡ set ms (index_of n mem) x → HaveSizes new.canisters now
 sized_change old new id n mem more ms now x h c place size e =
     subst (HaveSizes new.canisters) (sym e) (resized old.canisters new.canisters c.split.before c.split.after id c.c ms n mem more x h c.split.old_is c.split.new_is (c.split.count ∙ place) (size c.c c.was))

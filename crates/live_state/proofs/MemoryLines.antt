@@ -23,12 +23,12 @@ use Rattle.sys_state.specs.declared.record.CanisterRecord.{CanisterRecord}
 use Rattle.script_text.specs.declared.reply.Reply.{Reply}
 use Rattle.script_text.specs.declared.reply.Reply.TheVariants.{Refused}
 use Rattle.script_text.specs.declared.reply.Refusal.TheVariants as refusals
-use Rattle.machine_spec.specs.LiveSteps.{grow_step, write_step, read_reply, bytes_told, canister_told}
+use Rattle.machine_spec.specs.LiveSteps.{grow_step, write_step, read_reply, reply_of_bytes, reply_of_canister}
 use Rattle.machine_spec.specs.Machine.{Machine, Outcome, now_live, unless, unless_none}
 use Rattle.machine_spec.specs.States.{canister_in, with_canister, memory_of, with_memory, pages_with, state_pages}
 use Rattle.live_state.specs.Changes.{Alters}
 use Rattle.live_state.specs.StateKept.{StateView, KeepsState, AfterState, live_of}
-use Rattle.live_state.specs.Memories.{pages_more, written, write_refusal}
+use Rattle.live_state.specs.Memories.{pages_more, bytes_after_write, write_refusal}
 use Rattle.live_state.specs.Places.{index_of}
 use Rattle.live_state.proofs.Indexed.{pick, heap_with, stable_with, pair_get, pair_set}
 use Rattle.live_state.proofs.Keeping.{SameBeside, found_there, kept_same, kept_change, bytes_in, length-bytes, bytes-append}
@@ -82,7 +82,7 @@ some_bytes b w = grind arith
 behind : (p q : ℕ) → max p q ≡ p + (max p q - p)
 behind p q = omega arith
 
-pub write_is : (round : ℕ) (m : Memory) (at : ℕ) (w : Bytes) → written m.bytes at w ≡ (write round m at w).bytes
+pub write_is : (round : ℕ) (m : Memory) (at : ℕ) (w : Bytes) → bytes_after_write m.bytes at w ≡ (write round m at w).bytes
 write_is round m at [] = sym (ap (λ (x : Memory). x.bytes) (write_none round m at))
 write_is round m at (b ∷ w) = rw (some_bytes b w) (sym (write_bytes round m at (b ∷ w) (omega arith)))
 
@@ -163,13 +163,13 @@ module _ (old now : StateView) (m : Machine) (k : KeepsState old (live_of m)) (b
 
   pub step_write : (at pages : ℕ) (w : Bytes) (r : CanisterRecord) (x : Bytes) (result : Result Reply NoMemory) → calls.canister_in old.system id ≡ Some r → pages ≡ calls.pages_of mem r → pages ≤ MAX_MEMORY_PAGES
       → Alters (write_refusal old.system id mem pages at (length w)) result
-      (calls.Changes old.system now.system id (calls.extended mem (pages_more pages at (length w))) × (now.memories ≡ set old.memories (index_of (place_of bytes_cmp id old.system.canisters) mem) x) × (x ≡ written (get_or old.memories (index_of (place_of bytes_cmp id old.system.canisters) mem) []) at w))
+      (calls.Changes old.system now.system id (calls.extended mem (pages_more pages at (length w))) × (now.memories ≡ set old.memories (index_of (place_of bytes_cmp id old.system.canisters) mem) x) × (x ≡ bytes_after_write (get_or old.memories (index_of (place_of bytes_cmp id old.system.canisters) mem) []) at w))
       (Same old now)
       → AfterState result now (write_step m id mem at w)
   step_write at pages w r x result there pages_is few h =
       let its = its_canister r there in
       let c : Canister = its.0 in
-      let done : Type 0 = calls.Changes old.system now.system id (calls.extended mem (pages_more pages at (length w))) × (now.memories ≡ set old.memories (index_of (place_of bytes_cmp id old.system.canisters) mem) x) × (x ≡ written (get_or old.memories (index_of (place_of bytes_cmp id old.system.canisters) mem) []) at w) in
+      let done : Type 0 = calls.Changes old.system now.system id (calls.extended mem (pages_more pages at (length w))) × (now.memories ≡ set old.memories (index_of (place_of bytes_cmp id old.system.canisters) mem) x) × (x ≡ bytes_after_write (get_or old.memories (index_of (place_of bytes_cmp id old.system.canisters) mem) []) at w) in
       let full : Bool = nat_lt (MAX_MEMORY_PAGES * PAGE_SIZE) (at + length w) in
       let more : Bool = nat_lt (state_limit m.live.version) (state_pages m.live + (pages_with (memory_of c mem) at (length w) - pages_of (memory_of c mem))) in
       let why = same_if full (Some errors.MemoryFull) (calls.extend_refusal old.system id mem (pages_more pages at (length w))) (if more then Some errors.StateFull else None) (only_state at (length w) pages r c there its.2 pages_is few) in
@@ -178,7 +178,7 @@ module _ (old now : StateView) (m : Machine) (k : KeepsState old (live_of m)) (b
       subst (λ (o : Option Canister). AfterState result now (unless_none o refusals.NoCanister m (λ c. unless ((nat_lt (memory_limit m.live.version * PAGE_SIZE) (at + length w), refusals.MemoryFull) ∷ (nat_lt (state_limit m.live.version) (state_pages m.live + (pages_with (memory_of c mem) at (length w) - pages_of (memory_of c mem))), refusals.StateFull) ∷ []) m (λ m. now_live m (with_canister m.live id (with_memory c mem (write m.height (memory_of c mem) at w))))))) (sym its.1)
       (alters_two full more errors.MemoryFull errors.StateFull refusals.MemoryFull refusals.StateFull result now m
       (λ m. now_live m (with_canister m.live id (with_memory c mem (write m.height (memory_of c mem) at w)))) done (Same old now) refl refl f same
-      (λ d. (refl, kept_memory c (write m.height (memory_of c mem) at w) (pages_more pages at (length w)) x its.1 (more_is m.height (memory_of c mem) at w ∙ ap (λ (p : ℕ). pages_of (memory_of c mem) + pages_more p at (length w)) (sym of_memory)) d.0 d.1 (λ was. d.2 ∙ ap (λ (b : Bytes). written b at w) was ∙ write_is m.height (memory_of c mem) at w))))
+      (λ d. (refl, kept_memory c (write m.height (memory_of c mem) at w) (pages_more pages at (length w)) x its.1 (more_is m.height (memory_of c mem) at w ∙ ap (λ (p : ℕ). pages_of (memory_of c mem) + pages_more p at (length w)) (sym of_memory)) d.0 d.1 (λ was. d.2 ∙ ap (λ (b : Bytes). bytes_after_write b at w) was ∙ write_is m.height (memory_of c mem) at w))))
 
 -- a canister that the system lacks isn't there
 absent : (held : StateView) (k : ℕ × State) → KeepsState held k → (id : Bytes) → calls.canister_in held.system id ≡ None → canister_in k.1 id ≡ None
@@ -194,7 +194,7 @@ absent_there held m k id act h =
     subst (λ (o : Option Canister). (Refused refusals.NoCanister ≡ (unless_none o refusals.NoCanister m act).reply) × KeepsState held (live_of (unless_none o refusals.NoCanister m act).after)) (sym (absent held (live_of m) k id h)) (refl, k)
 
 pub reads_nowhere : (held : StateView) (k : ℕ × State) → KeepsState held k → (id : Bytes) (mem : Mem) (from len : ℕ) → calls.canister_in held.system id ≡ None → Refused refusals.NoCanister ≡ read_reply k.1 id mem from len
-reads_nowhere held k keeps id mem from len h = sym (ap (λ (o : Option Canister). canister_told o mem from len) (absent held k keeps id h))
+reads_nowhere held k keeps id mem from len h = sym (ap (λ (o : Option Canister). reply_of_canister o mem from len) (absent held k keeps id h))
 
 -- the canister of a state, and the bytes of one of its memories
 pub record IsThere (held : StateView) (state : State) (id : Bytes) (n : ℕ) (mem : Mem) : Type 0 where
@@ -216,8 +216,8 @@ is_there held k keeps id n mem s =
 
 -- `read` of a state finds the canister
 module _ (held : StateView) (k : ℕ × State) (keeps : KeepsState held k) (id : Bytes) (n : ℕ) (mem : Mem) (s : Stands bytes_cmp id held.system.canisters n) (from len : ℕ) where
-  read_by : (t : IsThere held k.1 id n mem) → read_reply k.1 id mem from len ≡ bytes_told (memory_of t.canister mem) from len
-  read_by t = ap (λ (o : Option Canister). canister_told o mem from len) t.found
+  read_by : (t : IsThere held k.1 id n mem) → read_reply k.1 id mem from len ≡ reply_of_bytes (memory_of t.canister mem) from len
+  read_by t = ap (λ (o : Option Canister). reply_of_canister o mem from len) t.found
 
   abbrev told_by : Bool → Memory → Reply
   told_by past memory = if past then Refused refusals.PastEnd else replies.Bytes (read memory from len)

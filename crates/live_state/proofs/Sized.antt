@@ -17,7 +17,7 @@ use Rattle.sys_state.specs.declared.mem.Mem.{Mem}
 use Rattle.sys_state.specs.declared.record.CanisterRecord.{CanisterRecord}
 use Rattle.script_text.specs.declared.reply.Reply.{Reply}
 use Rattle.live_state.specs.Changes.{Alters}
-use Rattle.live_state.specs.Memories.{pages_more, written}
+use Rattle.live_state.specs.Memories.{pages_more, bytes_after_write}
 use Rattle.live_state.specs.Places.{index_of}
 use Rattle.live_state.specs.Sizes.{HaveSizes}
 use Rattle.live_state.proofs.Indexed.{sized_create, sized_remove, sized_same, sized_change, set_bytes, set_same, vector_size, size_at}
@@ -38,11 +38,11 @@ after_remove why result old new id ms now h a =
     alters_keeps why result (calls.Removes old new id × (now ≡ take (2 * place_of bytes_cmp id old.canisters) ms ++ drop 2 (drop (2 * place_of bytes_cmp id old.canisters) ms))) ((new ≡ old) × (now ≡ ms)) (HaveSizes new.canisters now) a
     (λ d. sized_remove old new id ms now h d.0 d.1) (λ s. sized_same old new ms now h s.0 s.1)
 
-length_written : (s : Bytes) (p at : ℕ) (w : Bytes) → length s ≡ p * PAGE_SIZE → length (written s at w) ≡ (p + pages_more p at (length w)) * PAGE_SIZE
+length_written : (s : Bytes) (p at : ℕ) (w : Bytes) → length s ≡ p * PAGE_SIZE → length (bytes_after_write s at w) ≡ (p + pages_more p at (length w)) * PAGE_SIZE
 length_written s p at [] h = h ∙ omega arith
 length_written s p at (b ∷ w) h =
     let m : Memory = record { bytes = s; rounds = [] } in
-    let long : length (written s at (b ∷ w)) ≡ max (length s) (pages_for (at + length (b ∷ w)) * PAGE_SIZE) = ap length (write_is 0 m at (b ∷ w)) ∙ write_length 0 m at (b ∷ w) (omega arith) in
+    let long : length (bytes_after_write s at (b ∷ w)) ≡ max (length s) (pages_for (at + length (b ∷ w)) * PAGE_SIZE) = ap length (write_is 0 m at (b ∷ w)) ∙ write_length 0 m at (b ∷ w) (omega arith) in
     let more : pages_more p at (length (b ∷ w)) ≡ max p (pages_for (at + length (b ∷ w))) - p = rw (some_bytes b w) refl in
     long ∙ omega (arith, h, more)
 
@@ -65,10 +65,10 @@ module _ {V : Type 0} (bytes : V → Bytes) (vs : List V) (old new : System) (id
       (λ g. sized_same old new (map bytes vs) (map bytes (set vs (index_of n mem) v)) h g.0 (set_same bytes vs (index_of n mem) v d g.1))
 
   pub after_write : (why : Option SysError) (result : Result Reply NoMemory) (p at : ℕ) (w : Bytes) → p * PAGE_SIZE ≡ length (bytes (get_or vs (index_of n mem) d))
-      → Alters why result (calls.Changes old new id (calls.extended mem (pages_more p at (length w))) × (bytes v ≡ written (bytes (get_or vs (index_of n mem) d)) at w)) ((new ≡ old) × (bytes v ≡ bytes (get_or vs (index_of n mem) d)))
+      → Alters why result (calls.Changes old new id (calls.extended mem (pages_more p at (length w))) × (bytes v ≡ bytes_after_write (bytes (get_or vs (index_of n mem) d)) at w)) ((new ≡ old) × (bytes v ≡ bytes (get_or vs (index_of n mem) d)))
       → HaveSizes new.canisters (map bytes (set vs (index_of n mem) v))
   after_write why result p at w pages a =
-      alters_keeps why result (calls.Changes old new id (calls.extended mem (pages_more p at (length w))) × (bytes v ≡ written (bytes (get_or vs (index_of n mem) d)) at w)) ((new ≡ old) × (bytes v ≡ bytes (get_or vs (index_of n mem) d))) (HaveSizes new.canisters (map bytes (set vs (index_of n mem) v))) a
+      alters_keeps why result (calls.Changes old new id (calls.extended mem (pages_more p at (length w))) × (bytes v ≡ bytes_after_write (bytes (get_or vs (index_of n mem) d)) at w)) ((new ≡ old) × (bytes v ≡ bytes (get_or vs (index_of n mem) d))) (HaveSizes new.canisters (map bytes (set vs (index_of n mem) v))) a
       (λ g. sized_change old new id n mem (pages_more p at (length w)) (map bytes vs) (map bytes (set vs (index_of n mem) v)) (bytes v) h g.0 s.place
       (λ c f. let same : calls.pages_of mem c ≡ p = omega (arith, (vector_size bytes vs old id n mem d c h s f).1, pages) in
       ap length g.1 ∙ length_written (bytes (get_or vs (index_of n mem) d)) p at w (sym pages) ∙ ap (λ (q : ℕ). (q + pages_more p at (length w)) * PAGE_SIZE) (sym same)) (set_bytes bytes vs (index_of n mem) v))
@@ -112,19 +112,19 @@ module _ {V : Type 0} (bytes : V → Bytes) (vs : List V) (old new : System) (id
         (λ g. (g.0, is_set, g.1 ∙ ap (λ (b : Bytes). b ++ zeros (more * PAGE_SIZE)) was)) (λ g. (g.0, is_same g.1))
 
     pub keeps_write : (why : Option SysError) (result : Result Reply NoMemory) (p at : ℕ) (w : Bytes) → p * PAGE_SIZE ≡ length (bytes d)
-        → Alters why result (calls.Changes old new id (calls.extended mem (pages_more p at (length w))) × (bytes v ≡ written (bytes d) at w)) ((new ≡ old) × (bytes v ≡ bytes d))
+        → Alters why result (calls.Changes old new id (calls.extended mem (pages_more p at (length w))) × (bytes v ≡ bytes_after_write (bytes d) at w)) ((new ≡ old) × (bytes v ≡ bytes d))
         → HaveSizes new.canisters (map bytes (set vs i v))
     keeps_write why result p at w pages a =
         subst (λ (j : ℕ). HaveSizes new.canisters (map bytes (set vs j v))) (sym e) (after_write why result p at w (pages ∙ ap (λ (b : Bytes). length b) here)
-        (alters_map why result (calls.Changes old new id (calls.extended mem (pages_more p at (length w))) × (bytes v ≡ written (bytes d) at w)) ((new ≡ old) × (bytes v ≡ bytes d))
-        (calls.Changes old new id (calls.extended mem (pages_more p at (length w))) × (bytes v ≡ written (bytes (get_or vs (index_of n mem) d)) at w)) ((new ≡ old) × (bytes v ≡ bytes (get_or vs (index_of n mem) d))) a
-        (λ g. (g.0, g.1 ∙ ap (λ (b : Bytes). written b at w) here)) (λ g. (g.0, g.1 ∙ here))))
+        (alters_map why result (calls.Changes old new id (calls.extended mem (pages_more p at (length w))) × (bytes v ≡ bytes_after_write (bytes d) at w)) ((new ≡ old) × (bytes v ≡ bytes d))
+        (calls.Changes old new id (calls.extended mem (pages_more p at (length w))) × (bytes v ≡ bytes_after_write (bytes (get_or vs (index_of n mem) d)) at w)) ((new ≡ old) × (bytes v ≡ bytes (get_or vs (index_of n mem) d))) a
+        (λ g. (g.0, g.1 ∙ ap (λ (b : Bytes). bytes_after_write b at w) here)) (λ g. (g.0, g.1 ∙ here))))
 
     pub steps_write : (why : Option SysError) (result : Result Reply NoMemory) (p at : ℕ) (w : Bytes)
-        → Alters why result (calls.Changes old new id (calls.extended mem (pages_more p at (length w))) × (bytes v ≡ written (bytes d) at w)) ((new ≡ old) × (bytes v ≡ bytes d))
-        → Alters why result (calls.Changes old new id (calls.extended mem (pages_more p at (length w))) × (map bytes (set vs i v) ≡ set (map bytes vs) (index_of (place_of bytes_cmp id old.canisters) mem) (bytes v)) × (bytes v ≡ written (get_or (map bytes vs) (index_of (place_of bytes_cmp id old.canisters) mem) []) at w)) ((new ≡ old) × (map bytes (set vs i v) ≡ map bytes vs))
+        → Alters why result (calls.Changes old new id (calls.extended mem (pages_more p at (length w))) × (bytes v ≡ bytes_after_write (bytes d) at w)) ((new ≡ old) × (bytes v ≡ bytes d))
+        → Alters why result (calls.Changes old new id (calls.extended mem (pages_more p at (length w))) × (map bytes (set vs i v) ≡ set (map bytes vs) (index_of (place_of bytes_cmp id old.canisters) mem) (bytes v)) × (bytes v ≡ bytes_after_write (get_or (map bytes vs) (index_of (place_of bytes_cmp id old.canisters) mem) []) at w)) ((new ≡ old) × (map bytes (set vs i v) ≡ map bytes vs))
     steps_write why result p at w a =
-        alters_map why result (calls.Changes old new id (calls.extended mem (pages_more p at (length w))) × (bytes v ≡ written (bytes d) at w)) ((new ≡ old) × (bytes v ≡ bytes d))
-        (calls.Changes old new id (calls.extended mem (pages_more p at (length w))) × (map bytes (set vs i v) ≡ set (map bytes vs) (index_of (place_of bytes_cmp id old.canisters) mem) (bytes v)) × (bytes v ≡ written (get_or (map bytes vs) (index_of (place_of bytes_cmp id old.canisters) mem) []) at w)) ((new ≡ old) × (map bytes (set vs i v) ≡ map bytes vs)) a
-        (λ g. (g.0, is_set, g.1 ∙ ap (λ (b : Bytes). written b at w) was)) (λ g. (g.0, is_same g.1))
+        alters_map why result (calls.Changes old new id (calls.extended mem (pages_more p at (length w))) × (bytes v ≡ bytes_after_write (bytes d) at w)) ((new ≡ old) × (bytes v ≡ bytes d))
+        (calls.Changes old new id (calls.extended mem (pages_more p at (length w))) × (map bytes (set vs i v) ≡ set (map bytes vs) (index_of (place_of bytes_cmp id old.canisters) mem) (bytes v)) × (bytes v ≡ bytes_after_write (get_or (map bytes vs) (index_of (place_of bytes_cmp id old.canisters) mem) []) at w)) ((new ≡ old) × (map bytes (set vs i v) ≡ map bytes vs)) a
+        (λ g. (g.0, is_set, g.1 ∙ ap (λ (b : Bytes). bytes_after_write b at w) was)) (λ g. (g.0, is_same g.1))
     -- the bytes of the memory, as the manager holds them

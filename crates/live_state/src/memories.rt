@@ -2,10 +2,10 @@
 
 ghost use Rattle.std.specs.Prelude.{◌≡◌, ◌+◌, ◌*◌, ◌/◌, ◌<◌, ◌≤◌, ◌∷◌, ◌++◌, [], map, take, drop, length, vec_len, vec_capacity, Some, IfSome, IfOk, OnOk};
 ghost use Rattle.format_spec.specs.declared.limits.TheConstants.{PAGE_SIZE, MAX_MEMORY_PAGES};
-ghost use Rattle.state_spec.specs.Memory.{overwritten, extended, zeros, pages_for};
-ghost use Rattle.sys_state.specs.Calls.{Changes, extended as extended_record, extend_refusal, canister_in, pages_of};
+ghost use Rattle.state_spec.specs.Memory.{with_bytes_at, with_zeros_up_to, zeros, pages_for};
+ghost use Rattle.sys_state.specs.Calls.{Changes, with_zeros_up_to as extended_record, extend_refusal, canister_in, pages_of};
 ghost use Rattle.live_state.specs.Changes.{Alters};
-ghost use Rattle.live_state.specs.Memories.{pages_more, written, write_refusal};
+ghost use Rattle.live_state.specs.Memories.{pages_more, bytes_after_write, write_refusal};
 
 use crate::refusals::reply_to;
 use byte_codec::NoMemory;
@@ -42,7 +42,7 @@ pub fn remove_pair(memories: &mut Vec<Vec<u8>>, place: usize)
 // Grows a memory to so many bytes, with zeros, where it has fewer.
 fn extend_to(memory: &mut Vec<u8>, size: usize)
     requires { size ≤ vec_capacity memory.old }
-    ensures { memory.new.items ≡ extended memory.old.items size }
+    ensures { memory.new.items ≡ with_zeros_up_to memory.old.items size }
 {
     if size > memory.len() && memory.resize(size, 0).is_err() {
         unreachable!();
@@ -52,7 +52,7 @@ fn extend_to(memory: &mut Vec<u8>, size: usize)
 // Writes bytes into a memory that holds their place.
 fn write_at(memory: &mut Vec<u8>, at: usize, bytes: &[u8])
     requires { at + length bytes.now ≤ vec_len memory.old }
-    ensures { memory.new.items ≡ overwritten memory.old.items at bytes.now }
+    ensures { memory.new.items ≡ with_bytes_at memory.old.items at bytes.now }
 {
     let room = &mut memory[at..at + bytes.len()];
     room.copy_from_slice(bytes);
@@ -110,7 +110,7 @@ fn missing_pages(length: usize, at: usize, n: usize) -> u64
 fn place_bytes(memory: &mut Vec<u8>, at: usize, bytes: &[u8])
     requires within { at + length bytes.now ≤ MAX_MEMORY_PAGES * PAGE_SIZE }
     requires room { 0 < length bytes.now → pages_for (at + length bytes.now) * PAGE_SIZE ≤ vec_capacity memory.old }
-    ensures { memory.new.items ≡ written memory.old.items at bytes.now }
+    ensures { memory.new.items ≡ bytes_after_write memory.old.items at bytes.now }
 {
     if bytes.is_empty() {
         return;
@@ -133,7 +133,7 @@ fn write_within(
     requires within { at + length bytes.now ≤ MAX_MEMORY_PAGES * PAGE_SIZE }
     ensures { let more = pages_more (vec_len memory.old / PAGE_SIZE) at (length bytes.now) in
         Alters (extend_refusal sys.old id.now mem more) result
-        (Changes sys.old sys.new id.now (extended_record mem more) × (memory.new.items ≡ written memory.old.items at bytes.now))
+        (Changes sys.old sys.new id.now (extended_record mem more) × (memory.new.items ≡ bytes_after_write memory.old.items at bytes.now))
         ((sys.new ≡ sys.old) × (memory.new.items ≡ memory.old.items)) }
 {
     let pages = missing_pages(memory.len(), at, bytes.len());
@@ -157,7 +157,7 @@ pub fn write_memory(
     requires { IfSome (canister_in sys.old id.now) (λ c. vec_len memory.old ≡ pages_of mem c * PAGE_SIZE) }
     ensures { let pages = vec_len memory.old / PAGE_SIZE in
         Alters (write_refusal sys.old id.now mem pages offset (length bytes.now)) result
-        (Changes sys.old sys.new id.now (extended_record mem (pages_more pages offset (length bytes.now))) × (memory.new.items ≡ written memory.old.items offset bytes.now))
+        (Changes sys.old sys.new id.now (extended_record mem (pages_more pages offset (length bytes.now))) × (memory.new.items ≡ bytes_after_write memory.old.items offset bytes.now))
         ((sys.new ≡ sys.old) × (memory.new.items ≡ memory.old.items)) }
 {
     let limit = (MAX_MEMORY_PAGES * PAGE_SIZE) as u64;

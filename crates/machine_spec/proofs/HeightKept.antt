@@ -10,7 +10,7 @@ use Rattle.script_text.specs.declared.command.HeightOrLive.{HeightOrLive}
 use Rattle.script_text.specs.declared.reply.Reply.{Reply}
 use Rattle.script_text.specs.declared.reply.Reply.TheVariants as replies
 use Rattle.script_text.specs.declared.reply.Refusal.TheVariants.{ManyHeights, HeightLimit, HeightLow, ManyMarks, NoHeight, LastHeight}
-use Rattle.machine_spec.specs.Machine.{Machine, answered, unless, unless_none, kept_at, without_height, state_at, newest, published_at, resumed_at}
+use Rattle.machine_spec.specs.Machine.{Machine, outcome_of, unless, unless_none, kept_at, without_height, state_at, newest, published_at, resumed_at}
 use Rattle.machine_spec.specs.States.{memories_of}
 use Rattle.machine_spec.specs.HeightSteps.{round_step, forget_step, tree_root}
 use Rattle.machine_spec.specs.StoreSteps.{is_low, is_newest, checkpoint_step, purge_step, reset_step}
@@ -30,8 +30,8 @@ Below a b = a < b
 
 -- ---- answers
 
-pub asked_kept : (m : Machine) (at : HeightOrLive) (reply : State → Reply) → IsSound m → IsSound (unless_none (state_at m at) NoHeight m (λ s. answered (reply s) m)).after
-asked_kept m at reply s = if_some IsSound (state_at m at) NoHeight m (λ t. answered (reply t) m) s (λ t _. s)
+pub asked_kept : (m : Machine) (at : HeightOrLive) (reply : State → Reply) → IsSound m → IsSound (unless_none (state_at m at) NoHeight m (λ s. outcome_of (reply s) m)).after
+asked_kept m at reply s = if_some IsSound (state_at m at) NoHeight m (λ t. outcome_of (reply t) m) s (λ t _. s)
 
 -- ---- round
 
@@ -65,7 +65,7 @@ round_sound m s few =
 pub round_kept : (m : Machine) → IsSound m → IsSound (round_step m).after
 round_kept m s =
     if_not_refused IsSound ((nat_le MAX_HEIGHTS (length m.memory), ManyHeights) ∷ (nat_lt MAX_HEIGHT m.height, HeightLimit) ∷ []) m
-    (λ m. answered (replies.Round m.height (tree_root m.live)) (record m { height = m.height + 1; memory = m.memory ++ (m.height, m.live) ∷ [] })) s
+    (λ m. outcome_of (replies.Round m.height (tree_root m.live)) (record m { height = m.height + 1; memory = m.memory ++ (m.height, m.live) ∷ [] })) s
     (λ no. round_sound m s (leb-false MAX_HEIGHTS (length m.memory) no.0))
 
 -- ---- forget
@@ -102,7 +102,7 @@ forget_sound m h s =
 pub forget_kept : (m : Machine) (h : ℕ) → IsSound m → IsSound (forget_step m h).after
 forget_kept m h s =
     if_not_refused IsSound ((not (is_some (kept_at h m.memory)), NoHeight) ∷ []) m
-    (λ m. answered replies.Fine (record m { memory = without_height h m.memory })) s (λ no. forget_sound m h s)
+    (λ m. outcome_of replies.Fine (record m { memory = without_height h m.memory })) s (λ no. forget_sound m h s)
 
 -- ---- checkpoint
 
@@ -143,12 +143,12 @@ checkpoint_kept m s =
     (is_low k.0 m.published, HeightLow)
     ∷ (nat_le MAX_PUBLISHED (length m.published), ManyMarks)
     ∷ []
-    ) m (λ m. answered (replies.Published k.0 (root_of k.1)) (record m { published = m.published ++ record { height = k.0; state = k.1; layers = whole_layers k.1 } ∷ [] }))) s (λ k last.
+    ) m (λ m. outcome_of (replies.Published k.0 (root_of k.1)) (record m { published = m.published ++ record { height = k.0; state = k.1; layers = whole_layers k.1 } ∷ [] }))) s (λ k last.
     if_not_refused IsSound (
     (is_low k.0 m.published, HeightLow)
     ∷ (nat_le MAX_PUBLISHED (length m.published), ManyMarks)
     ∷ []
-    ) m (λ m. answered (replies.Published k.0 (root_of k.1)) (record m { published = m.published ++ record { height = k.0; state = k.1; layers = whole_layers k.1 } ∷ [] })) s (λ no.
+    ) m (λ m. outcome_of (replies.Published k.0 (root_of k.1)) (record m { published = m.published ++ record { height = k.0; state = k.1; layers = whole_layers k.1 } ∷ [] })) s (λ no.
     checkpoint_sound m k s last no.0 (leb-false MAX_PUBLISHED (length m.published) no.1.0)))
 
 -- ---- purge
@@ -174,11 +174,11 @@ purge_sound m h s =
 pub purge_kept : (m : Machine) (h : ℕ) → IsSound m → IsSound (purge_step m h).after
 purge_kept m h s =
     if_not_refused IsSound ((not (is_some (published_at h m.published)), NoHeight) ∷ (is_newest h m.published, LastHeight) ∷ []) m
-    (λ m. answered replies.Fine (record m { published = without_published m.published h })) s (λ no. purge_sound m h s)
+    (λ m. outcome_of replies.Fine (record m { published = without_published m.published h })) s (λ no. purge_sound m h s)
 
 -- ---- reset
 
 pub reset_kept : (m : Machine) (h : ℕ) → IsSound m → IsSound (reset_step m h).after
 reset_kept m h s =
     if_not_refused IsSound ((not (is_some (published_at h m.published)), NoHeight) ∷ (not (is_newest h m.published), HeightLow) ∷ []) m
-    (λ m. answered replies.Fine (resumed_at (newest m.published) m)) s (λ no. resumed_is_sound m s)
+    (λ m. outcome_of replies.Fine (resumed_at (newest m.published) m)) s (λ no. resumed_is_sound m s)

@@ -3,7 +3,7 @@ use Rattle.std.proofs.Common.{◌≡◌, ℕ, ◌≤◌, List, [], ◌∷◌, ma
 use Rattle.std.specs.List.{AllByRecursion, flat_map}
 use Rattle.format_spec.specs.Bytes.{Bytes}
 use Rattle.state_spec.specs.State.{State, Canister, CanisterPart, HasPageRounds, IsState, SameState, part_of, canister_from, canisters_from, state_from, system_of, memory_bytes, without_history, canister_without_history}
-use Rattle.store_spec.specs.Image.{Published, SamePublished, opened}
+use Rattle.store_spec.specs.Image.{Published, SamePublished, opened_state}
 use Rattle.machine_spec.specs.Sound.{IsWholeState, IsWithin, IsBornBy, MayBegin}
 use Rattle.machine_spec.proofs.Canisters.{Canisters, memories_in}
 use Rattle.machine_spec.proofs.Valid.{IsGood, Named, back_good, canisters_of, entries_of, over_good, time_of, valid_from}
@@ -14,8 +14,8 @@ born_from h k le (c ∷ cs) [] = tt
 born_from h k le (c ∷ cs) (heap ∷ []) = tt
 born_from h k le (c ∷ cs) (heap ∷ stable ∷ ms) = (record { birth = le; rounds = tt }, (record { birth = le; rounds = tt }, born_from h k le cs ms))
 
-pub opened_within : (p : Published) (k : ℕ) → p.height ≤ k → IsWithin (k, opened p)
-unfolding opened state_from
+pub opened_within : (p : Published) (k : ℕ) → p.height ≤ k → IsWithin (k, opened_state p)
+unfolding opened_state state_from
 opened_within p k le = born_from p.height k le (system_of p.state).canisters (memory_bytes p.state)
 
 abbrev pub fresh : ℕ → Bytes × Canister → Bytes × Canister
@@ -25,8 +25,8 @@ pub each_fresh : (h : ℕ) (cs : Canisters) → canisters_from h (map (λ c. (c.
 each_fresh h [] = refl
 each_fresh h (c ∷ cs) = ap (λ (l : Canisters). fresh h c ∷ l) (each_fresh h cs)
 
-opened_is : (p : Published) → opened p ≡ record p.state { canisters = map (fresh p.height) p.state.canisters }
-unfolding opened state_from system_of
+opened_is : (p : Published) → opened_state p ≡ record p.state { canisters = map (fresh p.height) p.state.canisters }
+unfolding opened_state state_from system_of
 opened_is p = ap (λ (cs : Canisters). record p.state { canisters = cs }) (each_fresh p.height p.state.canisters)
 
 pub no_rounds : (bytes : Bytes) → HasPageRounds (record { bytes = bytes; rounds = [] })
@@ -44,7 +44,7 @@ fresh_good h c g = record {
   bytes = record { id = g.bytes.id; wasm = g.bytes.wasm; certified = g.bytes.certified; heap = g.bytes.heap; stable = g.bytes.stable };
 }
 
-pub opened_whole : (p : Published) → IsState p.state → IsWholeState (opened p)
+pub opened_whole : (p : Published) → IsState p.state → IsWholeState (opened_state p)
 opened_whole p valid =
     let good = over_good (λ c. canister_from p.height (part_of c) c.heap.bytes c.stable.bytes) (λ c. refl) (fresh_good p.height) p.state.canisters (canisters_of p.state valid) in
     subst IsWholeState (sym (opened_is p)) (record {
@@ -61,7 +61,7 @@ fresh_anyway h (c ∷ cs) = ap (λ (l : Canisters). fresh h c ∷ l) (fresh_anyw
 born_anyway : (h : ℕ) (s : State) → record s { canisters = map (fresh h) s.canisters } ≡ record (without_history s) { canisters = map (fresh h) (without_history s).canisters }
 born_anyway h s = ap (λ (cs : Canisters). record s { canisters = cs }) (fresh_anyway h s.canisters)
 
-pub opens_alike : (p q : Published) → SamePublished p q → opened p ≡ opened q
+pub opens_alike : (p q : Published) → SamePublished p q → opened_state p ≡ opened_state q
 opens_alike p q same =
     opened_is p ∙ born_anyway p.height p.state
     ∙ ap₂ (λ (h : ℕ) (s : State). record s { canisters = map (fresh h) s.canisters }) same.height same.state

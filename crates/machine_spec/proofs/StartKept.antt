@@ -3,7 +3,7 @@ use Rattle.std.proofs.Common.{◌≡◌, ℕ, ◌+◌, ◌<◌, List, [], ◌∷
 use Rattle.std.specs.List.{AllByRecursion, last_or}
 use Rattle.state_spec.specs.State.{IsState}
 use Rattle.store_spec.specs.Image.{Published, heights_of}
-use Rattle.machine_spec.specs.Machine.{Machine, anew, newest, resumed, resumed_at}
+use Rattle.machine_spec.specs.Machine.{Machine, anew, newest, machine_from, resumed_at}
 use Rattle.machine_spec.specs.Sound.{IsSound, AreHeights, MayBegin, EachLater, StartIsSound}
 use Rattle.machine_spec.proofs.Lists.{last_holds}
 use Rattle.machine_spec.specs.States.{empty_state}
@@ -18,7 +18,7 @@ up_to_newest (q ∷ r ∷ ps) p each e =
     let rest = up_to_newest (r ∷ ps) p each.1 e in
     (omega (arith, each.0.0, rest.0), rest)
 
-resumed_sound : (m : Machine) (p : Published) → AreHeights m.published → newest m.published ≡ Some p → IsSound (resumed p m)
+resumed_sound : (m : Machine) (p : Published) → AreHeights m.published → newest m.published ≡ Some p → IsSound (machine_from p m)
 resumed_sound m p h e =
     let may : MayBegin p = last_holds MayBegin None m.published p tt h.each e in
     record {

@@ -1,7 +1,7 @@
 -- Soundness is kept by every step, and so by turns.
 use Rattle.std.proofs.Common.{[], ◌∷◌, List}
 use Rattle.state_spec.specs.Root.{root_of}
-use Rattle.script_text.specs.Commands.{SpellsCommand, parsed}
+use Rattle.script_text.specs.Commands.{SpellsCommand, parsed_line}
 use Rattle.script_text.specs.declared.parsing.Parsed.{Parsed}
 use Rattle.script_text.specs.declared.parsing.Parsed.TheVariants.{Silent, BadLine, Line}
 use Rattle.script_text.specs.declared.command.Command.{Command}
@@ -50,7 +50,7 @@ parsed_keeps m (Line command) c s = step_keeps m command c s
 
 turn_keeps : (m : Machine) (turn : Turn) → IsSound m → IsSound (after_turn m turn)
 unfolding after_line
-turn_keeps m turn s = parsed_keeps m (parsed turn.line) (line_spells turn.line) s
+turn_keeps m turn s = parsed_keeps m (parsed_line turn.line) (line_spells turn.line) s
 
 pub turns_keep : (m : Machine) (turns : List Turn) → IsSound m → IsSound (after_turns m turns)
 turns_keep m [] s = s

@@ -8,7 +8,7 @@ use Rattle.std.specs.declared.cmp.Ordering.{Ordering}
 use Rattle.std.specs.declared.cmp.Ordering.TheVariants.{Less, Equal, Greater}
 use Rattle.format_spec.specs.Bytes.{Bytes}
 use Rattle.state_spec.specs.State.{Memory}
-use Rattle.state_spec.specs.Memory.{write, pages_between, stamped}
+use Rattle.state_spec.specs.Memory.{write, pages_between, stamped_rounds}
 use Rattle.state_spec.proofs.Rounds.{Rounds}
 use Rattle.state_spec.proofs.Memories.{write_rounds, write_none}
 
@@ -21,7 +21,7 @@ put_each P round page new (r ∷ rs) all = by (nat_cmp page r.0) (put_each P rou
     by Equal more = (new r.0, all.1)
     by Greater more = (all.0, more)
 
-stamped_each : (P : ℕ × ℕ → Type 0) → (round : ℕ) → ((p : ℕ) → P (p, round)) → (pages : List ℕ) (rs : Rounds) → AllByRecursion P rs → AllByRecursion P (stamped round pages rs)
+stamped_each : (P : ℕ × ℕ → Type 0) → (round : ℕ) → ((p : ℕ) → P (p, round)) → (pages : List ℕ) (rs : Rounds) → AllByRecursion P rs → AllByRecursion P (stamped_rounds round pages rs)
 stamped_each P round new [] rs all = all
 stamped_each P round new (page ∷ pages) rs all = stamped_each P round new pages (put nat_cmp page round rs) (put_each P round page new rs all)
 

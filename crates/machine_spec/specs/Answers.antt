@@ -4,7 +4,7 @@ use Rattle.format_spec.specs.Bytes.{Bytes}
 use Rattle.script_text.specs.declared.parsing.Parsed.{Parsed}
 use Rattle.script_text.specs.declared.parsing.Parsed.TheVariants.{Silent, BadLine, Line}
 use Rattle.script_text.specs.declared.reply.Reply.{Reply}
-use Rattle.script_text.specs.Commands.{parsed}
+use Rattle.script_text.specs.Commands.{parsed_line}
 use Rattle.script_text.specs.Texts.{reply_text, bad_line_text}
 use Rattle.machine_spec.specs.Machine.{Machine}
 use Rattle.machine_spec.specs.Step.{step}
@@ -36,7 +36,7 @@ text_for BadLine reply = bad_line_text ++ codes "\n"
 text_for _ reply = []
 
 unfoldable pub answer : Turn → Bytes
-answer turn = text_for (parsed turn.line) turn.reply
+answer turn = text_for (parsed_line turn.line) turn.reply
 
 -- the bytes written for turns, in order
 abbrev pub answers : List Turn → Bytes
@@ -55,10 +55,10 @@ after_by m (Line command) = (step m command).after
 after_by m _ = m
 
 unfoldable pub reply_to : Machine → Bytes → Option Reply
-reply_to m line = reply_by m (parsed line)
+reply_to m line = reply_by m (parsed_line line)
 
 unfoldable pub after_line : Machine → Bytes → Machine
-after_line m line = after_by m (parsed line)
+after_line m line = after_by m (parsed_line line)
 
 abbrev pub after_turn : Machine → Turn → Machine
 after_turn m turn = after_line m turn.line
@@ -73,6 +73,6 @@ Plays m [] = Unit {0}
 Plays m (turn ∷ turns) = (turn.reply ≡ reply_to m turn.line) × Plays (after_turn m turn) turns
 
 -- the turns of the machine for these lines
-abbrev pub played : Machine → List Bytes → List Turn
-played m [] = []
-played m (line ∷ others) = turn_of line (reply_to m line) ∷ played (after_line m line) others
+abbrev pub turns_of_lines : Machine → List Bytes → List Turn
+turns_of_lines m [] = []
+turns_of_lines m (line ∷ others) = turn_of line (reply_to m line) ∷ turns_of_lines (after_line m line) others

@@ -13,7 +13,7 @@ use Rattle.script_text.specs.declared.reply.Reply.TheVariants.{Fine, Heights, Ro
 use Rattle.script_text.specs.declared.reply.Refusal.TheVariants.{ManyHeights, HeightLimit, NoHeight}
 use Rattle.tree_spec.specs.Labelled.{state_tree}
 use Rattle.tree_spec.specs.Tree.{reconstruct}
-use Rattle.machine_spec.specs.Machine.{Machine, Outcome, answered, unless, on_state, kept_at, without_height}
+use Rattle.machine_spec.specs.Machine.{Machine, Outcome, outcome_of, unless, on_state, kept_at, without_height}
 
 -- the root of a state's tree
 unfoldable pub tree_root : State → Bytes
@@ -26,7 +26,7 @@ round_step m =
     (nat_le MAX_HEIGHTS (length m.memory), ManyHeights)
     ∷ (nat_lt MAX_HEIGHT m.height, HeightLimit)
     ∷ []
-    ) m (λ m. answered (Round m.height (tree_root m.live))
+    ) m (λ m. outcome_of (Round m.height (tree_root m.live))
     (record m { height = m.height + 1; memory = m.memory ++ (m.height, m.live) ∷ [] }))
 
 -- `forget H` drops a state from memory
@@ -35,19 +35,19 @@ forget_step m h =
     unless (
     (not (is_some (kept_at h m.memory)), NoHeight)
     ∷ []
-    ) m (λ m. answered Fine (record m { memory = without_height h m.memory }))
+    ) m (λ m. outcome_of Fine (record m { memory = without_height h m.memory }))
 
 -- `heights`
 abbrev pub heights_step : Machine → Outcome
-heights_step m = answered (Heights m.height (map (λ k. k.0) m.memory) (heights_of m.published)) m
+heights_step m = outcome_of (Heights m.height (map (λ k. k.0) m.memory) (heights_of m.published)) m
 
 -- `tree HL`
 abbrev pub tree_step : Machine → HeightOrLive → Outcome
-tree_step m at = on_state m at (λ s. answered (Tree (tree_root s)) m)
+tree_step m at = on_state m at (λ s. outcome_of (Tree (tree_root s)) m)
 
 -- `root HL`
 abbrev pub root_step : Machine → HeightOrLive → Outcome
-root_step m at = on_state m at (λ s. answered (Root (root_of s)) m)
+root_step m at = on_state m at (λ s. outcome_of (Root (root_of s)) m)
 
 -- what the manifest of a state counts: its file rows, its chunk rows, its pieces and the bytes of its text
 unfoldable pub counts_of : State → Reply
@@ -57,4 +57,4 @@ counts_of s =
 
 -- `manifest HL`
 abbrev pub manifest_step : Machine → HeightOrLive → Outcome
-manifest_step m at = on_state m at (λ s. answered (counts_of s) m)
+manifest_step m at = on_state m at (λ s. outcome_of (counts_of s) m)

@@ -11,7 +11,7 @@ use Rattle.script_text.specs.declared.reply.Refusal.TheVariants.{Exists, ManyCan
 use Rattle.script_text.specs.declared.reply.Refusal.TheVariants.{Reserved, PathConflict, TreeFull, NoPath, PastEnd}
 use Rattle.script_text.specs.declared.reply.Reply.{Reply}
 use Rattle.script_text.specs.declared.reply.Reply.TheVariants as replies
-use Rattle.machine_spec.specs.Machine.{Machine, Outcome, answered, unless, on_canister, on_state, now_live}
+use Rattle.machine_spec.specs.Machine.{Machine, Outcome, outcome_of, unless, on_canister, on_state, now_live}
 use Rattle.machine_spec.specs.States.{canister_in, with_canister, without_canister, newborn, memory_of, with_memory}
 use Rattle.machine_spec.specs.States.{pages_with, state_pages}
 
@@ -79,19 +79,19 @@ del_step m path =
     ) m (λ m. now_live m (record m.live { entries = without path_cmp path m.live.entries }))
 
 -- what is told of bytes of a memory
-abbrev pub bytes_told : Memory → ℕ → ℕ → Reply
-bytes_told memory from n =
+abbrev pub reply_of_bytes : Memory → ℕ → ℕ → Reply
+reply_of_bytes memory from n =
     if nat_lt (length memory.bytes) (from + n) then replies.Refused PastEnd else replies.Bytes (read memory from n)
 
 -- of those of a canister, if there is one
-abbrev pub canister_told : Option Canister → Mem → ℕ → ℕ → Reply
-canister_told None mem from n = replies.Refused NoCanister
-canister_told (Some c) mem from n = bytes_told (memory_of c mem) from n
+abbrev pub reply_of_canister : Option Canister → Mem → ℕ → ℕ → Reply
+reply_of_canister None mem from n = replies.Refused NoCanister
+reply_of_canister (Some c) mem from n = reply_of_bytes (memory_of c mem) from n
 
 -- what `read` answers of a state
 abbrev pub read_reply : State → Bytes → Mem → ℕ → ℕ → Reply
-read_reply s id mem from n = canister_told (canister_in s id) mem from n
+read_reply s id mem from n = reply_of_canister (canister_in s id) mem from n
 
 -- `read HL ID MEM OFFSET LEN` answers bytes
 abbrev pub read_step : Machine → HeightOrLive → Bytes → Mem → ℕ → ℕ → Outcome
-read_step m at id mem from n = on_state m at (λ s. answered (read_reply s id mem from n) m)
+read_step m at id mem from n = on_state m at (λ s. outcome_of (read_reply s id mem from n) m)

@@ -4,7 +4,7 @@ use Rattle.std.specs.List.{last_or}
 use Rattle.std.specs.Option.{option_map, option_or}
 use Rattle.format_spec.specs.Bytes.{Bytes}
 use Rattle.state_spec.specs.State.{State, Canister, system_of, memory_bytes, state_from}
-use Rattle.store_spec.specs.Image.{Published, opened}
+use Rattle.store_spec.specs.Image.{Published, opened_state}
 use Rattle.script_text.specs.declared.command.HeightOrLive.{HeightOrLive}
 use Rattle.script_text.specs.declared.command.HeightOrLive.TheVariants.{Live, Height}
 use Rattle.script_text.specs.declared.reply.Reply.{Reply}
@@ -29,13 +29,13 @@ abbrev pub anew : List Published → Machine
 anew ps = record { live = empty_state; height = 1; memory = []; published = ps }
 
 -- the machine begun again at a published height: live is its state, one height above, and nothing is in memory
-abbrev pub resumed : Published → Machine → Machine
-resumed p m = record m { live = opened p; height = p.height + 1; memory = [] }
+abbrev pub machine_from : Published → Machine → Machine
+machine_from p m = record m { live = opened_state p; height = p.height + 1; memory = [] }
 
 -- begun again at this height, if there is one
 abbrev pub resumed_at : Option Published → Machine → Machine
 resumed_at None m = m
-resumed_at (Some p) m = resumed p m
+resumed_at (Some p) m = machine_from p m
 
 -- the machine of a store that opens at these heights: it goes on from the newest one, or from nothing
 abbrev pub start : List Published → Machine
@@ -46,16 +46,16 @@ pub record Outcome : Type 0 where
   pub reply : Reply
   pub after : Machine
 
-abbrev pub answered : Reply → Machine → Outcome
-answered reply m = record { reply = reply; after = m }
+abbrev pub outcome_of : Reply → Machine → Outcome
+outcome_of reply m = record { reply = reply; after = m }
 
 -- `ok`, with another live state
 abbrev pub now_live : Machine → State → Outcome
-now_live m s = answered Fine (record m { live = s })
+now_live m s = outcome_of Fine (record m { live = s })
 
 -- a refusal with the machine as it was where the test holds, else what the step does
 abbrev pub refused_if : Bool → Refusal → Machine → (Machine → Outcome) → Outcome
-refused_if true refusal m act = answered (Refused refusal) m
+refused_if true refusal m act = outcome_of (Refused refusal) m
 refused_if false refusal m act = act m
 
 -- the first refusal whose test holds, else what the step does
@@ -65,7 +65,7 @@ unless (check ∷ checks) m act = refused_if check.0 check.1 m (λ n. unless che
 
 -- a refusal where there is no value, else what the step does with it
 abbrev pub unless_none : {A : Type 0} → Option A → Refusal → Machine → (A → Outcome) → Outcome
-unless_none None refusal m act = answered (Refused refusal) m
+unless_none None refusal m act = outcome_of (Refused refusal) m
 unless_none (Some x) refusal m act = act x
 
 -- what a step does with a canister of the live state

@@ -5,13 +5,13 @@ use Rattle.script_text.specs.Script.{lines}
 use Rattle.script_text.specs.declared.command.Command.{Command}
 use Rattle.script_text.specs.declared.reply.Refusal.{Refusal}
 use Rattle.script_text.specs.declared.reply.Reply.TheVariants.{Refused}
-use Rattle.machine_spec.specs.Answers.{Turn, played, answers, after_turns}
+use Rattle.machine_spec.specs.Answers.{Turn, turns_of_lines, answers, after_turns}
 use Rattle.machine_spec.specs.Machine.{Machine, start}
 use Rattle.machine_spec.specs.Step.{step}
 
 -- the turns of a script, a line each
 abbrev pub turns_of : Machine → Bytes → List Turn
-turns_of m script = played m (lines script)
+turns_of m script = turns_of_lines m (lines script)
 
 -- what is written for all of a script by a machine
 abbrev pub output_by : Machine → Bytes → Bytes

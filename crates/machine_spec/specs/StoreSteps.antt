@@ -10,7 +10,7 @@ use Rattle.store_spec.specs.Image.{Published, without_published, whole_layers}
 use Rattle.script_text.specs.declared.command.HeightOrLive.{HeightOrLive}
 use Rattle.script_text.specs.declared.reply.Reply.TheVariants as replies
 use Rattle.script_text.specs.declared.reply.Refusal.TheVariants.{NoHeight, HeightLow, ManyMarks, LastHeight}
-use Rattle.machine_spec.specs.Machine.{Machine, Outcome, answered, unless, unless_none, on_state, resumed_at, newest, published_at}
+use Rattle.machine_spec.specs.Machine.{Machine, Outcome, outcome_of, unless, unless_none, on_state, resumed_at, newest, published_at}
 
 -- there is a newest published height, and this one isn't above it
 abbrev pub is_low : ℕ → List Published → Bool
@@ -27,7 +27,7 @@ checkpoint_step m = unless_none (last_or None m.memory) NoHeight m (λ k.
     (is_low k.0 m.published, HeightLow)
     ∷ (nat_le MAX_PUBLISHED (length m.published), ManyMarks)
     ∷ []
-    ) m (λ m. answered (replies.Published k.0 (root_of k.1))
+    ) m (λ m. outcome_of (replies.Published k.0 (root_of k.1))
     (record m { published = m.published ++ record { height = k.0; state = k.1; layers = whole_layers k.1 } ∷ [] })))
 
 -- `purge H` removes a published height that isn't the newest
@@ -37,7 +37,7 @@ purge_step m h =
     (not (is_some (published_at h m.published)), NoHeight)
     ∷ (is_newest h m.published, LastHeight)
     ∷ []
-    ) m (λ m. answered replies.Fine (record m { published = without_published m.published h }))
+    ) m (λ m. outcome_of replies.Fine (record m { published = without_published m.published h }))
 
 -- `reset H` begins again at the newest published height, and drops what is in memory
 abbrev pub reset_step : Machine → ℕ → Outcome
@@ -46,8 +46,8 @@ reset_step m h =
     (not (is_some (published_at h m.published)), NoHeight)
     ∷ (not (is_newest h m.published), HeightLow)
     ∷ []
-    ) m (λ m. answered replies.Fine (resumed_at (newest m.published) m))
+    ) m (λ m. outcome_of replies.Fine (resumed_at (newest m.published) m))
 
 -- `scratch HL`
 abbrev pub scratch_step : Machine → HeightOrLive → Outcome
-scratch_step m at = on_state m at (λ s. answered (replies.Scratch (root_of s)) m)
+scratch_step m at = on_state m at (λ s. outcome_of (replies.Scratch (root_of s)) m)

@@ -14,7 +14,7 @@ ghost use Rattle.script_text.specs.declared.reply.Reply.TheVariants as replies;
 ghost use Rattle.machine_spec.specs.Costs.{appends, reads};
 ghost use Rattle.machine_spec.specs.HeightSteps.{counts_of, tree_root};
 ghost use Rattle.machine_spec.specs.Machine.{start, state_at};
-ghost use Rattle.store_spec.specs.Image.{opened};
+ghost use Rattle.store_spec.specs.Image.{opened_state};
 ghost use Rattle.machine_spec.specs.Script.{output_of, output_by, machine_after, after_script};
 ghost use Rattle.machine_spec.specs.States.{empty_state};
 ghost use Rattle.machine_spec.specs.Step.{step};
@@ -81,7 +81,7 @@ pub fn states_in_memory()
 /// What a state hashes to, and what is told of it, is asked of the live state or of one at a height.
 #[tactic(auto, unfolding(crate::specs::Computing::scripts_compute))]
 pub fn questions()
-    ensures root { (step (start (one_height ∷ [])) (commands.Root Live)).reply ≡ replies.Root (root_of (opened one_height)) }
+    ensures root { (step (start (one_height ∷ [])) (commands.Root Live)).reply ≡ replies.Root (root_of (opened_state one_height)) }
     ensures manifest { (step (start (one_height ∷ [])) (commands.Manifest (Height 1))).reply ≡ counts_of one_byte }
     ensures tree { (step (start (one_height ∷ [])) (commands.Tree (Height 1))).reply ≡ replies.Tree (tree_root one_byte) }
     ensures witness { (step (start (one_height ∷ [])) (commands.Witness (Height 1) ((codes "time" ∷ []) ∷ []))).reply

@@ -7,10 +7,10 @@ use Rattle.hex.specs.Hex.{decode_of}
 use Rattle.hex.proofs.HexLemmas.{decode_of-ok}
 use Rattle.hex.specs.declared.error.FromHexError.{FromHexError}
 use Rattle.format_spec.specs.Bytes.{Bytes, same_bytes, bytes_cmp, is_after}
-use Rattle.format_spec.specs.Fields.{Cursor, Form, field, judged, block, string8, any}
+use Rattle.format_spec.specs.Fields.{Cursor, Form, field, reading_by_rule, block, string8, any}
 use Rattle.state_spec.specs.State.{is_id}
 use Rattle.state_spec.specs.Files.{heap_name}
-use Rattle.state_spec.specs.ManifestText.{decoded, id_in, is_next_heap}
+use Rattle.state_spec.specs.ManifestText.{id_of_hex, id_in, is_next_heap}
 use Rattle.manifest.specs.Reading.{only_id}
 use Rattle.format_spec.proofs.Readings.{same_bytes_is}
 use Rattle.byte_codec.proofs.Judged.{field_keeps}
@@ -48,10 +48,10 @@ no_id : (id : Bytes) → 29 < length id → only_id (Some id) ≡ None
 no_id id long = grind arith
 
 -- digits of more bytes than an id has
-pub too_long : (digits : Bytes) → 29 < length digits / 2 → only_id (decoded (decode_of digits)) ≡ None
+pub too_long : (digits : Bytes) → 29 < length digits / 2 → only_id (id_of_hex (decode_of digits)) ≡ None
 too_long digits long = go (decode_of digits) refl
   where
-    go : (r : Result Bytes FromHexError) → decode_of digits ≡ r → only_id (decoded r) ≡ None
+    go : (r : Result Bytes FromHexError) → decode_of digits ≡ r → only_id (id_of_hex r) ≡ None
     go (Err e) is = refl
     go (Ok id) is =
         let size : length digits ≡ 2 * length id = (decode_of-ok digits id is).2 in

@@ -6,7 +6,7 @@ use Rattle.std.specs.Int.{w32}
 use Rattle.std.proofs.lemmas.Bool.{ltb-true, ltb-false, eqb-true, eqb-false}
 use Rattle.std.proofs.lemmas.List.{length-drop}
 use Rattle.format_spec.specs.Bytes.{Bytes}
-use Rattle.format_spec.specs.Fields.{Cursor, Reading, gives, ended, and_then, ◌>>=◌, field, number, block, any, each}
+use Rattle.format_spec.specs.Fields.{Cursor, Reading, gives, value_at_end, and_then, ◌>>=◌, field, number, block, any, each}
 use Rattle.format_spec.specs.declared.limits.TheConstants.{MAX_PIECES}
 use Rattle.format_spec.proofs.Readings.{read_ok}
 use Rattle.state_spec.specs.Root.{MetaManifest, as_option, read_meta, meta_fields}
@@ -45,7 +45,7 @@ not_equal a b differ = go (a == b) refl
     go false e = refl
 
 -- so many hashes and no more, exactly where there are so many bytes
-hashes_fill : (version n : ℕ) (before : List Bytes) (c : Cursor) → is_read (ended (and_then (each next_hash n before c) (read_end version))) ≡ (length c.rest == 32 * n)
+hashes_fill : (version n : ℕ) (before : List Bytes) (c : Cursor) → is_read (value_at_end (and_then (each next_hash n before c) (read_end version))) ≡ (length c.rest == 32 * n)
 unfolding each
 hashes_fill version zero before c = is_read_if (length c.rest == 0) (record { version = version; pieces = before }) c.at
 hashes_fill version (suc n) before c = go (nat_lt (length c.rest) 32) refl (hashes_fill version n (before ++ take 32 c.rest ∷ []) (record { at = c.at + 32; rest = drop 32 c.rest }))
@@ -53,8 +53,8 @@ hashes_fill version (suc n) before c = go (nat_lt (length c.rest) 32) refl (hash
     next : Cursor
     next = record { at = c.at + 32; rest = drop 32 c.rest }
 
-    go : (b : Bool) → nat_lt (length c.rest) 32 ≡ b → is_read (ended (and_then (each next_hash n (before ++ take 32 c.rest ∷ []) next) (read_end version))) ≡ (length next.rest == 32 * n)
-        → is_read (ended (and_then (each next_hash (suc n) before c) (read_end version))) ≡ (length c.rest == 32 * suc n)
+    go : (b : Bool) → nat_lt (length c.rest) 32 ≡ b → is_read (value_at_end (and_then (each next_hash n (before ++ take 32 c.rest ∷ []) next) (read_end version))) ≡ (length next.rest == 32 * n)
+        → is_read (value_at_end (and_then (each next_hash (suc n) before c) (read_end version))) ≡ (length c.rest == 32 * suc n)
     go true short fill =
         let lt : length c.rest < 32 = ltb-true (length c.rest) 32 short in
         rw short (sym (not_equal (length c.rest) (32 * suc n) (λ e. omega (arith, e, lt))))
@@ -72,10 +72,10 @@ abbrev behind_version : ℕ → Reading MetaManifest
 behind_version version = counted >>= behind_count version
 
 module _ (count : ℕ) (d : Cursor) where
-  from_count : (version : ℕ) (r : Result (ℕ × Cursor) ℕ) → r ≡ Ok (count, d) → is_read (ended (and_then r (behind_count version))) ≡ (length d.rest == 32 * count)
+  from_count : (version : ℕ) (r : Result (ℕ × Cursor) ℕ) → r ≡ Ok (count, d) → is_read (value_at_end (and_then r (behind_count version))) ≡ (length d.rest == 32 * count)
   from_count version r e = rw e (hashes_fill version count [] d)
 
-  from_version : (r : Result (ℕ × Cursor) ℕ) → and_then r (λ _. counted) ≡ Ok (count, d) → is_read (ended (and_then r behind_version)) ≡ (length d.rest == 32 * count)
+  from_version : (r : Result (ℕ × Cursor) ℕ) → and_then r (λ _. counted) ≡ Ok (count, d) → is_read (value_at_end (and_then r behind_version)) ≡ (length d.rest == 32 * count)
   from_version (Err place) e = absurd cc
   from_version (Ok x) e = from_count x.0 (counted x.1) e
 
@@ -84,11 +84,11 @@ module _ (count : ℕ) (d : Cursor) where
   unfolding piece_count read_meta meta_fields
   meta_counted s e = from_version (field (number w32) (λ n. n == 1) (record { at = 0; rest = s })) e
 
-not_counted : (version : ℕ) (r : Result (ℕ × Cursor) ℕ) → as_option r ≡ None → is_read (ended (and_then r (behind_count version))) ≡ false
+not_counted : (version : ℕ) (r : Result (ℕ × Cursor) ℕ) → as_option r ≡ None → is_read (value_at_end (and_then r (behind_count version))) ≡ false
 not_counted version (Err place) e = refl
 not_counted version (Ok x) e = absurd cc
 
-no_version : (r : Result (ℕ × Cursor) ℕ) → as_option (and_then r (λ _. counted)) ≡ None → is_read (ended (and_then r behind_version)) ≡ false
+no_version : (r : Result (ℕ × Cursor) ℕ) → as_option (and_then r (λ _. counted)) ≡ None → is_read (value_at_end (and_then r behind_version)) ≡ false
 no_version (Err place) e = refl
 no_version (Ok x) e = not_counted x.0 (counted x.1) e
 

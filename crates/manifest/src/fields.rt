@@ -7,7 +7,7 @@ ghost use Rattle.hex.specs.Hex.{decode_of};
 ghost use Rattle.format_spec.specs.Bytes.{same_bytes, is_after, bytes_cmp};
 ghost use Rattle.format_spec.specs.Fields.{field, number, string8};
 ghost use Rattle.state_spec.specs.Files.{system_name};
-ghost use Rattle.state_spec.specs.ManifestText.{decoded, id_in, is_next_heap, is_its_stable, is_system_size};
+ghost use Rattle.state_spec.specs.ManifestText.{id_of_hex, id_in, is_next_heap, is_its_stable, is_system_size};
 ghost use Rattle.byte_codec.specs.Gives.{Gives, NeedsNoMemory};
 ghost use Rattle.manifest.specs.Reading.{fits_memory, only_id, piece_count};
 
@@ -186,7 +186,7 @@ fn first_slash(bytes: &[u8]) -> Option<usize>
 }
 
 fn id_of_digits(digits: &[u8]) -> Option<CanisterId>
-    ensures { result ≡ only_id (decoded (decode_of digits.now)) }
+    ensures { result ≡ only_id (id_of_hex (decode_of digits.now)) }
 {
     let count = digits.len() / 2;
     if count > MAX_ID {

@@ -2,7 +2,7 @@
 use Rattle.std.proofs.Common.{◌≡◌, ◌≢◌, ℕ, zero, suc, ◌+◌, ◌/◌, ◌%◌, ◌^◌, ◌<◌, ◌≤◌, List, get_or, Option, Some, None, IsSome, refl, sym, ap, subst, ◌∙◌, arith}
 use Rattle.page_pool.specs.Pool.{Pool, count_at, IsLive}
 use Rattle.page_delta.specs.Delta.{uses}
-use Rattle.page_delta.specs.Nodes.{node_at, child_in, entry_in, count_in, level_in, recount, recounted, once, names, width, look}
+use Rattle.page_delta.specs.Nodes.{node_at, child_in, entry_in, count_in, level_in, recount, node_with_count, once, names, width, look}
 use Rattle.page_delta.specs.Shared.{slots_in, IsShared, Stands, SameLooks}
 use Rattle.page_delta.specs.declared.entry.Entry.{Entry}
 use Rattle.page_delta.specs.declared.node.Node.{Node}
@@ -64,7 +64,7 @@ tall-recount (Branch a k js) c b l ks e =
 tall-recount (Leaf a es) c b l ks e = absurd (let no : ⊥ = cc in no)
 
 -- what the places of a node name is counted once more, and then the copy is put at a fresh key
-module _ (xs mid ys : List (Option Node)) (counts counts' hands loose : ℕ → ℕ) (k fresh : ℕ) (node : Node) (s : IsShared xs counts hands loose) (is : node_at xs k ≡ Some node) (each : (m : ℕ) → node_at mid m ≡ recounted (node_at xs m) (count_in (node_at xs m) + names m (Some (recount node 1)))) (slots : (slot : ℕ) → counts' slot ≡ counts slot + slots_in slot (Some (recount node 1))) (gone : node_at mid fresh ≡ None) (here : node_at ys fresh ≡ Some (recount node 1)) (rest : (m : ℕ) → m ≢ fresh → node_at ys m ≡ node_at mid m) where
+module _ (xs mid ys : List (Option Node)) (counts counts' hands loose : ℕ → ℕ) (k fresh : ℕ) (node : Node) (s : IsShared xs counts hands loose) (is : node_at xs k ≡ Some node) (each : (m : ℕ) → node_at mid m ≡ node_with_count (node_at xs m) (count_in (node_at xs m) + names m (Some (recount node 1)))) (slots : (slot : ℕ) → counts' slot ≡ counts slot + slots_in slot (Some (recount node 1))) (gone : node_at mid fresh ≡ None) (here : node_at ys fresh ≡ Some (recount node 1)) (rest : (m : ℕ) → m ≢ fresh → node_at ys m ≡ node_at mid m) where
   abbrev copy_of : Node
   copy_of = recount node 1
 
@@ -100,7 +100,7 @@ module _ (xs mid ys : List (Option Node)) (counts counts' hands loose : ℕ → 
   looks-copy level m q live =
       looks-insert mid ys counts (λ m. hands m + names m (Some (recount node 1))) loose fresh raised gone rest level m q (subst (λ (o : Option Node). IsSome o) (sym (each m)) (alive (node_at xs m) (count_in (node_at xs m) + names m (Some (recount node 1))) live)) ∙ looks_raised level m q live
     where
-      alive : (o : Option Node) (c : ℕ) → IsSome o → IsSome (recounted o c)
+      alive : (o : Option Node) (c : ℕ) → IsSome o → IsSome (node_with_count o c)
       alive None c l = l
       alive (Some n) c l = refl
 

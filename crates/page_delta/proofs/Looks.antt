@@ -3,7 +3,7 @@ use Rattle.std.proofs.Common.{◌≡◌, ◌≢◌, inl, inr, ℕ, zero, suc, �
 use Rattle.std.proofs.lemmas.Bool.{cases_eq, eq-eqb}
 use Rattle.std.proofs.lemmas.List.{get_or-set_same, get_or-set_other}
 use Rattle.page_delta.specs.Totals.{total}
-use Rattle.page_delta.specs.Nodes.{node_at, child_in, entry_in, count_in, level_in, recounted, once, names, look}
+use Rattle.page_delta.specs.Nodes.{node_at, child_in, entry_in, count_in, level_in, node_with_count, once, names, look}
 use Rattle.page_delta.specs.Shared.{IsShared, SameLooks, Agrees, Differs}
 use Rattle.page_delta.specs.declared.entry.Entry.{Entry}
 use Rattle.page_delta.specs.declared.node.Node.{Node}
@@ -36,7 +36,7 @@ child-live xs counts hands loose k d t s e =
       | inr here ↦ some-live (node_at xs t) here.0 here.1
     ]
 
-pub looks-recounted : (xs ys : List (Option Node)) (now : ℕ → ℕ) → ((m : ℕ) → node_at ys m ≡ recounted (node_at xs m) (now m)) → SameLooks xs ys
+pub looks-recounted : (xs ys : List (Option Node)) (now : ℕ → ℕ) → ((m : ℕ) → node_at ys m ≡ node_with_count (node_at xs m) (now m)) → SameLooks xs ys
 looks-recounted xs ys now each level m q live =
     look-agree (λ m. Unit {0}) xs ys (λ m _ d. (ap (λ o. child_in o d) (each m) ∙ child-recounted (node_at xs m) (now m) d, ap (λ o. entry_in o d) (each m) ∙ entry-recounted (node_at xs m) (now m) d)) (λ m d t _ e. tt) level m q tt
 

@@ -4,16 +4,16 @@ use Rattle.std.proofs.lemmas.Bool.{eqb-true, eqb-false, eq-eqb, cases_Bool}
 use Rattle.page_delta.specs.declared.entry.Entry.{Entry}
 use Rattle.page_delta.specs.declared.node.Node.{Node}
 use Rattle.page_delta.specs.Delta.{Pages, find, RiseFrom}
-use Rattle.page_delta.specs.Nodes.{look, consed, pairs_from, pages_below}
+use Rattle.page_delta.specs.Nodes.{look, entry_and_rest, pairs_from, pages_below}
 
 pub decided : (a b : ℕ) → ((a ≡ b) × (eqb a b ≡ true)) ⊎ ((a ≢ b) × (eqb a b ≡ false))
 decided a b = elim (cases_Bool (eqb a b)) [ inl h ↦ inl (eqb-true a b h, h) | inr h ↦ inr (eqb-false a b h, h) ]
 
-find-here : (page : ℕ) (o : Option Entry) (rest : Pages) → find page rest ≡ None → find page (consed page o rest) ≡ o
+find-here : (page : ℕ) (o : Option Entry) (rest : Pages) → find page rest ≡ None → find page (entry_and_rest page o rest) ≡ o
 find-here page None rest none = none
 find-here page (Some entry) rest none = rw (eq-eqb page page refl) refl
 
-find-there : (page start : ℕ) (o : Option Entry) (rest : Pages) → page ≢ start → find page (consed start o rest) ≡ find page rest
+find-there : (page start : ℕ) (o : Option Entry) (rest : Pages) → page ≢ start → find page (entry_and_rest start o rest) ≡ find page rest
 find-there page start None rest other = refl
 find-there page start (Some entry) rest other = elim (decided page start) [ inl h ↦ absurd (other h.0) | inr h ↦ rw h.1 refl ]
 
@@ -28,7 +28,7 @@ find-inside : (n start page : ℕ) (at : ℕ → Option Entry) → start ≤ pag
 unfolding pairs_from
 find-inside zero start page at low high = absurd (omega arith)
 find-inside (suc n) start page at low high = elim (decided page start) [
-  | inl h ↦ subst (λ p. find p (consed start (at start) (pairs_from n (start + 1) at)) ≡ at p) (sym h.0) (find-here start (at start) (pairs_from n (start + 1) at) (find-outside n (start + 1) start at (inl (omega arith))))
+  | inl h ↦ subst (λ p. find p (entry_and_rest start (at start) (pairs_from n (start + 1) at)) ≡ at p) (sym h.0) (find-here start (at start) (pairs_from n (start + 1) at) (find-outside n (start + 1) start at (inl (omega arith))))
   | inr h ↦ find-there page start (at start) (pairs_from n (start + 1) at) h.0 ∙ find-inside n (start + 1) page at (let ne = h.0 in omega arith) (omega arith)
 ]
 
@@ -45,7 +45,7 @@ rises-later : (least start : ℕ) (pages : Pages) → least ≤ start → RiseFr
 rises-later least start [] low rise = rise
 rises-later least start (first ∷ rest) low rise = (let r = rise.0 in omega arith, rise.1)
 
-rises-consed : (start : ℕ) (o : Option Entry) (rest : Pages) → RiseFrom (start + 1) rest → RiseFrom start (consed start o rest)
+rises-consed : (start : ℕ) (o : Option Entry) (rest : Pages) → RiseFrom (start + 1) rest → RiseFrom start (entry_and_rest start o rest)
 rises-consed start None rest rise = rises-later start (start + 1) rest (omega arith) rise
 rises-consed start (Some entry) rest rise = (omega arith, rise)
 
@@ -63,7 +63,7 @@ abbrev pub one_of : Option Entry → ℕ
 one_of None = 0
 one_of (Some e) = 1
 
-length-consed : (page : ℕ) (o : Option Entry) (rest : Pages) → length (consed page o rest) ≡ one_of o + length rest
+length-consed : (page : ℕ) (o : Option Entry) (rest : Pages) → length (entry_and_rest page o rest) ≡ one_of o + length rest
 length-consed page None rest = omega arith
 length-consed page (Some e) rest = omega arith
 
@@ -71,7 +71,7 @@ pub pairs-within : (n start : ℕ) (f g : ℕ → Option Entry) → ((k : ℕ) �
 unfolding pairs_from
 pairs-within zero start f g same = refl
 pairs-within (suc n) start f g same =
-    rw (same start (omega arith) (omega arith)) (ap (consed start (g start)) (pairs-within n (start + 1) f g (λ k low high. same k (omega arith) (omega arith))))
+    rw (same start (omega arith) (omega arith)) (ap (entry_and_rest start (g start)) (pairs-within n (start + 1) f g (λ k low high. same k (omega arith) (omega arith))))
 
 -- another entry at one page
 length-pairs : (n start p : ℕ) (f g : ℕ → Option Entry) → start ≤ p → p < start + n → ((k : ℕ) → start ≤ k → k < start + n → k ≢ p → f k ≡ g k) → length (pairs_from n start f) + one_of (g p) ≡ length (pairs_from n start g) + one_of (f p)

@@ -3,7 +3,7 @@ use Rattle.std.proofs.Common.{◌≡◌, ◌≢◌, ◌⊎◌, inl, inr, ℕ, ze
 use Rattle.std.proofs.lemmas.Bool.{cases_eq, cases_Bool, eq-eqb, eqb-true, eqb-false}
 use Rattle.std.proofs.lemmas.List.{get_or-set_same, get_or-set_other}
 use Rattle.page_delta.specs.Totals.{total}
-use Rattle.page_delta.specs.Nodes.{node_at, child_in, entry_in, count_in, level_in, recounted, once, names, width, look, with_child, empty_node}
+use Rattle.page_delta.specs.Nodes.{node_at, child_in, entry_in, count_in, level_in, node_with_count, once, names, width, look, with_child, empty_node}
 use Rattle.page_delta.specs.Shared.{slots_in, IsShared, SameLooks, Owned}
 use Rattle.page_delta.specs.declared.node.Node.{Node}
 use Rattle.page_delta.specs.declared.node.Node.TheVariants.{Branch, Leaf}
@@ -139,7 +139,7 @@ not-named xs counts hands loose k m s ne = elim (zero-or (names m (node_at xs k)
   | inr some ↦ let r = names-child m (node_at xs k) some in absurd (ne (s.steps k r.0 m r.1))
 ]
 
-module _ (xs mid ys zs : List (Option Node)) (parent d child fresh : ℕ) (counts hands loose : ℕ → ℕ) (s : IsShared xs counts hands loose) (high : 0 < level_in (node_at xs parent)) (was : child_in (node_at xs parent) d ≡ Some child) (many : 1 < count_in (node_at xs child)) (below : d < 32) (gone : node_at xs fresh ≡ None) (copied : node_at mid fresh ≡ recounted (node_at xs child) 1) (rest : (m : ℕ) → m ≢ fresh → node_at mid m ≡ recounted (node_at xs m) (count_in (node_at xs m) + names m (node_at xs child))) (looks_mid : SameLooks xs mid) (alike : (level q : ℕ) → look level mid (Some fresh) q ≡ look level xs (Some child) q) (link : (n : Node) → node_at mid parent ≡ Some n → node_at ys parent ≡ Some (with_child n d fresh)) (rest_link : (m : ℕ) → m ≢ parent → node_at ys m ≡ node_at mid m) (lowered : zs ≡ set ys child (recounted (node_at ys child) (count_in (node_at ys child) - 1))) where
+module _ (xs mid ys zs : List (Option Node)) (parent d child fresh : ℕ) (counts hands loose : ℕ → ℕ) (s : IsShared xs counts hands loose) (high : 0 < level_in (node_at xs parent)) (was : child_in (node_at xs parent) d ≡ Some child) (many : 1 < count_in (node_at xs child)) (below : d < 32) (gone : node_at xs fresh ≡ None) (copied : node_at mid fresh ≡ node_with_count (node_at xs child) 1) (rest : (m : ℕ) → m ≢ fresh → node_at mid m ≡ node_with_count (node_at xs m) (count_in (node_at xs m) + names m (node_at xs child))) (looks_mid : SameLooks xs mid) (alike : (level q : ℕ) → look level mid (Some fresh) q ≡ look level xs (Some child) q) (link : (n : Node) → node_at mid parent ≡ Some n → node_at ys parent ≡ Some (with_child n d fresh)) (rest_link : (m : ℕ) → m ≢ parent → node_at ys m ≡ node_at mid m) (lowered : zs ≡ set ys child (node_with_count (node_at ys child) (count_in (node_at ys child) - 1))) where
   step : level_in (node_at xs parent) ≡ level_in (node_at xs child) + 1
   step = s.steps parent d child was
 
@@ -150,7 +150,7 @@ module _ (xs mid ys zs : List (Option Node)) (parent d child fresh : ℕ) (count
   same_above m over =
       let zero_is = not-named xs counts hands loose child m s (λ e. omega (arith, step)) in
       rest m (λ e. let z : level_in (node_at xs m) ≡ 0 = ap level_in (ap (λ i. node_at xs i) e ∙ gone) in omega arith)
-      ∙ ap (λ n. recounted (node_at xs m) n) (let eq : count_in (node_at xs m) + names m (node_at xs child) ≡ count_in (node_at xs m) = omega arith in eq) ∙ recounted-same (node_at xs m)
+      ∙ ap (λ n. node_with_count (node_at xs m) n) (let eq : count_in (node_at xs m) + names m (node_at xs child) ≡ count_in (node_at xs m) = omega arith in eq) ∙ recounted-same (node_at xs m)
 
   branch_s : (c l : ℕ) × (kids : List (Option ℕ)) × (node_at xs parent ≡ Some (Branch c l kids))
   branch_s = branch-of (node_at xs parent) high
@@ -176,17 +176,17 @@ module _ (xs mid ys zs : List (Option Node)) (parent d child fresh : ℕ) (count
   fresh_apart : fresh ≢ parent
   fresh_apart = λ e. some-none (Branch branch_s.0 branch_s.1 branch_s.2) (sym branch_s.3 ∙ ap (λ i. node_at xs i) (sym e) ∙ gone)
 
-  mid_child : node_at mid child ≡ recounted (node_at xs child) (count_in (node_at xs child) + names child (node_at xs child))
+  mid_child : node_at mid child ≡ node_with_count (node_at xs child) (count_in (node_at xs child) + names child (node_at xs child))
   mid_child = rest child child_not_fresh
 
   live_ys : IsSome (node_at ys child)
   live_ys = subst (λ (o : Option Node). IsSome o) (sym (rest_link child child_apart ∙ mid_child)) (recounted-live (node_at xs child) (count_in (node_at xs child) + names child (node_at xs child)) live_child)
 
-  zs_at : (m : ℕ) → node_at zs m ≡ recounted (node_at ys m) (cond (eqb m child) (count_in (node_at ys child) - 1) (count_in (node_at ys m)))
+  zs_at : (m : ℕ) → node_at zs m ≡ node_with_count (node_at ys m) (cond (eqb m child) (count_in (node_at ys child) - 1) (count_in (node_at ys m)))
   zs_at m = ap (λ l. node_at l m) lowered ∙ recounted-at ys ys (λ i. count_in (node_at ys i)) child (count_in (node_at ys child) - 1) (λ i. sym (recounted-same (node_at ys i))) live_ys m
 
   zs_other : (m : ℕ) → m ≢ child → node_at zs m ≡ node_at ys m
-  zs_other m ne = ap (λ l. node_at l m) lowered ∙ get_or-set_other ys child m (recounted (node_at ys child) (count_in (node_at ys child) - 1)) None ne
+  zs_other m ne = ap (λ l. node_at l m) lowered ∙ get_or-set_other ys child m (node_with_count (node_at ys child) (count_in (node_at ys child) - 1)) None ne
 
   count_ys : count_in (node_at ys child) ≡ count_in (node_at xs child) + names child (node_at xs child)
   count_ys = ap count_in (rest_link child child_apart ∙ mid_child) ∙ count-recounted (node_at xs child) (count_in (node_at xs child) + names child (node_at xs child)) live_child

@@ -7,7 +7,7 @@ use Rattle.std.proofs.lemmas.List.Recursion.{is_count_by}
 use Rattle.page_pool.specs.Pool.{Pool, count_at}
 use Rattle.page_delta.specs.Totals.{total}
 use Rattle.page_delta.specs.Delta.{uses, uses_in, has_slot, is_holder}
-use Rattle.page_delta.specs.Nodes.{node_at, entry_in, recounted}
+use Rattle.page_delta.specs.Nodes.{node_at, entry_in, node_with_count}
 use Rattle.page_delta.specs.Shared.{slots_in, StandsAt, IsPlaced, KeepsPlaces, Shrinks}
 use Rattle.page_delta.specs.Roots.{IsHeld}
 use Rattle.page_delta.specs.declared.entry.Entry.{Entry}
@@ -25,7 +25,7 @@ pub placed-next : (xs ys : List (Option Node)) → IsPlaced xs → KeepsPlaces x
 placed-next xs ys placed keeps slot = let p = placed slot in (p.0, keeps slot p.0 p.1)
 
 -- nodes counted otherwise
-pub places-recounted : (xs ys : List (Option Node)) (now : ℕ → ℕ) → ((m : ℕ) → node_at ys m ≡ recounted (node_at xs m) (now m)) → KeepsPlaces xs ys
+pub places-recounted : (xs ys : List (Option Node)) (now : ℕ → ℕ) → ((m : ℕ) → node_at ys m ≡ node_with_count (node_at xs m) (now m)) → KeepsPlaces xs ys
 places-recounted xs ys now each slot place at key digit entry is =
     at key digit entry (sym (ap (λ o. entry_in o digit) (each key) ∙ entry-recounted (node_at xs key) (now key) digit) ∙ is)
 
@@ -37,7 +37,7 @@ places-put xs ys fresh node none here rest slot place at key digit entry is same
 ]
 
 -- a copy of a node comes to a key, and nodes are counted otherwise
-pub places-copied : (xs ys : List (Option Node)) (now : ℕ → ℕ) (fresh node : ℕ) → node_at ys fresh ≡ recounted (node_at xs node) 1 → ((m : ℕ) → m ≢ fresh → node_at ys m ≡ recounted (node_at xs m) (now m)) → KeepsPlaces xs ys
+pub places-copied : (xs ys : List (Option Node)) (now : ℕ → ℕ) (fresh node : ℕ) → node_at ys fresh ≡ node_with_count (node_at xs node) 1 → ((m : ℕ) → m ≢ fresh → node_at ys m ≡ node_with_count (node_at xs m) (now m)) → KeepsPlaces xs ys
 places-copied xs ys now fresh node here rest slot place at key digit entry is same = elim (cases_eq key fresh) [
   | inl e ↦ at node digit entry (sym (ap (λ o. entry_in o digit) (ap (λ i. node_at ys i) e ∙ here) ∙ entry-recounted (node_at xs node) 1 digit) ∙ is) same
   | inr ne ↦ at key digit entry (sym (ap (λ o. entry_in o digit) (rest key ne) ∙ entry-recounted (node_at xs key) (now key) digit) ∙ is) same

@@ -3,7 +3,7 @@ use Rattle.std.proofs.Common.{◌≡◌, ◌≢◌, inl, inr, ℕ, zero, suc, �
 use Rattle.std.proofs.lemmas.Bool.{cases_eq, cases_Bool, eq-eqb, eqb-true}
 use Rattle.page_delta.specs.Totals.{total}
 use Rattle.page_delta.specs.Delta.{uses}
-use Rattle.page_delta.specs.Nodes.{node_at, child_in, entry_in, count_in, level_in, recounted, once, names, look}
+use Rattle.page_delta.specs.Nodes.{node_at, child_in, entry_in, count_in, level_in, node_with_count, once, names, look}
 use Rattle.page_delta.specs.Shared.{slots_in, IsShared, Shrinks}
 use Rattle.page_delta.specs.declared.entry.Entry.{Entry}
 use Rattle.page_delta.specs.declared.node.Node.{Node}
@@ -27,12 +27,12 @@ in-hand xs counts hands loose k s =
 
 module _ (xs : List (Option Node)) (k : ℕ) (live : IsSome (node_at xs k)) where
   abbrev pub lowered : List (Option Node)
-  lowered = set xs k (recounted (node_at xs k) (count_in (node_at xs k) - 1))
+  lowered = set xs k (node_with_count (node_at xs k) (count_in (node_at xs k) - 1))
 
   pub lowered_now : ℕ → ℕ
   lowered_now m = cond (eqb m k) (count_in (node_at xs k) - 1) (count_in (node_at xs m))
 
-  pub lowered_at : (m : ℕ) → node_at lowered m ≡ recounted (node_at xs m) (lowered_now m)
+  pub lowered_at : (m : ℕ) → node_at lowered m ≡ node_with_count (node_at xs m) (lowered_now m)
   unfolding lowered_now
   lowered_at m = recounted-at xs xs (λ i. count_in (node_at xs i)) k (count_in (node_at xs k) - 1) (λ i. sym (recounted-same (node_at xs i))) live m
 

@@ -4,7 +4,7 @@ use Rattle.std.proofs.lemmas.Bool.{cases_eq, eq-eqb}
 use Rattle.page_pool.specs.Pool.{Pool, count_at}
 use Rattle.page_delta.specs.Totals.{total}
 use Rattle.page_delta.specs.Delta.{Pages}
-use Rattle.page_delta.specs.Nodes.{node_at, child_in, count_in, level_in, names, recounted, empty_node, look, pairs_from, consed, pages_below}
+use Rattle.page_delta.specs.Nodes.{node_at, child_in, count_in, level_in, names, node_with_count, empty_node, look, pairs_from, entry_and_rest, pages_below}
 use Rattle.page_delta.specs.Shared.{slots_in, IsShared, KeepsPlaces, SameLooks, Shrinks}
 use Rattle.page_delta.specs.Roots.{root_at, map_below, roots, AreSound, IsHeld, AddsRoot}
 use Rattle.page_delta.specs.declared.entry.Entry.{Entry}
@@ -23,7 +23,7 @@ use Rattle.page_delta.proofs.Rooted.{Follows, follows-map, kept-live, kept-next,
 pairs-none : (n start : ℕ) (f : ℕ → Option Entry) → ((k : ℕ) → f k ≡ None) → pairs_from n start f ≡ []
 unfolding pairs_from
 pairs-none zero start f none = refl
-pairs-none (suc n) start f none = ap (λ (o : Option Entry). consed start o (pairs_from n (start + 1) f)) (none start)
+pairs-none (suc n) start f none = ap (λ (o : Option Entry). entry_and_rest start o (pairs_from n (start + 1) f)) (none start)
     ∙ pairs-none n (start + 1) f none
 
 pub pages-none : (xs : List (Option Node)) (root : ℕ) → ((q : ℕ) → look 3 xs (Some root) q ≡ None) → pages_below xs root ≡ []
@@ -175,12 +175,12 @@ root-empty ids ids' id root xs ys node a k p none = record {
 -- a node is counted once more
 module _ (xs : List (Option Node)) (key : ℕ) (live : IsSome (node_at xs key)) where
   abbrev pub raised : List (Option Node)
-  raised = set xs key (recounted (node_at xs key) (count_in (node_at xs key) + 1))
+  raised = set xs key (node_with_count (node_at xs key) (count_in (node_at xs key) + 1))
 
   raised_now : ℕ → ℕ
   raised_now m = cond (eqb m key) (count_in (node_at xs key) + 1) (count_in (node_at xs m))
 
-  raised_at : (m : ℕ) → node_at raised m ≡ recounted (node_at xs m) (raised_now m)
+  raised_at : (m : ℕ) → node_at raised m ≡ node_with_count (node_at xs m) (raised_now m)
   unfolding raised_now
   raised_at m = recounted-at xs xs (λ i. count_in (node_at xs i)) key (count_in (node_at xs key) + 1)
       (λ i. sym (recounted-same (node_at xs i))) live m

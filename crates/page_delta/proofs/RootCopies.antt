@@ -2,7 +2,7 @@
 use Rattle.std.proofs.Common.{◌≡◌, ◌≢◌, inl, inr, ℕ, ◌+◌, ◌^◌, ◌<◌, ◌≤◌, List, set, Option, Some, None, IsSome, is_some, count_by, refl, sym, ap, subst, ◌∙◌, arith}
 use Rattle.page_pool.specs.Pool.{Pool}
 use Rattle.page_delta.specs.Totals.{total}
-use Rattle.page_delta.specs.Nodes.{node_at, count_in, level_in, names, recounted, look}
+use Rattle.page_delta.specs.Nodes.{node_at, count_in, level_in, names, node_with_count, look}
 use Rattle.page_delta.specs.Shared.{IsShared, KeepsPlaces, SameLooks, Stands}
 use Rattle.page_delta.specs.Roots.{root_at, map_below, roots, AreSound, IsHeld}
 use Rattle.page_delta.specs.declared.node.Node.{Node}
@@ -73,8 +73,8 @@ pub record CopiesRoot (xs mid : List (Option Node)) (ids : List (Option Root)) (
   pub again_is : root_at ids id ≡ Some again
   pub many : 1 < count_in (node_at xs before.node)
   pub gone : node_at xs own ≡ None
-  pub copied : node_at mid own ≡ recounted (node_at xs before.node) 1
-  pub rest : (m : ℕ) → m ≢ own → node_at mid m ≡ recounted (node_at xs m) (count_in (node_at xs m) + names m (node_at xs before.node))
+  pub copied : node_at mid own ≡ node_with_count (node_at xs before.node) 1
+  pub rest : (m : ℕ) → m ≢ own → node_at mid m ≡ node_with_count (node_at xs m) (count_in (node_at xs m) + names m (node_at xs before.node))
   pub looks : SameLooks xs mid
   pub alike : (level q : ℕ) → look level mid (Some own) q ≡ look level xs (Some before.node) q
 
@@ -116,7 +116,7 @@ module _ (xs mid : List (Option Node)) (ids : List (Option Root)) (id own : ℕ)
   abbrev zs : List (Option Node)
   zs = lowered mid before.node (live_mid before.node live)
 
-  zs_at : (m : ℕ) → node_at zs m ≡ recounted (node_at mid m) (lowered_now mid before.node (live_mid before.node live) m)
+  zs_at : (m : ℕ) → node_at zs m ≡ node_with_count (node_at mid m) (lowered_now mid before.node (live_mid before.node live) m)
   zs_at m = lowered_at mid before.node (live_mid before.node live) m
 
   looks_zs : SameLooks mid zs

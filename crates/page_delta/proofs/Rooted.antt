@@ -5,7 +5,7 @@ use Rattle.std.proofs.lemmas.List.{get_or-set_same, get_or-set_other}
 use Rattle.page_pool.specs.Pool.{Pool, count_at}
 use Rattle.page_delta.specs.Totals.{total}
 use Rattle.page_delta.specs.Delta.{Pages}
-use Rattle.page_delta.specs.Nodes.{node_at, level_in, look, consed, pairs_from, pages_below}
+use Rattle.page_delta.specs.Nodes.{node_at, level_in, look, entry_and_rest, pairs_from, pages_below}
 use Rattle.page_delta.specs.Shared.{slots_in, IsShared, IsPlaced, IsClosed, IsCounted}
 use Rattle.page_delta.specs.Roots.{root_at, map_below, roots, AreSound, IsHeld}
 use Rattle.page_delta.specs.declared.entry.Entry.{Entry}
@@ -19,7 +19,7 @@ use Rattle.page_delta.proofs.Inserting.{high-live}
 pub pairs-congr : (n start : ℕ) (f g : ℕ → Option Entry) → ((k : ℕ) → f k ≡ g k) → pairs_from n start f ≡ pairs_from n start g
 unfolding pairs_from
 pairs-congr zero start f g same = refl
-pairs-congr (suc n) start f g same = rw (same start) (ap (consed start (g start)) (pairs-congr n (start + 1) f g same))
+pairs-congr (suc n) start f g same = rw (same start) (ap (entry_and_rest start (g start)) (pairs-congr n (start + 1) f g same))
 
 pub pages-same : (xs ys : List (Option Node)) (a b : ℕ) → ((q : ℕ) → look 3 ys (Some b) q ≡ look 3 xs (Some a) q) → pages_below ys b ≡ pages_below xs a
 unfolding pages_below

@@ -4,7 +4,7 @@ use Rattle.std.proofs.lemmas.Bool.{eq-eqb, eqb-true, cases_eq, cases_Bool}
 use Rattle.std.proofs.lemmas.List.{get_or-set_same, get_or-set_other}
 use Rattle.page_delta.specs.Totals.{total}
 use Rattle.page_delta.specs.Delta.{uses}
-use Rattle.page_delta.specs.Nodes.{node_at, child_in, entry_in, count_in, level_in, recounted, width, once, names}
+use Rattle.page_delta.specs.Nodes.{node_at, child_in, entry_in, count_in, level_in, node_with_count, width, once, names}
 use Rattle.page_delta.specs.Shared.{slots_in, IsShared}
 use Rattle.page_delta.specs.declared.entry.Entry.{Entry}
 use Rattle.page_delta.specs.declared.node.Node.{Node}
@@ -27,38 +27,38 @@ some-live None x e = absurd (some-none x (sym e))
 some-live (Some y) x e = refl
 
 -- what a recount leaves
-pub child-recounted : (o : Option Node) (c d : ℕ) → child_in (recounted o c) d ≡ child_in o d
+pub child-recounted : (o : Option Node) (c d : ℕ) → child_in (node_with_count o c) d ≡ child_in o d
 child-recounted None c d = refl
 child-recounted (Some (Branch count level kids)) c d = refl
 child-recounted (Some (Leaf count es)) c d = refl
 
-pub entry-recounted : (o : Option Node) (c d : ℕ) → entry_in (recounted o c) d ≡ entry_in o d
+pub entry-recounted : (o : Option Node) (c d : ℕ) → entry_in (node_with_count o c) d ≡ entry_in o d
 entry-recounted None c d = refl
 entry-recounted (Some (Branch count level kids)) c d = refl
 entry-recounted (Some (Leaf count es)) c d = refl
 
-pub level-recounted : (o : Option Node) (c : ℕ) → level_in (recounted o c) ≡ level_in o
+pub level-recounted : (o : Option Node) (c : ℕ) → level_in (node_with_count o c) ≡ level_in o
 level-recounted None c = refl
 level-recounted (Some (Branch count level kids)) c = refl
 level-recounted (Some (Leaf count es)) c = refl
 
-pub names-recounted : (m : ℕ) (o : Option Node) (c : ℕ) → names m (recounted o c) ≡ names m o
+pub names-recounted : (m : ℕ) (o : Option Node) (c : ℕ) → names m (node_with_count o c) ≡ names m o
 names-recounted m None c = refl
 names-recounted m (Some (Branch count level kids)) c = refl
 names-recounted m (Some (Leaf count es)) c = refl
 
-pub slots-recounted : (s : ℕ) (o : Option Node) (c : ℕ) → slots_in s (recounted o c) ≡ slots_in s o
+pub slots-recounted : (s : ℕ) (o : Option Node) (c : ℕ) → slots_in s (node_with_count o c) ≡ slots_in s o
 slots-recounted s None c = refl
 slots-recounted s (Some (Branch count level kids)) c = refl
 slots-recounted s (Some (Leaf count es)) c = refl
 
-branch-recounted : (o : Option Node) (c count level : ℕ) (kids : List (Option ℕ)) → recounted o c ≡ Some (Branch count level kids) → (before : ℕ) × (o ≡ Some (Branch before level kids))
+branch-recounted : (o : Option Node) (c count level : ℕ) (kids : List (Option ℕ)) → node_with_count o c ≡ Some (Branch count level kids) → (before : ℕ) × (o ≡ Some (Branch before level kids))
 branch-recounted None c count level kids e = absurd (some-none (Branch count level kids) (sym e))
 branch-recounted (Some (Branch b l ks)) c count level kids e =
     (b, (let el : l ≡ level = cc in let ek : ks ≡ kids = cc in ap (λ (k : List (Option ℕ)). Some (Branch b l k)) ek ∙ ap (λ (n : ℕ). Some (Branch b n kids)) el))
 branch-recounted (Some (Leaf b es)) c count level kids e = absurd (let no : ⊥ = cc in no)
 
-width-recounted : (o : Option Node) (c : ℕ) (node : Node) → recounted o c ≡ Some node → (before : Node) × (o ≡ Some before) × (width node ≡ width before)
+width-recounted : (o : Option Node) (c : ℕ) (node : Node) → node_with_count o c ≡ Some node → (before : Node) × (o ≡ Some before) × (width node ≡ width before)
 width-recounted None c node e = absurd (some-none node (sym e))
 width-recounted (Some (Branch b l ks)) c node e =
     (Branch b l ks, refl, ap width (let same : node ≡ Branch c l ks = cc in same))
@@ -66,7 +66,7 @@ width-recounted (Some (Leaf b es)) c node e =
     (Leaf b es, refl, ap width (let same : node ≡ Leaf c es = cc in same))
 
 -- counts change, and what is in hand with them
-pub shared-recounted : (xs ys : List (Option Node)) (counts hands hands' loose now : ℕ → ℕ) → IsShared xs counts hands loose → ((m : ℕ) → node_at ys m ≡ recounted (node_at xs m) (now m)) → ((m : ℕ) → IsSome (node_at xs m) → now m + hands m ≡ count_in (node_at xs m) + hands' m) → ((m : ℕ) → node_at xs m ≡ None → hands' m ≡ 0) → ((m : ℕ) → IsSome (node_at xs m) → 0 < now m) → IsShared ys counts hands' loose
+pub shared-recounted : (xs ys : List (Option Node)) (counts hands hands' loose now : ℕ → ℕ) → IsShared xs counts hands loose → ((m : ℕ) → node_at ys m ≡ node_with_count (node_at xs m) (now m)) → ((m : ℕ) → IsSome (node_at xs m) → now m + hands m ≡ count_in (node_at xs m) + hands' m) → ((m : ℕ) → node_at xs m ≡ None → hands' m ≡ 0) → ((m : ℕ) → IsSome (node_at xs m) → 0 < now m) → IsShared ys counts hands' loose
 shared-recounted xs ys counts hands hands' loose now s each moved none some =
     let names_same : (m : ℕ) → total (names m) ys ≡ total (names m) xs = λ m. total-same (names m) refl xs ys (λ k. ap (names m) (each k) ∙ names-recounted m (node_at xs k) (now k)) in
     record {
@@ -75,28 +75,28 @@ shared-recounted xs ys counts hands hands' loose now s each moved none some =
       wide = λ key node e. let old = width-recounted (node_at xs key) (now key) node (sym (each key) ∙ e) in old.2 ∙ s.wide key old.0 old.1;
       flat = λ key. let same = ap level_in (each key) ∙ level-recounted (node_at xs key) (now key) in let low = s.flat key in omega arith;
       alive = λ key live. elim (cases-option (node_at xs key)) [
-        | inl gone ↦ absurd (not-some (node_at ys key) (each key ∙ ap (λ o. recounted o (now key)) gone) live)
+        | inl gone ↦ absurd (not-some (node_at ys key) (each key ∙ ap (λ o. node_with_count o (now key)) gone) live)
         | inr here ↦
             let pos = some key (some-live (node_at xs key) here.0 here.1) in
-            let is : count_in (node_at ys key) ≡ now key = ap count_in (each key ∙ ap (λ o. recounted o (now key)) here.1) ∙ count-now here.0 (now key) in
+            let is : count_in (node_at ys key) ≡ now key = ap count_in (each key ∙ ap (λ o. node_with_count o (now key)) here.1) ∙ count-now here.0 (now key) in
             omega arith
       ];
       counted = λ key. elim (cases-option (node_at xs key)) [
         | inl gone ↦
             let before = s.counted key in let same = names_same key in let zero = none key gone in
             let was : count_in (node_at xs key) ≡ 0 = ap count_in gone in
-            let is : count_in (node_at ys key) ≡ 0 = ap count_in (each key ∙ ap (λ o. recounted o (now key)) gone) in
+            let is : count_in (node_at ys key) ≡ 0 = ap count_in (each key ∙ ap (λ o. node_with_count o (now key)) gone) in
             omega arith
         | inr here ↦
             let before = s.counted key in let same = names_same key in
             let move = moved key (some-live (node_at xs key) here.0 here.1) in
-            let is : count_in (node_at ys key) ≡ now key = ap count_in (each key ∙ ap (λ o. recounted o (now key)) here.1) ∙ count-now here.0 (now key) in
+            let is : count_in (node_at ys key) ≡ now key = ap count_in (each key ∙ ap (λ o. node_with_count o (now key)) here.1) ∙ count-now here.0 (now key) in
             omega arith
       ];
       held = λ slot. s.held slot ∙ ap (λ n. loose slot + n) (sym (total-same (slots_in slot) refl xs ys (λ k. ap (slots_in slot) (each k) ∙ slots-recounted slot (node_at xs k) (now k))));
     }
   where
-    count-now : (node : Node) (c : ℕ) → count_in (recounted (Some node) c) ≡ c
+    count-now : (node : Node) (c : ℕ) → count_in (node_with_count (Some node) c) ≡ c
     count-now (Branch b l ks) c = refl
     count-now (Leaf b es) c = refl
 

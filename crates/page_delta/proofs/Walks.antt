@@ -2,12 +2,12 @@
 use Rattle.std.proofs.Common.{◌≡◌, inl, inr, ℕ, zero, suc, ◌+◌, ◌-◌, ◌*◌, ◌/◌, ◌%◌, ◌^◌, ◌<◌, ◌≤◌, List, [], ◌∷◌, ◌++◌, length, Option, Some, None, Bool, cond, nat_lt, true, false, refl, sym, ap, ◌∙◌, arith}
 use Rattle.std.proofs.lemmas.Bool.{cases_Bool, ltb-true, lt-ltb}
 use Rattle.page_delta.specs.Delta.{Pages, pages_after, if_after}
-use Rattle.page_delta.specs.Nodes.{node_at, child_in, entry_in, look, consed, pairs_from, pages_below, leaf_part, part}
+use Rattle.page_delta.specs.Nodes.{node_at, child_in, entry_in, look, entry_and_rest, pairs_from, pages_below, leaf_part, part}
 use Rattle.page_delta.specs.declared.entry.Entry.{Entry}
 use Rattle.page_delta.specs.declared.node.Node.{Node}
 use Rattle.page_delta.proofs.Lookups.{pairs-within, length-most}
 
-consed-append : (p : ℕ) (o : Option Entry) (xs ys : Pages) → consed p o (xs ++ ys) ≡ consed p o xs ++ ys
+consed-append : (p : ℕ) (o : Option Entry) (xs ys : Pages) → entry_and_rest p o (xs ++ ys) ≡ entry_and_rest p o xs ++ ys
 consed-append p None xs ys = refl
 consed-append p (Some e) xs ys = refl
 
@@ -18,18 +18,18 @@ pairs-append zero m s f =
     ap (λ i. pairs_from i s f) a ∙ ap (λ i. pairs_from m i f) b
 pairs-append (suc n) m s f =
     let a : suc n + m ≡ suc (n + m) = omega arith in let b : s + 1 + n ≡ s + suc n = omega arith in
-    ap (λ i. pairs_from i s f) a ∙ ap (λ (r : Pages). consed s (f s) r)
+    ap (λ i. pairs_from i s f) a ∙ ap (λ (r : Pages). entry_and_rest s (f s) r)
     (pairs-append n m (s + 1) f ∙ ap (λ i. pairs_from n (s + 1) f ++ pairs_from m i f) b)
     ∙ consed-append s (f s) (pairs_from n (s + 1) f) (pairs_from m (s + suc n) f)
 
-one-pair : (s : ℕ) (f : ℕ → Option Entry) → pairs_from 1 s f ≡ consed s (f s) []
+one-pair : (s : ℕ) (f : ℕ → Option Entry) → pairs_from 1 s f ≡ entry_and_rest s (f s) []
 unfolding pairs_from
 one-pair s f = refl
 
 pairs-none : (n s : ℕ) (f : ℕ → Option Entry) → ((k : ℕ) → f k ≡ None) → pairs_from n s f ≡ []
 unfolding pairs_from
 pairs-none zero s f none = refl
-pairs-none (suc n) s f none = ap (λ (o : Option Entry). consed s o (pairs_from n (s + 1) f)) (none s) ∙ pairs-none n (s + 1) f none
+pairs-none (suc n) s f none = ap (λ (o : Option Entry). entry_and_rest s o (pairs_from n (s + 1) f)) (none s) ∙ pairs-none n (s + 1) f none
 
 after-append : (b : ℕ) (xs ys : Pages) → pages_after b (xs ++ ys) ≡ pages_after b xs ++ pages_after b ys
 after-append b [] ys = refl
@@ -58,20 +58,20 @@ part-start level nodes key p = let z : 0 * 32 ^ level ≡ 0 = omega arith in
 
 -- one place more of a leaf
 leaf-more : (node : Option Node) (p d : ℕ) → d < 32
-    → leaf_part node p (d + 1) ≡ leaf_part node p d ++ consed (p * 32 + d) (entry_in node d) []
+    → leaf_part node p (d + 1) ≡ leaf_part node p d ++ entry_and_rest (p * 32 + d) (entry_in node d) []
 unfolding leaf_part
 leaf-more node p d low =
     let digit : (p * 32 + d) % 32 ≡ d = omega arith in
     pairs-append d 1 (p * 32) (λ page. entry_in node (page % 32))
     ∙ ap (λ (r : Pages). pairs_from d (p * 32) (λ page. entry_in node (page % 32)) ++ r)
-    (one-pair (p * 32 + d) (λ page. entry_in node (page % 32)) ∙ ap (λ i. consed (p * 32 + d) (entry_in node i) []) digit)
+    (one-pair (p * 32 + d) (λ page. entry_in node (page % 32)) ∙ ap (λ i. entry_and_rest (p * 32 + d) (entry_in node i) []) digit)
 
 leaf-after : (b : ℕ) (node : Option Node) (p d : ℕ) (o : Option Entry) → d < 32 → entry_in node d ≡ o
-    → pages_after b (leaf_part node p (d + 1)) ≡ pages_after b (leaf_part node p d) ++ pages_after b (consed (p * 32 + d) o [])
+    → pages_after b (leaf_part node p (d + 1)) ≡ pages_after b (leaf_part node p d) ++ pages_after b (entry_and_rest (p * 32 + d) o [])
 leaf-after b node p d o low is =
     ap (λ (r : Pages). pages_after b r) (leaf-more node p d low
-    ∙ ap (λ (o : Option Entry). leaf_part node p d ++ consed (p * 32 + d) o []) is)
-    ∙ after-append b (leaf_part node p d) (consed (p * 32 + d) o [])
+    ∙ ap (λ (o : Option Entry). leaf_part node p d ++ entry_and_rest (p * 32 + d) o []) is)
+    ∙ after-append b (leaf_part node p d) (entry_and_rest (p * 32 + d) o [])
 
 pub leaf-none : (b : ℕ) (node : Option Node) (p d : ℕ) → d < 32 → entry_in node d ≡ None
     → pages_after b (leaf_part node p (d + 1)) ≡ pages_after b (leaf_part node p d)
@@ -173,11 +173,11 @@ pub length-after : (b n s : ℕ) (f g : ℕ → Option Entry) → ((k : ℕ) →
 unfolding pairs_from
 length-after b zero s f g same = refl
 length-after b (suc n) s f g same =
-    ap (λ (o : Option Entry). length (consed s o (pairs_from n (s + 1) g))) (same s)
+    ap (λ (o : Option Entry). length (entry_and_rest s o (pairs_from n (s + 1) g))) (same s)
     ∙ step (f s) (pairs_from n (s + 1) f) (pairs_from n (s + 1) g) (length-after b n (s + 1) f g same)
   where
     step : (o : Option Entry) (xs ys : Pages) → length ys ≡ length (pages_after b xs)
-        → length (consed s (if_after b o) ys) ≡ length (pages_after b (consed s o xs))
+        → length (entry_and_rest s (if_after b o) ys) ≡ length (pages_after b (entry_and_rest s o xs))
     step None xs ys same = same
     step (Some e) xs ys same = elim (cases_Bool (nat_lt b e.stamp)) [ inl h ↦ rw h (ap suc same) | inr h ↦ rw h same ]
 

@@ -36,9 +36,9 @@ recount (Branch count level children) now = Branch now level children
 recount (Leaf count entries) now = Leaf now entries
 
 -- the node with another count
-abbrev pub recounted : Option Node → ℕ → Option Node
-recounted None now = None
-recounted (Some node) now = Some (recount node now)
+abbrev pub node_with_count : Option Node → ℕ → Option Node
+node_with_count None now = None
+node_with_count (Some node) now = Some (recount node now)
 
 abbrev pub with_child : Node → ℕ → ℕ → Node
 with_child (Branch count level children) digit child = Branch count level (slice_set children digit (Some child))
@@ -82,14 +82,14 @@ look zero nodes (Some key) page = entry_in (node_at nodes key) (page % 32)
 look (suc level) nodes (Some key) page =
     look level nodes (child_in (node_at nodes key) ((page / 32 ^ suc level) % 32)) page
 
-abbrev pub consed : ℕ → Option Entry → Pages → Pages
-consed page None rest = rest
-consed page (Some entry) rest = (page, entry) ∷ rest
+abbrev pub entry_and_rest : ℕ → Option Entry → Pages → Pages
+entry_and_rest page None rest = rest
+entry_and_rest page (Some entry) rest = (page, entry) ∷ rest
 
 -- the pairs of a function at so many numbers from one on
 unfoldable pub pairs_from : ℕ → ℕ → (ℕ → Option Entry) → Pages
 pairs_from zero start at = []
-pairs_from (suc n) start at = consed start (at start) (pairs_from n (start + 1) at)
+pairs_from (suc n) start at = entry_and_rest start (at start) (pairs_from n (start + 1) at)
 
 -- the map of a tree
 unfoldable pub pages_below : List (Option Node) → ℕ → Pages

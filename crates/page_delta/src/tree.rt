@@ -8,7 +8,7 @@ ghost use Rattle.page_delta.specs.declared.node.Node.{Node as Held_node};
 ghost use Rattle.page_delta.specs.declared.node.Node.TheVariants.{Leaf};
 ghost use Rattle.page_delta.specs.Totals.{total};
 ghost use Rattle.page_delta.specs.Delta.{uses};
-ghost use Rattle.page_delta.specs.Nodes.{node_at, child_in, entry_in, width, count_in, level_in, recounted, with_child, with_entry, once, names, with_node, look};
+ghost use Rattle.page_delta.specs.Nodes.{node_at, child_in, entry_in, width, count_in, level_in, node_with_count, with_child, with_entry, once, names, with_node, look};
 ghost use Rattle.page_delta.specs.Shared.{slots_in, IsShared, IsCounted, IsClosed, Stands, SameLooks, KeepsBytes, Shrinks, Grows, Owned, IsOwnLeaf, Inserts};
 
 use crate::entry::Entry;
@@ -61,7 +61,7 @@ pub(crate) fn own_leaf(nodes: &Slab<Node>, root: usize, page: u32) -> Option<usi
 pub(crate) fn raise(nodes: &mut Slab<Node>, node: usize)
     requires live { IsSome (node_at nodes.old.slots node) }
     requires room { count_in (node_at nodes.old.slots node) + 1 < 2 ^ 64 }
-    ensures { nodes.new ≡ with_node nodes.old node (recounted (node_at nodes.old.slots node) (count_in (node_at nodes.old.slots node) + 1)) }
+    ensures { nodes.new ≡ with_node nodes.old node (node_with_count (node_at nodes.old.slots node) (count_in (node_at nodes.old.slots node) + 1)) }
 {
     let shared = &mut nodes[node];
     let count = shared.count();
@@ -72,7 +72,7 @@ pub(crate) fn raise(nodes: &mut Slab<Node>, node: usize)
 pub(crate) fn lower(nodes: &mut Slab<Node>, node: usize)
     requires live { IsSome (node_at nodes.old.slots node) }
     requires some { 0 < count_in (node_at nodes.old.slots node) }
-    ensures { nodes.new ≡ with_node nodes.old node (recounted (node_at nodes.old.slots node) (count_in (node_at nodes.old.slots node) - 1)) }
+    ensures { nodes.new ≡ with_node nodes.old node (node_with_count (node_at nodes.old.slots node) (count_in (node_at nodes.old.slots node) - 1)) }
 {
     let shared = &mut nodes[node];
     let count = shared.count();
@@ -83,7 +83,7 @@ pub(crate) fn lower(nodes: &mut Slab<Node>, node: usize)
 fn raise_each(nodes: &mut Slab<Node>, children: &[Option<usize>])
     requires live { (k child : ℕ) → slice_index_or children.now k None ≡ Some child → IsSome (node_at nodes.old.slots child) }
     requires room { (child : ℕ) → count_in (node_at nodes.old.slots child) + length children.now < 2 ^ 64 }
-    ensures each { (m : ℕ) → node_at nodes.new.slots m ≡ recounted (node_at nodes.old.slots m) (count_in (node_at nodes.old.slots m) + total (once m) children.now) }
+    ensures each { (m : ℕ) → node_at nodes.new.slots m ≡ node_with_count (node_at nodes.old.slots m) (count_in (node_at nodes.old.slots m) + total (once m) children.now) }
     ensures grows { Grows nodes.old nodes.new 0 }
 {
     for child in children {
@@ -139,7 +139,7 @@ pub(crate) fn share(nodes: &mut Slab<Node>, pool: &mut PagePool, node: &Node)
     requires children { (digit child : ℕ) → child_in (Some node.now) digit ≡ Some child → IsSome (node_at nodes.old.slots child) }
     requires entries { (digit : ℕ) (entry : Held) → entry_in (Some node.now) digit ≡ Some entry → IsLive pool.old entry.slot }
     requires wide { width node.now ≡ 32 }
-    ensures each { (m : ℕ) → node_at nodes.new.slots m ≡ recounted (node_at nodes.old.slots m) (count_in (node_at nodes.old.slots m) + names m (Some node.now)) }
+    ensures each { (m : ℕ) → node_at nodes.new.slots m ≡ node_with_count (node_at nodes.old.slots m) (count_in (node_at nodes.old.slots m) + names m (Some node.now)) }
     ensures grows { Grows nodes.old nodes.new 0 }
     ensures counts { (slot : ℕ) → count_at pool.new slot ≡ count_at pool.old slot + slots_in slot (Some node.now) }
     ensures counted { IsCounted pool.new }
@@ -159,8 +159,8 @@ pub(crate) fn copy(nodes: &mut Slab<Node>, pool: &mut PagePool, node: usize) -> 
     requires room { HasRoomFor nodes.old 1 }
     ensures shared { (hands loose : ℕ → ℕ) → IsShared nodes.old.slots (count_at pool.old) hands loose → IsShared nodes.new.slots (count_at pool.new) (λ m. hands m + once m (Some result)) loose }
     ensures fresh { node_at nodes.old.slots result ≡ None }
-    ensures copy { node_at nodes.new.slots result ≡ recounted (node_at nodes.old.slots node) 1 }
-    ensures rest { (m : ℕ) → m ≢ result → node_at nodes.new.slots m ≡ recounted (node_at nodes.old.slots m) (count_in (node_at nodes.old.slots m) + names m (node_at nodes.old.slots node)) }
+    ensures copy { node_at nodes.new.slots result ≡ node_with_count (node_at nodes.old.slots node) 1 }
+    ensures rest { (m : ℕ) → m ≢ result → node_at nodes.new.slots m ≡ node_with_count (node_at nodes.old.slots m) (count_in (node_at nodes.old.slots m) + names m (node_at nodes.old.slots node)) }
     ensures looks { SameLooks nodes.old.slots nodes.new.slots }
     ensures alike { (level page : ℕ) → look level nodes.new.slots (Some result) page ≡ look level nodes.old.slots (Some node) page }
     ensures grows { Grows nodes.old nodes.new 1 }

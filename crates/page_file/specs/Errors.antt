@@ -2,7 +2,7 @@
 use Rattle.std.specs.Prelude.{ℕ, ◌≤◌, Result, Err, IsErrOf}
 use Rattle.disk_model.specs.declared.disk.DiskError.{DiskError}
 use Rattle.disk_model.specs.declared.disk.DiskError.TheVariants as disk
-use Rattle.disk_model.specs.Call.{counted}
+use Rattle.disk_model.specs.Call.{count_after}
 use Rattle.page_file.specs.declared.error.PageError.{PageError}
 use Rattle.page_file.specs.declared.error.PageError.TheVariants.{BadPage, Fault, Memory}
 
@@ -13,7 +13,7 @@ page_error disk.Memory = Memory
 -- `Fault` comes only where the disk's count of faults rose, or stands at the top of a `u64`
 pub record HasCause {T : Type 0} (old new : ℕ) (result : Result T PageError) : Type 0 where
   pub never_falls : old ≤ new
-  pub fault : IsErrOf result Fault → counted old 1 ≤ new
+  pub fault : IsErrOf result Fault → count_after old 1 ≤ new
 
 -- neither a fault nor want of memory ended the call
 abbrev pub IsAnswered : {T : Type 0} → Result T PageError → Type 0

@@ -4,7 +4,7 @@ ghost use Rattle.std.specs.Prelude.{◌≡◌, ◌∷◌, [], length, take, drop
 ghost use Rattle.std.specs.List.{range_with_len};
 ghost use Rattle.hex.specs.Hex.{encode_lower};
 ghost use Rattle.page_spec.specs.PageFile.{runs_of, index_text, file_length};
-ghost use Rattle.page_spec.specs.Layers.{memory_from, stale, plan, merged, steps_for};
+ghost use Rattle.page_spec.specs.Layers.{memory_from, stale, plan, merged_pages, steps_for};
 ghost use Rattle.page_spec.specs.Example.{three_pages, one_page, layer_with};
 
 /// Chunks whose hash may have changed.
@@ -18,16 +18,16 @@ pub fn stale_chunks()
     ensures written { stale (255 ∷ 256 ∷ []) 0 257 ≡ 0 ∷ 1 ∷ [] }
 {}
 
-/// Which layers are merged, counted from 0, and what comes of it.
+/// Which layers are merged_pages, counted from 0, and what comes of it.
 #[tactic(auto, unfolding(crate::specs::Computing::pages_compute))]
 pub fn merge_plans()
     ensures both { plan (180 ∷ 120 ∷ []) ≡ Some 0 }
     ensures last_two { plan (100 ∷ 30 ∷ 20 ∷ []) ≡ Some 1 }
     ensures nothing { plan (100 ∷ 30 ∷ 15 ∷ []) ≡ None }
     ensures one { plan (1 ∷ []) ≡ None }
-    ensures all { length (merged 300 true (range_with_len 0 180 ∷ range_with_len 180 120 ∷ [])) ≡ 300 }
-    ensures overlap { merged 9 false ((2 ∷ 3 ∷ []) ∷ (3 ∷ 8 ∷ []) ∷ []) ≡ 2 ∷ 3 ∷ 8 ∷ [] }
-    ensures half { merged 4 true ((1 ∷ []) ∷ (3 ∷ []) ∷ []) ≡ 0 ∷ 1 ∷ 2 ∷ 3 ∷ [] }
+    ensures all { length (merged_pages 300 true (range_with_len 0 180 ∷ range_with_len 180 120 ∷ [])) ≡ 300 }
+    ensures overlap { merged_pages 9 false ((2 ∷ 3 ∷ []) ∷ (3 ∷ 8 ∷ []) ∷ []) ≡ 2 ∷ 3 ∷ 8 ∷ [] }
+    ensures half { merged_pages 4 true ((1 ∷ []) ∷ (3 ∷ []) ∷ []) ≡ 0 ∷ 1 ∷ 2 ∷ 3 ∷ [] }
     ensures steps { steps_for 300 ≡ 3 }
     ensures few_steps { steps_for 50 ≡ 2 }
 {}

@@ -1,7 +1,7 @@
 -- The lines of a script that is taken in parts.
 use Rattle.std.proofs.Common.{◌≡◌, ◌≤◌, ℕ, suc, ◌+◌, ◌==◌, Bool, true, false, cond, List, [], ◌∷◌, ◌++◌, length, refl, ◌∙◌, ap, sym, arith, append_assoc, zero-add}
 use Rattle.std.specs.List.{AllByRecursion, onto_first}
-use Rattle.script_text.specs.Script.{lines, feeds, joined, IsLine, IsShort}
+use Rattle.script_text.specs.Script.{lines, feeds, text_of_lines, IsLine, IsShort}
 
 no_feed_first : (b : Bool) (n : ℕ) → cond b (suc n) n ≡ 0 → (b ≡ false) × (n ≡ 0)
 no_feed_first true n h = absurd (omega arith)
@@ -31,17 +31,17 @@ lines_last (b ∷ c ∷ bs) h =
     let no = no_feed_first (b == 10) (feeds (c ∷ bs)) h in
     rw (no.0, lines_last (c ∷ bs) no.1) refl
 
-pub lines_joined : (done : List (List ℕ)) (rest : List ℕ) → AllByRecursion IsLine done → lines (joined done ++ rest) ≡ done ++ lines rest
+pub lines_joined : (done : List (List ℕ)) (rest : List ℕ) → AllByRecursion IsLine done → lines (text_of_lines done ++ rest) ≡ done ++ lines rest
 lines_joined [] rest h = refl
 lines_joined (line ∷ done) rest h =
-    ap lines (append_assoc (line ++ 10 ∷ []) (joined done) rest ∙ append_assoc line (10 ∷ []) (joined done ++ rest))
-    ∙ lines_line line (joined done ++ rest) h.0 ∙ ap (λ ls. line ∷ ls) (lines_joined done rest h.1)
+    ap lines (append_assoc (line ++ 10 ∷ []) (text_of_lines done) rest ∙ append_assoc line (10 ∷ []) (text_of_lines done ++ rest))
+    ∙ lines_line line (text_of_lines done ++ rest) h.0 ∙ ap (λ ls. line ∷ ls) (lines_joined done rest h.1)
 
-pub feeds_joined : (done : List (List ℕ)) (rest : List ℕ) → AllByRecursion IsLine done → feeds (joined done ++ rest) ≡ length done + feeds rest
+pub feeds_joined : (done : List (List ℕ)) (rest : List ℕ) → AllByRecursion IsLine done → feeds (text_of_lines done ++ rest) ≡ length done + feeds rest
 feeds_joined [] rest h = sym (zero-add (feeds rest))
 feeds_joined (line ∷ done) rest h =
-    let e : feeds ((line ++ 10 ∷ []) ++ (joined done ++ rest)) ≡ feeds line + 1 + feeds (joined done ++ rest) = feeds-append (line ++ 10 ∷ []) (joined done ++ rest) ∙ ap (λ n. n + feeds (joined done ++ rest)) (feeds-append line (10 ∷ [])) in
-    ap feeds (append_assoc (line ++ 10 ∷ []) (joined done) rest) ∙ e ∙ omega (arith, feeds_joined done rest h.1, h.0)
+    let e : feeds ((line ++ 10 ∷ []) ++ (text_of_lines done ++ rest)) ≡ feeds line + 1 + feeds (text_of_lines done ++ rest) = feeds-append (line ++ 10 ∷ []) (text_of_lines done ++ rest) ∙ ap (λ n. n + feeds (text_of_lines done ++ rest)) (feeds-append line (10 ∷ [])) in
+    ap feeds (append_assoc (line ++ 10 ∷ []) (text_of_lines done) rest) ∙ e ∙ omega (arith, feeds_joined done rest h.1, h.0)
 
 -- each line is no longer than the one at its place, and there are no more
 abbrev pub AreBelow : List (List ℕ) → List (List ℕ) → Type 0

@@ -20,7 +20,7 @@ use Rattle.script_text.specs.declared.command.Command.{Command}
 use Rattle.script_text.specs.declared.command.Command.TheVariants as commands
 use Rattle.script_text.specs.declared.parsing.Parsed.TheVariants.{Silent}
 use Rattle.script_text.specs.Commands.{canister_of, certify_of, check_of, del_of, drop_of, forget_of, grow_of, manifest_of, module_command_of, purge_of, put_of, read_of, reset_of, root_of, scratch_of, time_of, tree_of, witness_of, write_of}
-use Rattle.script_text.specs.Commands.{Form, FoundSpells, IsCommand, SpellsCommand, alone, command_by, command_of, command_of_words, forms, parsed, parsed_by}
+use Rattle.script_text.specs.Commands.{Form, FoundSpells, IsCommand, SpellsCommand, alone, command_by, command_of, command_of_words, forms, parsed_line, parsed_by}
 use Rattle.script_text.specs.Script.{is_silent, words}
 use Rattle.script_text.specs.Words.{each_of, hash_of, height_of, height_or_live, hex_of, hex_up_to, id_of, is_label_byte, is_number, is_path_count, label_of, mem_of, module_of, number_of, number_up_to, onto, path_of, path_of_parts, paths_of, plain_label, such_that}
 
@@ -319,7 +319,7 @@ words_spell : (ws : List Bytes) → FoundSpells (command_of_words ws)
 words_spell [] = tt
 words_spell (w ∷ ws) = by_form forms all_forms w ws
 
-pub line_spells : (line : Bytes) → SpellsCommand (parsed line)
+pub line_spells : (line : Bytes) → SpellsCommand (parsed_line line)
 line_spells line = by (is_silent line) (command_of line) (words_spell (words line))
   where
     by : (b : Bool) (o : Option Command) → FoundSpells o → SpellsCommand (cond b Silent (parsed_by o))

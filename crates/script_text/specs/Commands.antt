@@ -179,8 +179,8 @@ parsed_by None = BadLine
 parsed_by (Some command) = Line command
 
 -- what a line is
-abbrev pub parsed : Bytes → Parsed
-parsed line = if is_silent line then Silent else parsed_by (command_of line)
+abbrev pub parsed_line : Bytes → Parsed
+parsed_line line = if is_silent line then Silent else parsed_by (command_of line)
 
 -- ---- sizes
 

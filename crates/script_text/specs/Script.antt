@@ -20,8 +20,8 @@ abbrev pub IsLine : Bytes → Type 0
 IsLine bytes = feeds bytes ≡ 0
 
 -- lines, each with a line feed behind it
-abbrev pub joined : List Bytes → Bytes
-joined some_lines = flat_map (λ line. line ++ 10 ∷ []) some_lines
+abbrev pub text_of_lines : List Bytes → Bytes
+text_of_lines some_lines = flat_map (λ line. line ++ 10 ∷ []) some_lines
 
 -- the words of a line: what stands between its spaces, 32
 abbrev pub words : Bytes → List Bytes

@@ -1,7 +1,7 @@
 //! What a line is.
 
 ghost use Rattle.std.specs.Prelude.{◌≡◌, IfOk, map};
-ghost use Rattle.script_text.specs.Commands.{forms, command_by, command_of, parsed, FoundFits, ParsedFits};
+ghost use Rattle.script_text.specs.Commands.{forms, command_by, command_of, parsed_line, FoundFits, ParsedFits};
 ghost use Rattle.script_text.specs.Script.{is_silent as is_silent_line};
 
 use crate::command::Command;
@@ -77,7 +77,7 @@ pub fn parse(alloc: Global, line: &[u8]) -> Result<Option<Command>, NoMemory>
 
 /// What a line is. Its command fits its form.
 pub fn parse_line(alloc: Global, line: &[u8]) -> Result<Parsed, NoMemory>
-    ensures parsed { IfOk result (λ found. found ≡ parsed line.now) }
+    ensures parsed_line { IfOk result (λ found. found ≡ parsed_line line.now) }
     ensures fits { IfOk result ParsedFits }
 {
     if is_silent(line) {

@@ -2,7 +2,7 @@
 use Rattle.std.proofs.Common.{◌≡◌, ◌≢◌, ◌⊎◌, inl, inr, ℕ, zero, suc, ◌+◌, ◌^◌, ◌<◌, ◌≤◌, List, [], ◌∷◌, length, replicate, get_or, set, Option, Some, None, MatchOption, refl, sym, ap, ◌∙◌, arith, length-set}
 use Rattle.std.proofs.lemmas.List.{get_or-set_same, get_or-set_other, get_or_default}
 use Rattle.std.proofs.lemmas.Grind.{get_or-set_at}
-use Rattle.slot_links.specs.Lists.{Lists, first_of_list, successor, Has, AreDistinct, IsIn, IsUnlinked, without, unlinked}
+use Rattle.slot_links.specs.Lists.{Lists, first_of_list, successor, Has, AreDistinct, IsIn, IsUnlinked, without, lists_without}
 use Rattle.slot_links.specs.Rings.{tabulate, follow, row_at, IsPath, AreRings, IsSound}
 use Rattle.slot_links.proofs.Paths.{follow-path, path-owner, leads-on}
 use Rattle.slot_links.proofs.Tables.{length-tabulate, get-tabulate, tabulate-congr, map-tabulate, length-apart}
@@ -86,7 +86,7 @@ module _ (next previous : List ℕ) (owner : List (Option ℕ)) (items lists x a
   sound-unlinked = sound (set (set next a b) x x) (set (set previous b a) x x) (set owner x None) items lists (λ j. without x (row_at next items j))
       (simp length-set s.next_len) (simp length-set s.previous_len) (simp length-set s.owner_len) s.small rings-unlinked
 
-  pub seen-unlinked : seen (set (set next a b) x x) items lists ≡ unlinked (seen next items lists) x
+  pub seen-unlinked : seen (set (set next a b) x x) items lists ≡ lists_without (seen next items lists) x
   seen-unlinked = seen-is (set (set next a b) x x) (set (set previous b a) x x) (set owner x None) items lists (λ j. without x (row_at next items j)) rings-unlinked ∙ ap (λ (m : List (List ℕ)). let l : Lists = record { items = items; members = m } in l) (sym (map-tabulate (without x) lists (row_at next items)))
 
 option_cases : (o : Option ℕ) → (o ≡ None) ⊎ ((k : ℕ) × (o ≡ Some k))

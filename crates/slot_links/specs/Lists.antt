@@ -60,5 +60,5 @@ abbrev pub with_members : Lists → ℕ → List ℕ → Lists
 with_members links list now = record links { members = slice_set links.members list now }
 
 -- the item is taken from the list that has it
-abbrev pub unlinked : Lists → ℕ → Lists
-unlinked links item = record links { members = map (without item) links.members }
+abbrev pub lists_without : Lists → ℕ → Lists
+lists_without links item = record links { members = map (without item) links.members }

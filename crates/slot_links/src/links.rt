@@ -1,7 +1,7 @@
 //! The lists, each a ring of nodes.
 
 ghost use Rattle.std.specs.Prelude.{◌≡◌, ℕ, ◌+◌, ◌<◌, ◌++◌, List, [], ◌∷◌, length, slice_index, slice_index_or, slice_set, vec_len, replicate, EachIndex, OnOk, IfOk, Option, Some, None, MatchOption, IfSome, IfNone};
-ghost use Rattle.slot_links.specs.Lists.{Lists, members_of, Has, AreDistinct, first_of_list, successor, IsIn, IsLinked, IsUnlinked, with_members, unlinked};
+ghost use Rattle.slot_links.specs.Lists.{Lists, members_of, Has, AreDistinct, first_of_list, successor, IsIn, IsLinked, IsUnlinked, with_members, lists_without};
 
 use byte_codec::NoMemory;
 use std::alloc::Global;
@@ -69,7 +69,7 @@ impl Links {
     pub fn next(&self, item: u32) -> Option<u32>
         requires { item < self.now.items }
         ensures linked { (list : ℕ) → IsIn self.now list item → result ≡ successor item (members_of self.now list) }
-        ensures unlinked { IsUnlinked self.now item → result ≡ None }
+        ensures lists_without { IsUnlinked self.now item → result ≡ None }
         ensures distinct { AreDistinct self.now }
     {
         let node = self.next[item as usize];
@@ -84,7 +84,7 @@ impl Links {
     pub fn list_of(&self, item: u32) -> Option<u32>
         requires { item < self.now.items }
         ensures linked { (list : ℕ) → IsIn self.now list item → result ≡ Some list }
-        ensures unlinked { IsUnlinked self.now item → result ≡ None }
+        ensures lists_without { IsUnlinked self.now item → result ≡ None }
         ensures cases { MatchOption result (IsUnlinked self.now item) (λ list. IsIn self.now list item) }
         ensures distinct { AreDistinct self.now }
     {
@@ -95,7 +95,7 @@ impl Links {
     pub fn push_back(&mut self, list: u32, item: u32)
         requires list { list < length self.old.members }
         requires item { item < self.old.items }
-        requires unlinked { IsUnlinked self.old item }
+        requires lists_without { IsUnlinked self.old item }
         ensures { self.new ≡ with_members self.old list (members_of self.old list ++ item ∷ []) }
     {
         let end = self.items + list;
@@ -111,7 +111,7 @@ impl Links {
     pub fn push_front(&mut self, list: u32, item: u32)
         requires list { list < length self.old.members }
         requires item { item < self.old.items }
-        requires unlinked { IsUnlinked self.old item }
+        requires lists_without { IsUnlinked self.old item }
         ensures { self.new ≡ with_members self.old list (item ∷ members_of self.old list) }
     {
         let begin = self.items + list;
@@ -127,7 +127,7 @@ impl Links {
     pub fn unlink(&mut self, item: u32)
         requires item { item < self.old.items }
         requires linked { IsLinked self.old item }
-        ensures { self.new ≡ unlinked self.old item }
+        ensures { self.new ≡ lists_without self.old item }
     {
         let before = self.previous[item as usize];
         let after = self.next[item as usize];
@@ -143,7 +143,7 @@ impl Links {
         requires list { list < length self.old.members }
         requires item { item < self.old.items }
         requires linked { IsLinked self.old item }
-        ensures { self.new ≡ with_members (unlinked self.old item) list (members_of (unlinked self.old item) list ++ item ∷ []) }
+        ensures { self.new ≡ with_members (lists_without self.old item) list (members_of (lists_without self.old item) list ++ item ∷ []) }
     {
         self.unlink(item);
         self.push_back(list, item);

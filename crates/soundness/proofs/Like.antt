@@ -7,7 +7,7 @@ use Rattle.sha2.proofs.Facts256.{length-sha256}
 use Rattle.format_spec.proofs.Cuts.{cut_front, cut_end}
 use Rattle.format_spec.specs.Bytes.{Bytes, short_string}
 use Rattle.format_spec.specs.Hashes.{empty_string, fork_string, labeled_string, leaf_string}
-use Rattle.tree_spec.specs.Tree.{Tree, empty, fork, labeled, leaf, pruned, reconstruct, hashed}
+use Rattle.tree_spec.specs.Tree.{Tree, empty, fork, labeled, leaf, pruned, reconstruct, hashed_strings}
 use Rattle.tree_spec.specs.Whole.{IsWhole, HasHashes}
 use Rattle.soundness.proofs.Strings.{Meet, one_or_meet, other_meet, first_of_list, behind_first, meet_within}
 
@@ -65,29 +65,29 @@ leaf_parts : (a b : Bytes) → leaf_string a ≡ leaf_string b → a ≡ b
 leaf_parts a b e = append_cancel_left (short_string (codes "ic-hashtree-leaf")) a b e
 
 Answer : Tree → Tree → Type 0
-Answer t u = Like t u ⊎ Meet (hashed t) (hashed u)
+Answer t u = Like t u ⊎ Meet (hashed_strings t) (hashed_strings u)
 
-in_left : (a b : Tree) (x : Bytes) → Contains (hashed a) x → Contains (hashed (fork a b)) x
-unfolding hashed
-in_left a b x h = behind_first (fork_string (reconstruct a) (reconstruct b)) (hashed a ++ hashed b) x (Contains-append_left (hashed a) (hashed b) x h)
+in_left : (a b : Tree) (x : Bytes) → Contains (hashed_strings a) x → Contains (hashed_strings (fork a b)) x
+unfolding hashed_strings
+in_left a b x h = behind_first (fork_string (reconstruct a) (reconstruct b)) (hashed_strings a ++ hashed_strings b) x (Contains-append_left (hashed_strings a) (hashed_strings b) x h)
 
-in_right : (a b : Tree) (x : Bytes) → Contains (hashed b) x → Contains (hashed (fork a b)) x
-unfolding hashed
-in_right a b x h = behind_first (fork_string (reconstruct a) (reconstruct b)) (hashed a ++ hashed b) x (Contains-append_right (hashed a) (hashed b) x h)
+in_right : (a b : Tree) (x : Bytes) → Contains (hashed_strings b) x → Contains (hashed_strings (fork a b)) x
+unfolding hashed_strings
+in_right a b x h = behind_first (fork_string (reconstruct a) (reconstruct b)) (hashed_strings a ++ hashed_strings b) x (Contains-append_right (hashed_strings a) (hashed_strings b) x h)
 
-in_below : (l : Bytes) (a : Tree) (x : Bytes) → Contains (hashed a) x → Contains (hashed (labeled l a)) x
-unfolding hashed
-in_below l a x h = behind_first (labeled_string l (reconstruct a)) (hashed a) x h
+in_below : (l : Bytes) (a : Tree) (x : Bytes) → Contains (hashed_strings a) x → Contains (hashed_strings (labeled l a)) x
+unfolding hashed_strings
+in_below l a x h = behind_first (labeled_string l (reconstruct a)) (hashed_strings a) x h
 
 both_forks : (a b c d : Tree) → Answer a c → Answer b d → Answer (fork a b) (fork c d)
 unfolding Answer
-both_forks a b c d (inr x) q = inr (meet_within (hashed a) (hashed c) (hashed (fork a b)) (hashed (fork c d)) (in_left a b) (in_left c d) x)
-both_forks a b c d (inl p) (inr x) = inr (meet_within (hashed b) (hashed d) (hashed (fork a b)) (hashed (fork c d)) (in_right a b) (in_right c d) x)
+both_forks a b c d (inr x) q = inr (meet_within (hashed_strings a) (hashed_strings c) (hashed_strings (fork a b)) (hashed_strings (fork c d)) (in_left a b) (in_left c d) x)
+both_forks a b c d (inl p) (inr x) = inr (meet_within (hashed_strings b) (hashed_strings d) (hashed_strings (fork a b)) (hashed_strings (fork c d)) (in_right a b) (in_right c d) x)
 both_forks a b c d (inl p) (inl q) = inl (like_fork a b c d p q)
 
 below_labels : (l k : Bytes) (a b : Tree) → l ≡ k → Answer a b → Answer (labeled l a) (labeled k b)
 unfolding Answer
-below_labels l k a b e (inr x) = inr (meet_within (hashed a) (hashed b) (hashed (labeled l a)) (hashed (labeled k b)) (in_below l a) (in_below k b) x)
+below_labels l k a b e (inr x) = inr (meet_within (hashed_strings a) (hashed_strings b) (hashed_strings (labeled l a)) (hashed_strings (labeled k b)) (in_below l a) (in_below k b) x)
 below_labels l k a b e (inl p) = inl (subst (λ (m : Bytes). Like (labeled l a) (labeled m b)) e (like_labeled l a b p))
 
 -- the string whose hash is a tree's, where it has one
@@ -113,24 +113,24 @@ top_hash (labeled l a) h = refl
 top_hash (leaf b) h = refl
 top_hash (pruned x) h = absurd h
 
-top_in : (t : Tree) → HasTop t → Contains (hashed t) (top t)
-unfolding hashed
+top_in : (t : Tree) → HasTop t → Contains (hashed_strings t) (top t)
+unfolding hashed_strings
 top_in empty h = first_of_list empty_string []
-top_in (fork a b) h = first_of_list (fork_string (reconstruct a) (reconstruct b)) (hashed a ++ hashed b)
-top_in (labeled l a) h = first_of_list (labeled_string l (reconstruct a)) (hashed a)
+top_in (fork a b) h = first_of_list (fork_string (reconstruct a) (reconstruct b)) (hashed_strings a ++ hashed_strings b)
+top_in (labeled l a) h = first_of_list (labeled_string l (reconstruct a)) (hashed_strings a)
 top_in (leaf b) h = first_of_list (leaf_string b) []
 top_in (pruned x) h = absurd h
 
 tops_hash : (t u : Tree) → HasTop t → HasTop u → reconstruct t ≡ reconstruct u → sha256 (top t) ≡ sha256 (top u)
 tops_hash t u p q e = sym (top_hash t p) ∙ e ∙ top_hash u q
 
-differ : (t u : Tree) → HasTop t → HasTop u → top t ≢ top u → reconstruct t ≡ reconstruct u → Like t u ⊎ Meet (hashed t) (hashed u)
-differ t u p q n e = inr (other_meet (top t) (top u) (hashed t) (hashed u) (top_in t p) (top_in u q) n (tops_hash t u p q e))
+differ : (t u : Tree) → HasTop t → HasTop u → top t ≢ top u → reconstruct t ≡ reconstruct u → Like t u ⊎ Meet (hashed_strings t) (hashed_strings u)
+differ t u p q n e = inr (other_meet (top t) (top u) (hashed_strings t) (hashed_strings u) (top_in t p) (top_in u q) n (tops_hash t u p q e))
 
-same_top : (t u : Tree) → HasTop t → HasTop u → reconstruct t ≡ reconstruct u → (top t ≡ top u) ⊎ Meet (hashed t) (hashed u)
-same_top t u p q e = one_or_meet (top t) (top u) (hashed t) (hashed u) (top_in t p) (top_in u q) (tops_hash t u p q e)
+same_top : (t u : Tree) → HasTop t → HasTop u → reconstruct t ≡ reconstruct u → (top t ≡ top u) ⊎ Meet (hashed_strings t) (hashed_strings u)
+same_top t u p q e = one_or_meet (top t) (top u) (hashed_strings t) (hashed_strings u) (top_in t p) (top_in u q) (tops_hash t u p q e)
 
-pub like_or_meet : (t u : Tree) → HasHashes t → IsWhole u → reconstruct t ≡ reconstruct u → Like t u ⊎ Meet (hashed t) (hashed u)
+pub like_or_meet : (t u : Tree) → HasHashes t → IsWhole u → reconstruct t ≡ reconstruct u → Like t u ⊎ Meet (hashed_strings t) (hashed_strings u)
 unfolding Answer
 like_or_meet (pruned h) u g w e = inl (like_cut h u)
 like_or_meet empty empty g w e = inl like_empty
@@ -141,7 +141,7 @@ like_or_meet empty (pruned h) g w e = absurd w
 like_or_meet (fork a b) empty g w e = differ (fork a b) empty tt tt (flip empty_string (fork_string (reconstruct a) (reconstruct b)) (empty-fork (reconstruct a) (reconstruct b))) e
 like_or_meet (fork a b) (fork c d) g w e = by (same_top (fork a b) (fork c d) tt tt e) (λ p. like_or_meet a c g.0 w.0 p) (λ p. like_or_meet b d g.1 w.1 p)
   where
-    by : (fork_string (reconstruct a) (reconstruct b) ≡ fork_string (reconstruct c) (reconstruct d)) ⊎ Meet (hashed (fork a b)) (hashed (fork c d)) → (reconstruct a ≡ reconstruct c → Like a c ⊎ Meet (hashed a) (hashed c)) → (reconstruct b ≡ reconstruct d → Like b d ⊎ Meet (hashed b) (hashed d)) → Like (fork a b) (fork c d) ⊎ Meet (hashed (fork a b)) (hashed (fork c d))
+    by : (fork_string (reconstruct a) (reconstruct b) ≡ fork_string (reconstruct c) (reconstruct d)) ⊎ Meet (hashed_strings (fork a b)) (hashed_strings (fork c d)) → (reconstruct a ≡ reconstruct c → Like a c ⊎ Meet (hashed_strings a) (hashed_strings c)) → (reconstruct b ≡ reconstruct d → Like b d ⊎ Meet (hashed_strings b) (hashed_strings d)) → Like (fork a b) (fork c d) ⊎ Meet (hashed_strings (fork a b)) (hashed_strings (fork c d))
     by (inr x) l r = inr x
     by (inl s) l r =
         let p = fork_parts (reconstruct a) (reconstruct b) (reconstruct c) (reconstruct d) (hash_length a g.0 ∙ sym (hash_length c (whole_hashes c w.0))) s in
@@ -153,7 +153,7 @@ like_or_meet (labeled l a) empty g w e = differ (labeled l a) empty tt tt (flip 
 like_or_meet (labeled l a) (fork c d) g w e = differ (labeled l a) (fork c d) tt tt (flip (fork_string (reconstruct c) (reconstruct d)) (labeled_string l (reconstruct a)) (fork-labeled (reconstruct c) (reconstruct d) l (reconstruct a))) e
 like_or_meet (labeled l a) (labeled k b) g w e = by (same_top (labeled l a) (labeled k b) tt tt e) (λ p. like_or_meet a b g w p)
   where
-    by : (labeled_string l (reconstruct a) ≡ labeled_string k (reconstruct b)) ⊎ Meet (hashed (labeled l a)) (hashed (labeled k b)) → (reconstruct a ≡ reconstruct b → Like a b ⊎ Meet (hashed a) (hashed b)) → Like (labeled l a) (labeled k b) ⊎ Meet (hashed (labeled l a)) (hashed (labeled k b))
+    by : (labeled_string l (reconstruct a) ≡ labeled_string k (reconstruct b)) ⊎ Meet (hashed_strings (labeled l a)) (hashed_strings (labeled k b)) → (reconstruct a ≡ reconstruct b → Like a b ⊎ Meet (hashed_strings a) (hashed_strings b)) → Like (labeled l a) (labeled k b) ⊎ Meet (hashed_strings (labeled l a)) (hashed_strings (labeled k b))
     by (inr x) f = inr x
     by (inl s) f =
         let p = labeled_parts l (reconstruct a) k (reconstruct b) (hash_length a g ∙ sym (hash_length b (whole_hashes b w))) s in
@@ -165,7 +165,7 @@ like_or_meet (leaf b) (fork c d) g w e = differ (leaf b) (fork c d) tt tt (flip 
 like_or_meet (leaf b) (labeled k d) g w e = differ (leaf b) (labeled k d) tt tt (flip (labeled_string k (reconstruct d)) (leaf_string b) (labeled-leaf k (reconstruct d) b)) e
 like_or_meet (leaf b) (leaf c) g w e = by (same_top (leaf b) (leaf c) tt tt e)
   where
-    by : (leaf_string b ≡ leaf_string c) ⊎ Meet (hashed (leaf b)) (hashed (leaf c)) → Like (leaf b) (leaf c) ⊎ Meet (hashed (leaf b)) (hashed (leaf c))
+    by : (leaf_string b ≡ leaf_string c) ⊎ Meet (hashed_strings (leaf b)) (hashed_strings (leaf c)) → Like (leaf b) (leaf c) ⊎ Meet (hashed_strings (leaf b)) (hashed_strings (leaf c))
     by (inr x) = inr x
     by (inl s) = inl (subst (λ (m : Bytes). Like (leaf b) (leaf m)) (leaf_parts b c s) (like_leaf b))
 like_or_meet (leaf b) (pruned h) g w e = absurd w

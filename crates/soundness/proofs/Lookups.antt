@@ -2,7 +2,7 @@
 use Rattle.std.proofs.Common.{◌≡◌, ◌⊎◌, Bool, true, false, not, ◌&&◌, ◌||◌, cond, List, [], ◌∷◌, ◌++◌, map, Option, Some, None, refl, sym, ap, ◌∙◌, subst, inl, inr}
 use Rattle.std.proofs.lemmas.Bool.{and_parts, or_cases, or_left, or_right}
 use Rattle.format_spec.specs.Bytes.{Bytes, bytes_cmp, same_bytes, ascending}
-use Rattle.tree_spec.specs.Tree.{Tree, empty, fork, labeled, leaf, pruned, flatten, label_of, labels, is_leaf, reconstruct, hashed, is_good_inside, is_well_formed}
+use Rattle.tree_spec.specs.Tree.{Tree, empty, fork, labeled, leaf, pruned, flatten, label_of, labels, is_leaf, reconstruct, hashed_strings, is_good_inside, is_well_formed}
 use Rattle.tree_spec.specs.Lookup.{lookup, at_end, below_label, has_gap_at, is_outside, is_one_leaf, missing, Looked, absent, error, unknown}
 use Rattle.tree_spec.specs.Whole.{IsWhole, HasHashes}
 use Rattle.soundness.proofs.Like.{Like, like_cut, like_empty, like_fork, like_labeled, like_leaf, like_or_meet}
@@ -115,14 +115,14 @@ lookup_too (l ∷ path) t u k o = by (below_label l (flatten t)) refl (λ x y p 
         some_case l path t u x f.0 s f.1 (more x f.0 f.2 (good_below l (flatten u) f.0 (good_level u o.1) f.1))
     by None s more = none_case l path t u s (missing_too l (like_levels k) o.0 s)
 
-pub lookups_whole : (t u : Tree) (path : List Bytes) → HasHashes t → IsWhole u → is_well_formed u ≡ true → reconstruct t ≡ reconstruct u → (lookup path t ≡ unknown) ⊎ ((lookup path t ≡ lookup path u) ⊎ Meet (hashed t) (hashed u))
+pub lookups_whole : (t u : Tree) (path : List Bytes) → HasHashes t → IsWhole u → is_well_formed u ≡ true → reconstruct t ≡ reconstruct u → (lookup path t ≡ unknown) ⊎ ((lookup path t ≡ lookup path u) ⊎ Meet (hashed_strings t) (hashed_strings u))
 unfolding is_well_formed
 lookups_whole t u path g w o e = by (like_or_meet t u g w e)
   where
-    tell : (lookup path t ≡ unknown) ⊎ (lookup path t ≡ lookup path u) → (lookup path t ≡ unknown) ⊎ ((lookup path t ≡ lookup path u) ⊎ Meet (hashed t) (hashed u))
+    tell : (lookup path t ≡ unknown) ⊎ (lookup path t ≡ lookup path u) → (lookup path t ≡ unknown) ⊎ ((lookup path t ≡ lookup path u) ⊎ Meet (hashed_strings t) (hashed_strings u))
     tell (inl p) = inl p
     tell (inr p) = inr (inl p)
 
-    by : Like t u ⊎ Meet (hashed t) (hashed u) → (lookup path t ≡ unknown) ⊎ ((lookup path t ≡ lookup path u) ⊎ Meet (hashed t) (hashed u))
+    by : Like t u ⊎ Meet (hashed_strings t) (hashed_strings u) → (lookup path t ≡ unknown) ⊎ ((lookup path t ≡ lookup path u) ⊎ Meet (hashed_strings t) (hashed_strings u))
     by (inl k) = tell (lookup_too path t u k (and_parts (ascending bytes_cmp (labels u)) (is_good_inside u) o))
     by (inr c) = inr (inr c)

@@ -15,7 +15,7 @@ use Rattle.state_spec.specs.SystemText.{system_text, read_system}
 use Rattle.state_spec.specs.Files.{files, memory_files, system_name}
 use Rattle.state_spec.specs.Manifest.{Manifest, manifest_of, manifest_from, sums_of, chunk_sums}
 use Rattle.state_spec.specs.ManifestText.{manifest_text}
-use Rattle.state_spec.specs.Root.{meta_of, pieces_of, root_of, hashed}
+use Rattle.state_spec.specs.Root.{meta_of, pieces_of, root_of, hashed_strings}
 use Rattle.state_spec.proofs.BothWays.{system_again}
 use Rattle.soundness.proofs.Strings.{Meet, one_or_meet, first_of_list, meet_within}
 use Rattle.format_spec.proofs.Parts.{joined, joined_parts}
@@ -31,8 +31,8 @@ map_flat w g (x ∷ xs) = map-append w (g x) (flat_map g xs) ∙ ap (λ (y : Lis
 abbrev pub pieces_in : State → List Bytes
 pieces_in s = pieces_of (manifest_of s)
 
-pub in_chunks : (s : State) (x : Bytes) → Contains (map chunk_string (chunks_in (files s))) x → Contains (hashed s) x
-unfolding hashed
+pub in_chunks : (s : State) (x : Bytes) → Contains (map chunk_string (chunks_in (files s))) x → Contains (hashed_strings s) x
+unfolding hashed_strings
 in_chunks s x h =
     let cs : List Bytes = flat_map (λ f. map chunk_string (parts CHUNK_SIZE f.1)) (files s) in
     let fs : List Bytes = map (λ f. file_string (chunk_sums (sums_of f))) (files s) in
@@ -40,8 +40,8 @@ in_chunks s x h =
     let rs : List Bytes = root_string s.version (meta_of (manifest_of s)).pieces ∷ [] in
     Contains-append_left (cs ++ fs ++ ps) rs x (Contains-append_left (cs ++ fs) ps x (Contains-append_left cs fs x (subst (λ (y : List Bytes). Contains y x) (map_flat chunk_string (λ f. parts CHUNK_SIZE f.1) (files s)) h)))
 
-pub in_pieces : (s : State) (x : Bytes) → Contains (map piece_string (pieces_in s)) x → Contains (hashed s) x
-unfolding hashed
+pub in_pieces : (s : State) (x : Bytes) → Contains (map piece_string (pieces_in s)) x → Contains (hashed_strings s) x
+unfolding hashed_strings
 in_pieces s x h =
     let cs : List Bytes = flat_map (λ f. map chunk_string (parts CHUNK_SIZE f.1)) (files s) in
     let fs : List Bytes = map (λ f. file_string (chunk_sums (sums_of f))) (files s) in
@@ -49,8 +49,8 @@ in_pieces s x h =
     let rs : List Bytes = root_string s.version (meta_of (manifest_of s)).pieces ∷ [] in
     Contains-append_left (cs ++ fs ++ ps) rs x (Contains-append_right (cs ++ fs) ps x h)
 
-pub in_root : (s : State) → Contains (hashed s) (root_string s.version (meta_of (manifest_of s)).pieces)
-unfolding hashed
+pub in_root : (s : State) → Contains (hashed_strings s) (root_string s.version (meta_of (manifest_of s)).pieces)
+unfolding hashed_strings
 in_root s =
     let cs : List Bytes = flat_map (λ f. map chunk_string (parts CHUNK_SIZE f.1)) (files s) in
     let fs : List Bytes = map (λ f. file_string (chunk_sums (sums_of f))) (files s) in
@@ -90,10 +90,10 @@ piece_inj x y e = append_cancel_left (short_string (codes "ic-state-sub-manifest
 -- ---- down from the root
 
 abbrev Meets : State → State → Type 0
-Meets s t = Meet (hashed s) (hashed t)
+Meets s t = Meet (hashed_strings s) (hashed_strings t)
 
 root_level : (s t : State) → root_of s ≡ root_of t → (map (λ x. sha256 (piece_string x)) (pieces_in s) ≡ map (λ x. sha256 (piece_string x)) (pieces_in t)) ⊎ Meets s t
-root_level s t e = by (one_or_meet (root_string s.version (meta_of (manifest_of s)).pieces) (root_string t.version (meta_of (manifest_of t)).pieces) (hashed s) (hashed t) (in_root s) (in_root t) (sym (root_is s) ∙ e ∙ root_is t))
+root_level s t e = by (one_or_meet (root_string s.version (meta_of (manifest_of s)).pieces) (root_string t.version (meta_of (manifest_of t)).pieces) (hashed_strings s) (hashed_strings t) (in_root s) (in_root t) (sym (root_is s) ∙ e ∙ root_is t))
   where
     by : (root_string s.version (meta_of (manifest_of s)).pieces ≡ root_string t.version (meta_of (manifest_of t)).pieces) ⊎ Meets s t → (map (λ x. sha256 (piece_string x)) (pieces_in s) ≡ map (λ x. sha256 (piece_string x)) (pieces_in t)) ⊎ Meets s t
     by (inr c) = inr c
@@ -108,7 +108,7 @@ piece_level s t (inr c) = inr c
 piece_level s t (inl e) = by (each_or_meet piece_string piece_inj (pieces_in s) (pieces_in t) e)
   where
     by : (pieces_in s ≡ pieces_in t) ⊎ Meet (map piece_string (pieces_in s)) (map piece_string (pieces_in t)) → (manifest_text (manifest_of s) ≡ manifest_text (manifest_of t)) ⊎ Meets s t
-    by (inr c) = inr (meet_within (map piece_string (pieces_in s)) (map piece_string (pieces_in t)) (hashed s) (hashed t) (in_pieces s) (in_pieces t) c)
+    by (inr c) = inr (meet_within (map piece_string (pieces_in s)) (map piece_string (pieces_in t)) (hashed_strings s) (hashed_strings t) (in_pieces s) (in_pieces t) c)
     by (inl p) = inl (sym (joined_parts PIECE_SIZE (manifest_text (manifest_of s)) (omega arith)) ∙ ap joined p ∙ joined_parts PIECE_SIZE (manifest_text (manifest_of t)) (omega arith))
 
 -- ---- the files of a state
@@ -175,7 +175,7 @@ file_level s t hs ht (inl e) = by (each_or_meet chunk_string chunk_inj (chunks_i
     one_more xs a = flat_map-append (λ (x : Bytes). x) xs (a ∷ []) ∙ simp append-nil
 
     by : (chunks_in (files s) ≡ chunks_in (files t)) ⊎ Meet (map chunk_string (chunks_in (files s))) (map chunk_string (chunks_in (files t))) → SameBytes s t ⊎ Meets s t
-    by (inr c) = inr (meet_within (map chunk_string (chunks_in (files s))) (map chunk_string (chunks_in (files t))) (hashed s) (hashed t) (in_chunks s) (in_chunks t) c)
+    by (inr c) = inr (meet_within (map chunk_string (chunks_in (files s))) (map chunk_string (chunks_in (files t))) (hashed_strings s) (hashed_strings t) (in_chunks s) (in_chunks t) c)
     by (inl q) =
         let a : Bytes = system_text (system_of s) in
         let b : Bytes = system_text (system_of t) in
@@ -245,7 +245,7 @@ system_same : (s t : State) → IsState s → IsState t → system_text (system_
 system_same s t hs ht e =
     ok_is (system_of s) (system_of t) (sym (system_again 1 (system_of s) (subst (λ (v : ℕ). IsSystem v (system_of s)) hs.version hs.system)) ∙ ap (read_system 1) e ∙ system_again 1 (system_of t) (subst (λ (v : ℕ). IsSystem v (system_of t)) ht.version ht.system))
 
-pub same_root : (s t : State) → IsState s → IsState t → root_of s ≡ root_of t → SameState s t ⊎ Meet (hashed s) (hashed t)
+pub same_root : (s t : State) → IsState s → IsState t → root_of s ≡ root_of t → SameState s t ⊎ Meet (hashed_strings s) (hashed_strings t)
 same_root s t hs ht e = by (file_level s t hs ht (piece_level s t (root_level s t e)))
   where
     by : SameBytes s t ⊎ Meets s t → SameState s t ⊎ Meets s t

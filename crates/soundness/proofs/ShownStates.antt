@@ -7,7 +7,7 @@ use Rattle.format_spec.specs.Bytes.{Bytes, bytes_cmp, ascending, leb}
 use Rattle.state_spec.specs.State.{SystemPart, CanisterPart, IsSystem}
 use Rattle.tree_spec.specs.Tree.{labels, is_good_inside, is_well_formed}
 use Rattle.tree_spec.specs.Lookup.{lookup, unknown}
-use Rattle.tree_spec.specs.Labelled.{Children, none, leaf_at, node_at, put_leaf, put_node, put_path, with_wasm, canister_children, entry_children, with_canisters, labelled, state_tree}
+use Rattle.tree_spec.specs.Labelled.{Children, none, leaf_at, node_at, put_leaf, put_node, put_path, with_wasm, canister_children, entry_children, with_canisters, root_children, state_tree}
 use Rattle.tree_spec.specs.Witness.{ends_at_node, goes_on_behind, is_hidden, witness_of, witness}
 use Rattle.soundness.proofs.Lookups.{Ordered, lookup_too}
 use Rattle.soundness.proofs.StateTrees.{state_in_order, state_tree_good}
@@ -103,8 +103,8 @@ with_canisters_filled : (cs : List (Bytes × CanisterPart)) (c : Children) → F
 with_canisters_filled [] c h = h
 with_canisters_filled (d ∷ ds) c h = node_filled (λ before. canister_children (d ∷ ds)) (λ x. tt) (λ x g. canisters_filled (d ∷ ds)) (codes "canister") c h
 
-state_sound : (v : ℕ) (s : SystemPart) → IsSystem v s → Sound (labelled s)
-unfolding labelled
+state_sound : (v : ℕ) (s : SystemPart) → IsSystem v s → Sound (root_children s)
+unfolding root_children
 state_sound v s good =
     let c : Children = with_canisters s.canisters (entry_children s.entries) in
     record {
@@ -123,25 +123,25 @@ asked p ps c = at ps c.0 c.1 c.2
     at (q ∷ qs) zero lt e = inl e
     at (q ∷ qs) (suc k) lt e = inr (at qs k (omega (arith, lt)) e)
 
-pub path_hidden : (v : ℕ) (s : SystemPart) (ps : List (List Bytes)) (p : List Bytes) → IsSystem v s → Contains ps p → p ≢ [] → is_hidden ps p (labelled s) ≡ true → lookup p (witness s ps) ≡ unknown
+pub path_hidden : (v : ℕ) (s : SystemPart) (ps : List (List Bytes)) (p : List Bytes) → IsSystem v s → Contains ps p → p ≢ [] → is_hidden ps p (root_children s) ≡ true → lookup p (witness s ps) ≡ unknown
 unfolding witness witness_of
 path_hidden v s ps [] good c ne h = absurd (ne refl)
 path_hidden v s ps (l ∷ path) good c ne h =
-    let parts = and_parts (ends_at_node (l ∷ path) (labelled s)) (not (list_any (goes_on_behind (l ∷ path)) ps)) h in
-    hidden_unknown path l ps (labelled s) (state_sound v s good) (asked (l ∷ path) ps c) parts.0 (by (list_any (goes_on_behind (l ∷ path)) ps) parts.1)
+    let parts = and_parts (ends_at_node (l ∷ path) (root_children s)) (not (list_any (goes_on_behind (l ∷ path)) ps)) h in
+    hidden_unknown path l ps (root_children s) (state_sound v s good) (asked (l ∷ path) ps c) parts.0 (by (list_any (goes_on_behind (l ∷ path)) ps) parts.1)
   where
     by : (b : Bool) → not b ≡ true → b ≡ false
     by true e = absurd cc
     by false e = refl
 
-pub path_shown : (v : ℕ) (s : SystemPart) (ps : List (List Bytes)) (p : List Bytes) → IsSystem v s → Contains ps p → p ≢ [] → is_hidden ps p (labelled s) ≡ false → lookup p (witness s ps) ≡ lookup p (state_tree s)
+pub path_shown : (v : ℕ) (s : SystemPart) (ps : List (List Bytes)) (p : List Bytes) → IsSystem v s → Contains ps p → p ≢ [] → is_hidden ps p (root_children s) ≡ false → lookup p (witness s ps) ≡ lookup p (state_tree s)
 unfolding witness witness_of state_tree is_well_formed
 path_shown v s ps [] good c ne h = absurd (ne refl)
-path_shown v s ps (l ∷ path) good c ne h = by (lookup_too (l ∷ path) (witness s ps) (state_tree s) (witness_like ps (labelled s)) ordered)
+path_shown v s ps (l ∷ path) good c ne h = by (lookup_too (l ∷ path) (witness s ps) (state_tree s) (witness_like ps (root_children s)) ordered)
   where
     ordered : Ordered (state_tree s)
     ordered = and_parts (ascending bytes_cmp (labels (state_tree s))) (is_good_inside (state_tree s)) (state_tree_good s good.ids_ascend).1
 
     by : (lookup (l ∷ path) (witness s ps) ≡ unknown) ⊎ (lookup (l ∷ path) (witness s ps) ≡ lookup (l ∷ path) (state_tree s)) → lookup (l ∷ path) (witness s ps) ≡ lookup (l ∷ path) (state_tree s)
-    by (inl u) = absurd (shown_tells path l ps (labelled s) (state_sound v s good) (asked (l ∷ path) ps c) h u)
+    by (inl u) = absurd (shown_tells path l ps (root_children s) (state_sound v s good) (asked (l ∷ path) ps c) h u)
     by (inr e) = e

@@ -9,7 +9,7 @@ use Rattle.format_spec.specs.Bytes.{Bytes, bytes_cmp, leb_within, leb}
 use Rattle.format_spec.specs.declared.limits.TheConstants.{MAX_LABELS}
 use Rattle.state_spec.specs.State.{SystemPart, CanisterPart, IsSystem, FitsCanister, FitsEntry, is_label, is_path}
 use Rattle.tree_spec.specs.Tree.{Tree, depth, half, forks_within, forks}
-use Rattle.tree_spec.specs.Labelled.{Children, none, leaf_at, node_at, put_leaf, put_node, put_path, with_wasm, canister_children, entry_children, with_canisters, labelled, child_trees, tree_of, state_tree}
+use Rattle.tree_spec.specs.Labelled.{Children, none, leaf_at, node_at, put_leaf, put_node, put_path, with_wasm, canister_children, entry_children, with_canisters, root_children, child_trees, tree_of, state_tree}
 use Rattle.tree_spec.specs.Cbor.{HasSizes}
 use Rattle.state_spec.proofs.SystemSizes.{id_size, label_size}
 
@@ -160,8 +160,8 @@ leb_length (suc k) n = by (nat_lt n 128) (leb_length k (n / 128))
     by true h = omega arith
     by false h = omega (arith, h)
 
-pub state_small : (v : ℕ) (s : SystemPart) → IsSystem v s → Small 8 16386 (labelled s) × (count (labelled s) ≤ 16386)
-unfolding labelled leb
+pub state_small : (v : ℕ) (s : SystemPart) → IsSystem v s → Small 8 16386 (root_children s) × (count (root_children s) ≤ 16386)
+unfolding root_children leb
 state_small v s good =
     let entries = entries_small 0 s.entries none good.entries_fit tt (omega arith) in
     let c : Children = entry_children s.entries in
@@ -255,9 +255,9 @@ pub state_depth : (v : ℕ) (s : SystemPart) → IsSystem v s → depth (state_t
 unfolding state_tree tree_of
 state_depth v s good =
     let small = state_small v s good in
-    let c : Children = labelled s in
+    let c : Children = root_children s in
     all_forks_depth 15 137 (child_trees c) (omega (arith, trees_count c, small.1)) (omega arith) (depth_more (17 * 8) 137 (child_trees c) (omega arith) (children_depth 8 c small.0))
 
 pub state_sizes : (v : ℕ) (s : SystemPart) → IsSystem v s → HasSizes (state_tree s)
 unfolding state_tree tree_of
-state_sizes v s good = all_forks_sizes (child_trees (labelled s)) (children_sizes 8 16386 (labelled s) (state_small v s good).0)
+state_sizes v s good = all_forks_sizes (child_trees (root_children s)) (children_sizes 8 16386 (root_children s) (state_small v s good).0)

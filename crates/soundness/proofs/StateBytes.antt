@@ -1,4 +1,4 @@
--- The strings that are hashed for the root of a state of bytes are byte strings.
+-- The strings that are hashed_strings for the root of a state of bytes are byte strings.
 use Rattle.std.proofs.Common.{◌≡◌, ℕ, suc, ◌+◌, ◌/◌, ◌%◌, ◌<◌, ◌&&◌, true, List, [], ◌∷◌, ◌++◌, length, map, codes, Option, Some, None, IfSome, refl, arith, nat_lt, nat_le}
 use Rattle.std.specs.List.{list_all, AllByRecursion, flat_map, enumerate_from}
 use Rattle.std.specs.Prelude.{slice_index}
@@ -12,7 +12,7 @@ use Rattle.state_spec.specs.SystemText.{system_text, canister_text, entry_text, 
 use Rattle.state_spec.specs.Files.{files, memory_files, file_name, system_name}
 use Rattle.state_spec.specs.Manifest.{FileRow, ChunkRow, chunk_sums, file_row, chunk_rows, sums_of, manifest_from, manifest_of}
 use Rattle.state_spec.specs.ManifestText.{manifest_text, file_row_text, chunk_row_text}
-use Rattle.state_spec.specs.Root.{meta_of, pieces_of, hashed}
+use Rattle.state_spec.specs.Root.{meta_of, pieces_of, hashed_strings}
 use Rattle.soundness.proofs.Texts.{File}
 use Rattle.state_spec.proofs.SystemSizes.{id_size, label_size}
 use Rattle.soundness.proofs.StatePieces.{name_length}
@@ -189,8 +189,8 @@ root_bytes v xs =
     named_bytes (codes "ic-state-meta-manifest") (be32 v ++ be32 n ++ hashes) refl
     (join_bytes (be32 v ++ be32 n) hashes (join_bytes (be32 v) (be32 n) (be32_bytes v) (be32_bytes n)) (piece_hashes xs))
 
-pub state_strings : (s : State) → IsState s → AreByteStrings (hashed s)
-unfolding hashed meta_of manifest_of
+pub state_strings : (s : State) → IsState s → AreByteStrings (hashed_strings s)
+unfolding hashed_strings meta_of manifest_of
 state_strings s h =
     let fs = files_bytes s h in
     let cs : List Bytes = flat_map (λ f. map chunk_string (parts CHUNK_SIZE f.1)) (files s) in

@@ -11,12 +11,12 @@ use Rattle.format_spec.specs.Bytes.{Bytes, bytes_cmp, ascending, leb}
 use Rattle.format_spec.proofs.Follow.{above_too}
 use Rattle.state_spec.specs.State.{SystemPart, CanisterPart}
 use Rattle.tree_spec.specs.Tree.{Tree, empty, fork, labeled, leaf, pruned, flatten, labels, is_leaf, is_good_inside, is_well_formed, half, forks_within, forks}
-use Rattle.tree_spec.specs.Labelled.{Children, none, leaf_at, node_at, put_leaf, put_node, put_path, with_wasm, canister_children, entry_children, with_canisters, labelled, child_trees, tree_of, state_tree}
+use Rattle.tree_spec.specs.Labelled.{Children, none, leaf_at, node_at, put_leaf, put_node, put_path, with_wasm, canister_children, entry_children, with_canisters, root_children, child_trees, tree_of, state_tree}
 use Rattle.tree_spec.specs.Witness.{child_labels}
 use Rattle.tree_spec.specs.Whole.{IsWhole}
 use Rattle.soundness.proofs.Levels.{labels_in}
 
--- ---- labelled trees under forks
+-- ---- root_children trees under forks
 
 abbrev pub Child : Tree → Type 0
 Child empty = ⊥
@@ -233,10 +233,10 @@ with_canisters_order : (cs : List (Bytes × CanisterPart)) (c : Children) → is
 with_canisters_order [] c s h = h
 with_canisters_order (d ∷ ds) c s h = node_in_order (λ before. canister_children (d ∷ ds)) (λ x g. canisters_in_order (d ∷ ds) s) (codes "canister") c h
 
-pub state_in_order : (s : SystemPart) → is_sorted bytes_cmp s.canisters ≡ true → InOrder (labelled s)
-unfolding labelled
+pub state_in_order : (s : SystemPart) → is_sorted bytes_cmp s.canisters ≡ true → InOrder (root_children s)
+unfolding root_children
 state_in_order s h = leaf_in_order (codes "time") (leb s.time) (with_canisters s.canisters (entry_children s.entries)) (with_canisters_order s.canisters (entry_children s.entries) h (entries_in_order s.entries none tt))
 
 pub state_tree_good : (s : SystemPart) → is_sorted bytes_cmp s.canisters ≡ true → IsWhole (state_tree s) × (is_well_formed (state_tree s) ≡ true)
 unfolding state_tree
-state_tree_good s h = tree_good (labelled s) (state_in_order s h)
+state_tree_good s h = tree_good (root_children s) (state_in_order s h)

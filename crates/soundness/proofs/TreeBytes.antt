@@ -1,4 +1,4 @@
--- The strings that are hashed for a tree from bytes, and for the tree of a state of bytes, are byte strings.
+-- The strings that are hashed_strings for a tree from bytes, and for the tree of a state of bytes, are byte strings.
 use Rattle.std.proofs.Common.{◌≡◌, ◌⊎◌, ℕ, zero, suc, ◌+◌, ◌/◌, ◌%◌, Bool, true, false, cond, List, [], ◌∷◌, ◌++◌, map, length, take, drop, fold, codes, Option, Some, None, refl, subst, inl, inr, arith, nat_lt, Ordering, Less, Equal, Greater}
 use Rattle.std.specs.List.{AllByRecursion}
 use Rattle.std.proofs.lemmas.Bool.{ltb-true}
@@ -6,9 +6,9 @@ use Rattle.format_spec.specs.Bytes.{Bytes, IsBytes, AreByteStrings, bytes_cmp, l
 use Rattle.format_spec.specs.Hashes.{empty_string}
 use Rattle.format_spec.proofs.ByteStrings.{by_test, one_byte, join_bytes, cut_bytes, named_bytes, strings_join, sha_bytes}
 use Rattle.state_spec.specs.State.{State, Canister, CanisterPart, IsByteCanister, IsByteEntry, IsByteState, system_of, part_of}
-use Rattle.tree_spec.specs.Tree.{Tree, empty, fork, labeled, leaf, pruned, reconstruct, hashed, half, forks_within, forks}
+use Rattle.tree_spec.specs.Tree.{Tree, empty, fork, labeled, leaf, pruned, reconstruct, hashed_strings, half, forks_within, forks}
 use Rattle.tree_spec.specs.Cbor.{cbor, string_head, byte_string, tag}
-use Rattle.tree_spec.specs.Labelled.{Children, none, leaf_at, node_at, put_leaf, put_node, put_path, with_wasm, canister_children, entry_children, with_canisters, labelled, child_trees, tree_of, state_tree}
+use Rattle.tree_spec.specs.Labelled.{Children, none, leaf_at, node_at, put_leaf, put_node, put_path, with_wasm, canister_children, entry_children, with_canisters, root_children, child_trees, tree_of, state_tree}
 use Rattle.tree_spec.specs.Whole.{IsByteTree}
 
 -- ---- trees
@@ -21,12 +21,12 @@ hash_bytes (labeled l t) h = sha_bytes _
 hash_bytes (leaf b) h = sha_bytes _
 hash_bytes (pruned x) h = h
 
-pub tree_strings : (t : Tree) → IsByteTree t → AreByteStrings (hashed t)
-unfolding hashed
+pub tree_strings : (t : Tree) → IsByteTree t → AreByteStrings (hashed_strings t)
+unfolding hashed_strings
 tree_strings empty h = (by_test empty_string refl, tt)
 tree_strings (fork l r) h = (
   named_bytes (codes "ic-hashtree-fork") (reconstruct l ++ reconstruct r) refl (join_bytes (reconstruct l) (reconstruct r) (hash_bytes l h.0) (hash_bytes r h.1)),
-  strings_join (hashed l) (hashed r) (tree_strings l h.0) (tree_strings r h.1),
+  strings_join (hashed_strings l) (hashed_strings r) (tree_strings l h.0) (tree_strings r h.1),
 )
 tree_strings (labeled l t) h = (
   named_bytes (codes "ic-hashtree-labeled") (l ++ reconstruct t) refl (join_bytes l (reconstruct t) h.0 (hash_bytes t h.1)),
@@ -156,9 +156,9 @@ children_bytes (leaf_at l v rest) h = ((h.0, h.1), children_bytes rest h.2)
 children_bytes (node_at l below rest) h = ((h.0, forks_are_bytes (child_trees below) (children_bytes below h.1)), children_bytes rest h.2)
 
 pub state_tree_bytes : (s : State) → IsByteState s → IsByteTree (state_tree (system_of s))
-unfolding state_tree tree_of labelled leb system_of
+unfolding state_tree tree_of root_children leb system_of
 state_tree_bytes s b =
     let cs : List (Bytes × CanisterPart) = map (λ c. (c.0, part_of c.1)) s.canisters in
     let inner = with_canisters_bytes cs (entry_children s.entries) (parts_bytes s.canisters b.canisters) (entries_bytes s.entries none b.entries tt) in
-    let c : Children = labelled (system_of s) in
+    let c : Children = root_children (system_of s) in
     forks_are_bytes (child_trees c) (children_bytes c (put_leaf_bytes (codes "time") (leb s.time) (with_canisters cs (entry_children s.entries)) (by_test (codes "time") refl) (leb_bytes 10 s.time) inner))

@@ -11,10 +11,10 @@ ghost use Rattle.state_spec.specs.Manifest.{manifest_of};
 ghost use Rattle.state_spec.specs.ManifestText.{IsManifest, manifest_text, read_manifest};
 ghost use Rattle.state_spec.specs.Root;
 ghost use Rattle.state_spec.specs.Root.{root_of, MetaManifest, root_of_meta, IsMeta, meta_of};
-ghost use Rattle.tree_spec.specs.Tree.{Tree, depth, reconstruct, hashed, is_well_formed};
+ghost use Rattle.tree_spec.specs.Tree.{Tree, depth, reconstruct, hashed_strings, is_well_formed};
 ghost use Rattle.tree_spec.specs.Whole.{IsWhole, HasHashes, IsByteTree};
 ghost use Rattle.tree_spec.specs.Lookup.{lookup, unknown};
-ghost use Rattle.tree_spec.specs.Labelled.{labelled, state_tree};
+ghost use Rattle.tree_spec.specs.Labelled.{root_children, state_tree};
 ghost use Rattle.tree_spec.specs.Cbor.{read_tree, IsSpellable};
 ghost use Rattle.tree_spec.specs.Witness.{witness, is_hidden};
 
@@ -30,7 +30,7 @@ pub fn state_trees_are_whole()
 pub fn lookups_agree()
     ensures { (t u : Tree) (path : List Bytes) → HasHashes t → IsByteTree t
         → IsWhole u → IsTrue (is_well_formed u) → IsByteTree u → reconstruct t ≡ reconstruct u
-        → (lookup path t ≡ unknown) ⊎ ((lookup path t ≡ lookup path u) ⊎ Clash (hashed t) (hashed u)) }
+        → (lookup path t ≡ unknown) ⊎ ((lookup path t ≡ lookup path u) ⊎ Clash (hashed_strings t) (hashed_strings u)) }
 {}
 
 /// A checked witness: what the tree that bytes spell tells of a path, the tree of any valid state with that hash tells
@@ -40,7 +40,7 @@ pub fn checked_witness()
         → IsState s → reconstruct t ≡ reconstruct (state_tree (system_of s))
         → (lookup path t ≡ unknown)
         ⊎ ((lookup path t ≡ lookup path (state_tree (system_of s)))
-        ⊎ Clash (hashed t) (hashed (state_tree (system_of s)))) }
+        ⊎ Clash (hashed_strings t) (hashed_strings (state_tree (system_of s)))) }
 {}
 
 /// A witness has the hash of the whole tree.
@@ -63,16 +63,16 @@ pub fn witnesses_can_be_spelled()
 /// path that was asked for goes on below it, it is unknown.
 pub fn witnesses_show_their_paths()
     ensures shown { (version : ℕ) (s : SystemPart) (paths : List (List Bytes)) (p : List Bytes) → IsSystem version s
-        → Contains paths p → p ≢ [] → is_hidden paths p (labelled s) ≡ false
+        → Contains paths p → p ≢ [] → is_hidden paths p (root_children s) ≡ false
         → lookup p (witness s paths) ≡ lookup p (state_tree s) }
     ensures hidden { (version : ℕ) (s : SystemPart) (paths : List (List Bytes)) (p : List Bytes) → IsSystem version s
-        → Contains paths p → p ≢ [] → is_hidden paths p (labelled s) ≡ true → lookup p (witness s paths) ≡ unknown }
+        → Contains paths p → p ≢ [] → is_hidden paths p (root_children s) ≡ true → lookup p (witness s paths) ≡ unknown }
 {}
 
 /// Valid states with one root are equal in all but births and rounds, or two strings clash.
 pub fn same_root_same_state()
     ensures { (s t : State) → IsState s → IsState t → root_of s ≡ root_of t
-        → SameState s t ⊎ Clash (Root.hashed s) (Root.hashed t) }
+        → SameState s t ⊎ Clash (Root.hashed_strings s) (Root.hashed_strings t) }
 {}
 
 /// The manifest of a valid state is a manifest, and is read again from its text.
@@ -92,8 +92,8 @@ pub fn right_items_are_the_state_s()
     ensures manifest { (s : State) (m : MetaManifest) (ps : List Bytes) → IsState s → AreByteStrings ps
         → root_of_meta m ≡ root_of s → map piece_hash ps ≡ m.pieces
         → (read_manifest (flat_map (λ p. p) ps) ≡ Ok (manifest_of s))
-        ⊎ Clash (Root.hashed s) (root_string m.version m.pieces ∷ map piece_string ps) }
+        ⊎ Clash (Root.hashed_strings s) (root_string m.version m.pieces ∷ map piece_string ps) }
     ensures chunks { (s : State) (cs : List Bytes) → IsState s → AreByteStrings cs
         → map chunk_hash cs ≡ map (λ r. r.sum.hash) (manifest_of s).chunks
-        → (cs ≡ flat_map (λ f. parts CHUNK_SIZE f.1) (files s)) ⊎ Clash (Root.hashed s) (map chunk_string cs) }
+        → (cs ≡ flat_map (λ f. parts CHUNK_SIZE f.1) (files s)) ⊎ Clash (Root.hashed_strings s) (map chunk_string cs) }
 {}

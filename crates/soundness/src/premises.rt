@@ -3,7 +3,7 @@
 ghost use Rattle.std.specs.Prelude.{◌≡◌, ℕ, [], ◌∷◌, ◌++◌, IsTrue};
 ghost use Rattle.format_spec.specs.Bytes.{Bytes, IsBytes};
 ghost use Rattle.format_spec.specs.Hashes.{Clash};
-ghost use Rattle.tree_spec.specs.Tree.{labeled, leaf, pruned, reconstruct, hashed, is_well_formed};
+ghost use Rattle.tree_spec.specs.Tree.{labeled, leaf, pruned, reconstruct, hashed_strings, is_well_formed};
 ghost use Rattle.tree_spec.specs.Lookup.{lookup, absent, found};
 ghost use Rattle.soundness.specs.Samples.{only_a, only_b};
 
@@ -14,16 +14,16 @@ pub fn cut_trees_may_disagree()
     ensures one_hash { reconstruct only_b ≡ reconstruct only_a }
     ensures without { lookup ((97 ∷ []) ∷ []) only_b ≡ absent }
     ensures there { lookup ((97 ∷ []) ∷ []) only_a ≡ found [] }
-    ensures no_clash { Clash (hashed only_b) (hashed only_a) → ⊥ }
+    ensures no_clash { Clash (hashed_strings only_b) (hashed_strings only_a) → ⊥ }
 {}
 
-/// With hashes of any length, a label takes a byte of the hash below it: two trees of one hash, with one string hashed
+/// With hashes of any length, a label takes a byte of the hash below it: two trees of one hash, with one string hashed_strings
 /// for both, have different labels. So hashes must have 32 bytes.
 pub fn short_hashes_move_labels()
     ensures one_hash { (l : Bytes) (b : ℕ) (h : Bytes)
         → reconstruct (labeled (l ++ b ∷ []) (pruned h)) ≡ reconstruct (labeled l (pruned (b ∷ h))) }
     ensures one_string { (l : Bytes) (b : ℕ) (h : Bytes)
-        → hashed (labeled (l ++ b ∷ []) (pruned h)) ≡ hashed (labeled l (pruned (b ∷ h))) }
+        → hashed_strings (labeled (l ++ b ∷ []) (pruned h)) ≡ hashed_strings (labeled l (pruned (b ∷ h))) }
 {}
 
 /// A list with a number above 255 may have the hash of a byte string, which says nothing of SHA-256. So a clash is one

@@ -7,15 +7,15 @@ use Rattle.format_spec.specs.Bytes.{Bytes}
 use Rattle.store_spec.specs.Image.{Published, StandsFor}
 use Rattle.disk_model.specs.Files.{Files}
 use Rattle.disk_model.specs.State.{IsImageNow}
-use Rattle.disk_model.specs.Record.{started}
+use Rattle.disk_model.specs.Record.{disk_of_files}
 use Rattle.disk_model.specs.declared.name.Name.TheVariants as name
 use Rattle.disk_model.specs.View.{DiskView, EachImage}
-use Rattle.machine_spec.specs.Answers.{Turn, answers, lines_of, played, after_turns}
+use Rattle.machine_spec.specs.Answers.{Turn, answers, lines_of, turns_of_lines, after_turns}
 use Rattle.machine_spec.specs.Machine.{Machine}
 use Rattle.machine_spec.specs.Script.{output_by, after_script}
 use Rattle.machine_spec.proofs.Runs.{plays_once}
 use Rattle.script_text.specs.Endings.{status_of}
-use Rattle.script_text.specs.Script.{lines, joined, IsLine, IsShort, AreWithinLimits}
+use Rattle.script_text.specs.Script.{lines, text_of_lines, IsLine, IsShort, AreWithinLimits}
 use Rattle.script_text.specs.declared.ending.RunStop.{RunStop}
 use Rattle.script_text.specs.declared.ending.RunStop.TheVariants as stops
 use Rattle.script_text.specs.declared.status.Status.{Status}
@@ -39,7 +39,7 @@ module _ (tells : Bool) (begins : Machine → Type 0) (shown : Bytes → Bytes) 
   -- the lines of a script that lacks nothing
   lines_are : (ending : Result Unit RunStop) (e : EndsFrom 0 ending tells begins shown closes ended old new script gained) → e.behind.lacking ≡ [] → lines script ≡ lines_of e.answered ++ lines e.behind.part
   lines_are ending e fed =
-      let whole : script ≡ joined (lines_of e.answered) ++ e.behind.part = sym (append-nil script) ∙ ap (λ l. script ++ l) (sym fed) ∙ e.script_is in
+      let whole : script ≡ text_of_lines (lines_of e.answered) ++ e.behind.part = sym (append-nil script) ∙ ap (λ l. script ++ l) (sym fed) ∙ e.script_is in
       ap lines whole ∙ lines_joined (lines_of e.answered) e.behind.part (are_lines e.answered e.turns)
 
   not_long : (number : ℕ) (left : Bytes) → AreWithinLimits (lines (script ++ left)) → EndsFrom 0 (Err (stops.LongLine number)) tells begins shown closes ended old new script gained → ⊥
@@ -79,7 +79,7 @@ all_lines : (tells : Bool) (begins : Machine → Type 0) (shown : Bytes → Byte
     → lines_of e.answered ≡ lines script
 all_lines tells begins shown closes ended old new script gained e =
     let whole : lines (script ++ e.behind.lacking) ≡ lines_of e.answered =
-    ap lines (e.script_is ∙ ap (λ p. joined (lines_of e.answered) ++ p) e.by.nothing) ∙ lines_joined (lines_of e.answered) [] (are_lines e.answered e.turns) ∙ append-nil (lines_of e.answered) in
+    ap lines (e.script_is ∙ ap (λ p. text_of_lines (lines_of e.answered) ++ p) e.by.nothing) ∙ lines_joined (lines_of e.answered) [] (are_lines e.answered e.turns) ∙ append-nil (lines_of e.answered) in
     let same : lines (script ++ e.behind.lacking) ≡ lines script =
     ⊎_elim (λ none. ap (λ l. lines (script ++ l)) none ∙ ap lines (append-nil script)) (λ more. ap (λ l. lines (script ++ l)) more.0 ∙ more.1) e.lacks in
     sym whole ∙ same
@@ -146,11 +146,11 @@ complete stop tells begins closes ended old new first script taken gained (Some 
 
 -- ---- an empty disk
 
-none_there : (image : Files) → IsImageNow (started (λ _. None)) image → (n : ℕ) → image (name.Mark n) ≡ None
+none_there : (image : Files) → IsImageNow (disk_of_files (λ _. None)) image → (n : ℕ) → image (name.Mark n) ≡ None
 none_there image (inl shows) n = shows.firm (name.Mark n) refl
 none_there image (inr never) n = absurd never
 
-pub empty_stands : EachImage (started (λ _. None)) (λ image. StandsFor image [])
+pub empty_stands : EachImage (disk_of_files (λ _. None)) (λ image. StandsFor image [])
 empty_stands image now = record {
   marks = record { ascending = λ k h. absurd (omega (arith, h)); each = λ n. rw (none_there image now n) refl };
   few = omega arith;

@@ -7,7 +7,7 @@ use Rattle.height_store.specs.Kept.{StandsForEither}
 use Rattle.machine_spec.specs.Answers.{turn_of, answer, reply_to, after_line}
 use Rattle.machine_spec.specs.Machine.{Machine}
 use Rattle.machine_spec.specs.Step.{step}
-use Rattle.script_text.specs.Commands.{parsed}
+use Rattle.script_text.specs.Commands.{parsed_line}
 use Rattle.script_text.specs.Texts.{reply_text, bad_line_text}
 use Rattle.script_text.specs.declared.command.Command.{Command}
 use Rattle.script_text.specs.declared.parsing.Parsed.{Parsed}
@@ -16,15 +16,15 @@ use Rattle.script_text.specs.declared.reply.Reply.{Reply}
 use Rattle.state_cli.specs.Turns.{AnswersLine, KeepsImages}
 
 module _ (tells : Bool) (kept : Machine → Type 0) (line : Bytes) where
-  pub silent : (bytes : Bytes) → parsed line ≡ Silent → bytes ≡ [] → AnswersLine tells kept kept line bytes
+  pub silent : (bytes : Bytes) → parsed_line line ≡ Silent → bytes ≡ [] → AnswersLine tells kept kept line bytes
   unfolding answer reply_to after_line
   silent bytes is none = (None, record { replied = rw is tt; bytes_are = none ∙ (rw is refl); plays = λ told m k. (rw is refl, rw is k) })
 
-  pub bad : (bytes : Bytes) → parsed line ≡ BadLine → bytes ≡ bad_line_text ++ codes "\n" → AnswersLine tells kept kept line bytes
+  pub bad : (bytes : Bytes) → parsed_line line ≡ BadLine → bytes ≡ bad_line_text ++ codes "\n" → AnswersLine tells kept kept line bytes
   unfolding answer reply_to after_line
   bad bytes is text = (None, record { replied = rw is tt; bytes_are = text ∙ (rw is refl); plays = λ told m k. (rw is refl, rw is k) })
 
-  pub spoken : (now_kept : Machine → Type 0) (command : Command) (bytes : Bytes) → parsed line ≡ Line command
+  pub spoken : (now_kept : Machine → Type 0) (command : Command) (bytes : Bytes) → parsed_line line ≡ Line command
       → ((reply : Reply) × (bytes ≡ reply_text reply ++ codes "\n") × (IsTrue tells → (m : Machine) → kept m → (reply ≡ (step m command).reply) × now_kept (step m command).after))
       → AnswersLine tells kept now_kept line bytes
   unfolding answer reply_to after_line
@@ -37,7 +37,7 @@ module _ (tells : Bool) (kept : Machine → Type 0) (line : Bytes) where
     },
   )
 
-  pub images_of : (old new : DiskView) (command : Command) → parsed line ≡ Line command
+  pub images_of : (old new : DiskView) (command : Command) → parsed_line line ≡ Line command
       → (IsTrue tells → (m : Machine) → kept m → LeavesOnly old new (StandsForEither m.published (step m command).after.published))
       → KeepsImages tells kept old new line
   unfolding after_line

@@ -12,9 +12,9 @@ use Rattle.height_store.specs.Bad.{IsFirstBadMark, IsFirstBadPage}
 use Rattle.height_store.specs.Kept.{StandsForEither}
 use Rattle.machine_spec.specs.Answers.{Turn, lines_of, answer, answers, after_turns, FitsLine, Plays}
 use Rattle.machine_spec.specs.Machine.{Machine, start}
-use Rattle.script_text.specs.Commands.{parsed}
+use Rattle.script_text.specs.Commands.{parsed_line}
 use Rattle.script_text.specs.Endings.{status_of, closing_text}
-use Rattle.script_text.specs.Script.{lines, joined, IsLine, IsShort}
+use Rattle.script_text.specs.Script.{lines, text_of_lines, IsLine, IsShort}
 use Rattle.script_text.specs.declared.ending.RunStop.{RunStop}
 use Rattle.script_text.specs.declared.ending.RunStop.TheVariants as stops
 use Rattle.script_text.specs.declared.status.Status.{Status}
@@ -50,7 +50,7 @@ all_shown text = text
 pub record IsTurn (turn : Turn) : Type 0 where
   pub one : IsLine turn.line
   pub short : IsShort turn.line
-  pub replied : FitsLine (parsed turn.line) turn.reply
+  pub replied : FitsLine (parsed_line turn.line) turn.reply
 
 -- what is lacking of a script: the line feed of its last line, where the source has ended, or nothing
 abbrev pub IsLacking : Type 0 → Bytes → Bytes → Type 0
@@ -111,7 +111,7 @@ pub record IsStopped (count : ℕ) (behind : Behind) : Type 0 where
 pub record IsCut (shown : Bytes → Bytes) (count : ℕ) (behind : Behind) : Type 0 where
   pub turn : Turn
   pub line : IsBegun count behind turn
-  pub replied : FitsLine (parsed turn.line) turn.reply
+  pub replied : FitsLine (parsed_line turn.line) turn.reply
   pub front : IsProperPrefix behind.cut (shown (answer turn))
 
 -- the line behind so many, of this number, goes past its limit, and no byte behind that is taken
@@ -181,7 +181,7 @@ pub record EndsFrom (before : ℕ) (ending : Result Unit RunStop) (tells : Bool)
   pub answered : List Turn
   pub behind : Behind
   pub last : Bytes
-  pub script_is : script ++ behind.lacking ≡ joined (lines_of answered) ++ behind.part
+  pub script_is : script ++ behind.lacking ≡ text_of_lines (lines_of answered) ++ behind.part
   pub gained_is : gained ≡ shown (answers answered) ++ behind.cut ++ last
   pub turns : AllByRecursion IsTurn answered
   pub few : before + length answered ≤ MAX_LINES

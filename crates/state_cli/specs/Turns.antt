@@ -7,7 +7,7 @@ use Rattle.height_store.specs.Kept.{StandsForEither}
 use Rattle.io_edge.specs.Faults.{IsProperPrefix}
 use Rattle.machine_spec.specs.Answers.{Turn, turn_of, answer, reply_to, after_line, after_turn, FitsLine}
 use Rattle.machine_spec.specs.Machine.{Machine}
-use Rattle.script_text.specs.Commands.{parsed}
+use Rattle.script_text.specs.Commands.{parsed_line}
 use Rattle.script_text.specs.declared.ending.RunStop.{RunStop}
 use Rattle.script_text.specs.declared.reply.Reply.{Reply}
 use Rattle.state_cli.specs.Ends.{EndsFrom, IsOpen, IsTurn, all_shown}
@@ -23,7 +23,7 @@ KeepsImages tells kept old new line =
 
 -- the bytes are the answer of this turn, whose reply is that of each machine that was kept
 pub record IsAnswer (tells : Bool) (kept now_kept : Machine → Type 0) (turn : Turn) (bytes : Bytes) : Type 0 where
-  pub replied : FitsLine (parsed turn.line) turn.reply
+  pub replied : FitsLine (parsed_line turn.line) turn.reply
   pub bytes_are : bytes ≡ answer turn
   pub plays : IsTrue tells → (m : Machine) → kept m → (turn.reply ≡ reply_to m turn.line) × now_kept (after_turn m turn)
 

@@ -13,7 +13,7 @@ use Rattle.format_spec.specs.Bytes.{Bytes, bytes_cmp}
 use Rattle.format_spec.specs.declared.limits.TheConstants.{PAGE_SIZE}
 use Rattle.state_spec.specs.State.{State, memory_bytes, state_from}
 use Rattle.state_spec.specs.Files.{memories_in}
-use Rattle.store_spec.specs.Image.{Published, opened}
+use Rattle.store_spec.specs.Image.{Published, opened_state}
 use Rattle.sys_state.specs.System.{System, part_of, kept_of, record_of, part_of_record}
 use Rattle.height_store.specs.Store.{StoredHeight, height_at, heights_in}
 use Rattle.height_store.specs.Known.{KnowsHeight}
@@ -40,21 +40,21 @@ ids_ascend : (s : State) (system : System) → kept_of s ≡ system → IsTrue (
 ids_ascend s system is ascend =
     sym (sorted_images record_of s.canisters) ∙ ap (λ (t : System). is_sorted bytes_cmp t.canisters) is ∙ sym (sorted_images part_of_record system.canisters) ∙ ascend
 
-pub opened_version : (p : Published) → p.state.version ≡ 1 → (opened p).version ≡ 1
-unfolding opened state_from
+pub opened_version : (p : Published) → p.state.version ≡ 1 → (opened_state p).version ≡ 1
+unfolding opened_state state_from
 opened_version p one = one
 
-pub opened_kept : (h : StoredHeight) (p : Published) → KnowsHeight h p → KeepsState (record { system = h.system; memories = memory_bytes p.state; height = p.height }) (p.height, opened p)
+pub opened_kept : (h : StoredHeight) (p : Published) → KnowsHeight h p → KeepsState (record { system = h.system; memories = memory_bytes p.state; height = p.height }) (p.height, opened_state p)
 opened_kept h p knows = record {
   version = opened_version p knows.version;
-  sorted = ids_ascend (opened p) h.system knows.system knows.good.parts.mark.system_good.ids_ascend;
+  sorted = ids_ascend (opened_state p) h.system knows.system knows.good.parts.mark.system_good.ids_ascend;
   system = sym knows.system;
   memories = sym knows.bytes;
   height = refl;
 }
 
 pub loaded_kept : (h : StoredHeight) (p : Published) → KnowsHeight h p → (height : ℕ) → h.mark.height ≡ height → (held : StateView) → held.system ≡ h.system → held.memories ≡ memory_bytes p.state → (height + 1 < 2 ^ 64 → held.height ≡ height + 1)
-    → KeepsState held (p.height + 1, opened p)
+    → KeepsState held (p.height + 1, opened_state p)
 loaded_kept h p knows height is held system memories next =
     let k = opened_kept h p knows in
     let few : height + 1 < 2 ^ 64 = omega (arith, knows.good.parts.mark.height_fits, is) in
@@ -164,7 +164,7 @@ last_there (h ∷ i ∷ hs) height e = elim (cases_Bool (h.mark.height == height
 ]
 
 -- the machine of a store goes on from the newest height
-pub begun : (held : StateView) (p : Published) (ps : List Published) → KeepsState held (p.height + 1, opened p) → newest ps ≡ Some p → KeepsState held (live_of (start ps))
+pub begun : (held : StateView) (p : Published) (ps : List Published) → KeepsState held (p.height + 1, opened_state p) → newest ps ≡ Some p → KeepsState held (live_of (start ps))
 begun held p ps k last = rw last (record { version = k.version; sorted = k.sorted; system = k.system; memories = k.memories; height = k.height })
 
 pub begun_empty : (held : StateView) (ps : List Published) → KeepsState held (1, empty_state) → ps ≡ [] → KeepsState held (live_of (start ps))

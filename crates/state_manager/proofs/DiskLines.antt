@@ -34,7 +34,7 @@ use Rattle.script_text.specs.declared.reply.Reply.{Reply}
 use Rattle.script_text.specs.declared.reply.Reply.TheVariants as replies
 use Rattle.script_text.specs.declared.reply.Refusal.TheVariants as refusals
 use Rattle.machine_spec.specs.Costs.{appends, reads, whole_bytes}
-use Rattle.machine_spec.specs.Machine.{Machine, Outcome, answered, anew, newest, published_at, resumed_at, start}
+use Rattle.machine_spec.specs.Machine.{Machine, Outcome, outcome_of, anew, newest, published_at, resumed_at, start}
 use Rattle.machine_spec.specs.Sound.{IsSound as IsSoundMachine, AreHeights}
 use Rattle.machine_spec.specs.Step.{step}
 use Rattle.machine_spec.proofs.StartKept.{start_is_sound}
@@ -147,7 +147,7 @@ none_kept (b ∷ helds) ks each e = absurd (omega (arith, e))
 pub checkpoint_free : (m : Machine) (helds : List StateView) → KeepsEach helds m.memory → length helds ≡ 0 → appends m commands.Checkpoint ≡ 0
 checkpoint_free m helds each none = rw (none_kept helds m.memory each none) refl
 
-pub checkpoint_none : (m : Machine) (helds : List StateView) → KeepsEach helds m.memory → length helds ≡ 0 → step m commands.Checkpoint ≡ answered (replies.Refused refusals.NoHeight) m
+pub checkpoint_none : (m : Machine) (helds : List StateView) → KeepsEach helds m.memory → length helds ≡ 0 → step m commands.Checkpoint ≡ outcome_of (replies.Refused refusals.NoHeight) m
 checkpoint_none m helds each none = rw (none_kept helds m.memory each none) refl
 
 -- a test of the newest height, as the store and as the machine make it
@@ -196,7 +196,7 @@ module _ (tells : Bool) (old : ManagerView) (before : DiskView) (m : Machine) (a
 
   -- what the machine does where a height is published
   pub checkpoints : (k : KeepsStates old m) → option_map_or (λ newest. nat_le a.height newest) (last_or None (heights_in old.store.heights)) false ≡ false → length old.store.heights < MAX_PUBLISHED
-      → step m commands.Checkpoint ≡ answered (replies.Published (last_kept old.memory m.memory a k.memory last).0.0 (root_of (last_kept old.memory m.memory a k.memory last).0.1)) (published_with m (last_kept old.memory m.memory a k.memory last).0)
+      → step m commands.Checkpoint ≡ outcome_of (replies.Published (last_kept old.memory m.memory a k.memory last).0.0 (root_of (last_kept old.memory m.memory a k.memory last).0.1)) (published_with m (last_kept old.memory m.memory a k.memory last).0)
   checkpoints k low few = rw ((last_kept old.memory m.memory a k.memory last).1, low_at k false low, few_at k few) refl
 
   pub checkpoint_appends : (k : KeepsStates old m) → option_map_or (λ newest. nat_le a.height newest) (last_or None (heights_in old.store.heights)) false ≡ false → length old.store.heights < MAX_PUBLISHED
@@ -204,14 +204,14 @@ module _ (tells : Bool) (old : ManagerView) (before : DiskView) (m : Machine) (a
   checkpoint_appends k low few = rw ((last_kept old.memory m.memory a k.memory last).1, low_at k false low, few_at k few) refl
 
   pub checkpoint_low : (k : KeepsStates old m) → option_map_or (λ newest. nat_le a.height newest) (last_or None (heights_in old.store.heights)) false ≡ true
-      → step m commands.Checkpoint ≡ answered (replies.Refused refusals.HeightLow) m
+      → step m commands.Checkpoint ≡ outcome_of (replies.Refused refusals.HeightLow) m
   checkpoint_low k low = rw ((last_kept old.memory m.memory a k.memory last).1, low_at k true low) refl
 
   pub checkpoint_low_free : (k : KeepsStates old m) → option_map_or (λ newest. nat_le a.height newest) (last_or None (heights_in old.store.heights)) false ≡ true → appends m commands.Checkpoint ≡ 0
   checkpoint_low_free k low = rw ((last_kept old.memory m.memory a k.memory last).1, low_at k true low) refl
 
   pub checkpoint_many : (k : KeepsStates old m) → option_map_or (λ newest. nat_le a.height newest) (last_or None (heights_in old.store.heights)) false ≡ false → MAX_PUBLISHED ≤ length old.store.heights
-      → step m commands.Checkpoint ≡ answered (replies.Refused refusals.ManyMarks) m
+      → step m commands.Checkpoint ≡ outcome_of (replies.Refused refusals.ManyMarks) m
   checkpoint_many k low many = rw ((last_kept old.memory m.memory a k.memory last).1, low_at k false low, many_at k many) refl
 
   pub checkpoint_many_free : (k : KeepsStates old m) → option_map_or (λ newest. nat_le a.height newest) (last_or None (heights_in old.store.heights)) false ≡ false → MAX_PUBLISHED ≤ length old.store.heights
@@ -297,18 +297,18 @@ height_absent hs ps height each absent = by (height_at hs height) (find_height K
     by None f absent = f
     by (Some h) f absent = absurd (false≢true (sym absent))
 
-pub reset_none : (m : Machine) (height : ℕ) → published_at height m.published ≡ None → step m (commands.Reset height) ≡ answered (replies.Refused refusals.NoHeight) m
+pub reset_none : (m : Machine) (height : ℕ) → published_at height m.published ≡ None → step m (commands.Reset height) ≡ outcome_of (replies.Refused refusals.NoHeight) m
 reset_none m height none = rw none refl
 
-pub reset_low : (m : Machine) (height : ℕ) (s : State) → published_at height m.published ≡ Some s → option_map_or (λ p. p.height == height) (newest m.published) false ≡ false → step m (commands.Reset height) ≡ answered (replies.Refused refusals.HeightLow) m
+pub reset_low : (m : Machine) (height : ℕ) (s : State) → published_at height m.published ≡ Some s → option_map_or (λ p. p.height == height) (newest m.published) false ≡ false → step m (commands.Reset height) ≡ outcome_of (replies.Refused refusals.HeightLow) m
 reset_low m height s there low = rw (there, low) refl
 
 begun_again : (m : Machine) (height : ℕ) (o : Option Published) → option_map_or (λ p. p.height == height) o false ≡ true → resumed_at o m ≡ resumed_at o (anew m.published)
 begun_again m height None e = absurd (false≢true e)
 begun_again m height (Some p) e = refl
 
-pub resets : (m : Machine) (height : ℕ) (s : State) → published_at height m.published ≡ Some s → option_map_or (λ p. p.height == height) (newest m.published) false ≡ true → step m (commands.Reset height) ≡ answered replies.Fine (start m.published)
-resets m height s there last = rw (there, last) (ap (answered replies.Fine) (begun_again m height (newest m.published) last))
+pub resets : (m : Machine) (height : ℕ) (s : State) → published_at height m.published ≡ Some s → option_map_or (λ p. p.height == height) (newest m.published) false ≡ true → step m (commands.Reset height) ≡ outcome_of replies.Fine (start m.published)
+resets m height s there last = rw (there, last) (ap (outcome_of replies.Fine) (begun_again m height (newest m.published) last))
 
 -- a store that opens has no state in memory
 pub none_in_memory : (ps : List Published) → ((start ps).memory ≡ []) × ((start ps).published ≡ ps)

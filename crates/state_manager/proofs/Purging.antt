@@ -20,7 +20,7 @@ use Rattle.script_text.specs.declared.reply.Reply.{Reply}
 use Rattle.script_text.specs.declared.reply.Reply.TheVariants as replies
 use Rattle.script_text.specs.declared.reply.Refusal.{Refusal}
 use Rattle.script_text.specs.declared.reply.Refusal.TheVariants as refusals
-use Rattle.machine_spec.specs.Machine.{Machine, Outcome, answered, newest}
+use Rattle.machine_spec.specs.Machine.{Machine, Outcome, outcome_of, newest}
 use Rattle.machine_spec.specs.Sound.{IsSound}
 use Rattle.machine_spec.specs.Step.{step}
 use Rattle.machine_spec.proofs.StepsKept.{step_keeps}
@@ -60,7 +60,7 @@ pub record Purges {T : Type 0} (tells : Bool) (old now : ManagerView) (before af
 module _ {T : Type 0} (tells : Bool) (old now : ManagerView) (before after : DiskView) (height : ℕ) (r : Result T StoreError) (reply : Result Reply StoreError) (says : RepliesTo r reply) (p : Purges tells old now before after height r)
     (live : now.live ≡ old.live) (memory : now.memory ≡ old.memory) (closed : now.stopped ≡ old.stopped)
     (over : IsTrue tells → MatchesFiles old.store before.state.files) (sound : IsTrue tells → IsImageNow after.state after.state.files) where
-  refuses : (reason : Refusal) → (now.store ≡ old.store) × (after ≡ before) → ((m : Machine) → KeepsStates old m → step m (commands.Purge height) ≡ answered (replies.Refused reason) m) → reply ≡ Ok (replies.Refused reason)
+  refuses : (reason : Refusal) → (now.store ≡ old.store) × (after ≡ before) → ((m : Machine) → KeepsStates old m → step m (commands.Purge height) ≡ outcome_of (replies.Refused reason) m) → reply ≡ Ok (replies.Refused reason)
       → DoesLine tells old now before after reply (commands.Purge height)
   refuses reason same does is =
       subst (λ (v : DiskView). DoesLine tells old now before v reply (commands.Purge height)) (sym same.1)
@@ -73,7 +73,7 @@ module _ {T : Type 0} (tells : Bool) (old now : ManagerView) (before after : Dis
   abbrev without : Machine → Machine
   without m = record m { published = without_published m.published height }
 
-  does_purge : is_some (height_at old.store.heights height) ≡ true → is_newest old.store.heights height ≡ false → (m : Machine) → KeepsStates old m → step m (commands.Purge height) ≡ answered replies.Fine (without m)
+  does_purge : is_some (height_at old.store.heights height) ≡ true → is_newest old.store.heights height ≡ false → (m : Machine) → KeepsStates old m → step m (commands.Purge height) ≡ outcome_of replies.Fine (without m)
   does_purge there older m k =
       let s = height_there old.store.heights m.published height k.published there in
       let not_last = sym (newest_alike old.store.heights m.published height k.published) ∙ older in
@@ -160,7 +160,7 @@ module _ {T : Type 0} (tells : Bool) (old now : ManagerView) (before after : Dis
     ]
   ]
     where
-      is_last : is_some (height_at old.store.heights height) ≡ true → is_newest old.store.heights height ≡ true → (m : Machine) → KeepsStates old m → step m (commands.Purge height) ≡ answered (replies.Refused refusals.LastHeight) m
+      is_last : is_some (height_at old.store.heights height) ≡ true → is_newest old.store.heights height ≡ true → (m : Machine) → KeepsStates old m → step m (commands.Purge height) ≡ outcome_of (replies.Refused refusals.LastHeight) m
       is_last there last m k =
           let s = height_there old.store.heights m.published height k.published there in
           let newest = sym (newest_alike old.store.heights m.published height k.published) ∙ last in

@@ -11,7 +11,7 @@ use Rattle.format_spec.specs.Bytes.{Bytes, bytes_cmp}
 use Rattle.format_spec.specs.declared.limits.TheConstants.{PAGE_SIZE, MAX_CANISTERS}
 use Rattle.state_spec.specs.Files.{heap_name, stable_name, memories_in}
 use Rattle.state_spec.specs.State.{State, Canister, CanisterPart, SystemPart, system_of, memory_bytes}
-use Rattle.store_spec.specs.Image.{Published, opened}
+use Rattle.store_spec.specs.Image.{Published, opened_state}
 use Rattle.sys_state.specs.Calls as calls
 use Rattle.sys_state.specs.Places.{Stands, place_of}
 use Rattle.sys_state.specs.System.{System, part_of, part_of_record, parts}
@@ -23,7 +23,7 @@ use Rattle.height_store.specs.Known.{KnowsHeight, IsMemoryAt}
 use Rattle.script_text.specs.declared.reply.Reply.{Reply}
 use Rattle.script_text.specs.declared.reply.Reply.TheVariants as replies
 use Rattle.script_text.specs.declared.reply.Refusal.TheVariants.{NoCanister, PastEnd}
-use Rattle.machine_spec.specs.LiveSteps.{bytes_told, canister_told, read_reply}
+use Rattle.machine_spec.specs.LiveSteps.{reply_of_bytes, reply_of_canister, read_reply}
 use Rattle.machine_spec.specs.States.{canister_in, memory_of}
 use Rattle.live_state.specs.Places.{index_of}
 use Rattle.live_state.specs.StateKept.{StateView}
@@ -62,7 +62,7 @@ same_ids : (s t : State) → system_of s ≡ system_of t → map (λ (c : Bytes 
 unfolding system_of
 same_ids s t e = sym (ids_of_parts s.canisters _) ∙ ap (λ (p : SystemPart). map (λ (c : Bytes × CanisterPart). c.0) p.canisters) e ∙ ids_of_parts t.canisters _
 
-told_same : (o p : Option Canister) → SameReads o p → (mem : Mem) (from len : ℕ) → canister_told o mem from len ≡ canister_told p mem from len
+told_same : (o p : Option Canister) → SameReads o p → (mem : Mem) (from len : ℕ) → reply_of_canister o mem from len ≡ reply_of_canister p mem from len
 told_same None None same mem from len = refl
 told_same None (Some d) same mem from len = absurd same
 told_same (Some c) None same mem from len = absurd same
@@ -71,7 +71,7 @@ told_same (Some c) (Some d) same mem from len = by mem same
     bytes_same : (a b : Bytes) → a ≡ b → (if nat_lt (length a) (from + len) then replies.Refused PastEnd else replies.Bytes (take len (drop from a))) ≡ (if nat_lt (length b) (from + len) then replies.Refused PastEnd else replies.Bytes (take len (drop from b)))
     bytes_same a b e = ap (λ (x : Bytes). if nat_lt (length x) (from + len) then replies.Refused PastEnd else replies.Bytes (take len (drop from x))) e
 
-    by : (mem : Mem) → (c.heap.bytes ≡ d.heap.bytes) × (c.stable.bytes ≡ d.stable.bytes) → bytes_told (memory_of c mem) from len ≡ bytes_told (memory_of d mem) from len
+    by : (mem : Mem) → (c.heap.bytes ≡ d.heap.bytes) × (c.stable.bytes ≡ d.stable.bytes) → reply_of_bytes (memory_of c mem) from len ≡ reply_of_bytes (memory_of d mem) from len
     by Heap same = bytes_same c.heap.bytes d.heap.bytes same.0
     by Stable same = bytes_same c.stable.bytes d.stable.bytes same.1
 
@@ -128,14 +128,14 @@ module _ (h : StoredHeight) (p : Published) (knows : KnowsHeight h p) (id : Byte
   abbrev held : StateView
   held = record { system = h.system; memories = memory_bytes p.state; height = p.height }
 
-  answers : (reply : Reply) → reply ≡ read_reply (opened p) id mem from len → reply ≡ read_reply p.state id mem from len
+  answers : (reply : Reply) → reply ≡ read_reply (opened_state p) id mem from len → reply ≡ read_reply p.state id mem from len
   answers reply is =
-      let ids = same_ids (opened p) p.state (sym (parts_of_state (opened p)) ∙ ap part_of knows.system ∙ sym knows.parts) in
-      is ∙ told_same (canister_in (opened p) id) (canister_in p.state id) (alike id (opened p).canisters p.state.canisters ids knows.bytes) mem from len
+      let ids = same_ids (opened_state p) p.state (sym (parts_of_state (opened_state p)) ∙ ap part_of knows.system ∙ sym knows.parts) in
+      is ∙ told_same (canister_in (opened_state p) id) (canister_in p.state id) (alike id (opened_state p).canisters p.state.canisters ids knows.bytes) mem from len
 
   pub reads_no_canister : (system : System) → system ≡ h.system → calls.canister_in system id ≡ None → replies.Refused NoCanister ≡ read_reply p.state id mem from len
   reads_no_canister system is none =
-      answers (replies.Refused NoCanister) (reads_nowhere held (p.height, opened p) (opened_kept h p knows) id mem from len (sym (ap (λ (s : System). calls.canister_in s id) is) ∙ none))
+      answers (replies.Refused NoCanister) (reads_nowhere held (p.height, opened_state p) (opened_kept h p knows) id mem from len (sym (ap (λ (s : System). calls.canister_in s id) is) ∙ none))
 
   module _ (n : ℕ) (at : Stands bytes_cmp id h.system.canisters n) where
     size : (index_of n mem < length (memory_bytes p.state)) × (length (get_or (memory_bytes p.state) (index_of n mem) []) ≡ calls.pages_of mem at.value * PAGE_SIZE)
@@ -143,7 +143,7 @@ module _ (h : StoredHeight) (p : Published) (knows : KnowsHeight h p) (id : Byte
 
     pub reads_past_end : calls.pages_of mem at.value * PAGE_SIZE < from + len → replies.Refused PastEnd ≡ read_reply p.state id mem from len
     reads_past_end past =
-        answers (replies.Refused PastEnd) (reads_past held (p.height, opened p) (opened_kept h p knows) id n mem at from len (subst (λ (k : ℕ). k < from + len) (sym size.1) past))
+        answers (replies.Refused PastEnd) (reads_past held (p.height, opened_state p) (opened_kept h p knows) id n mem at from len (subst (λ (k : ℕ). k < from + len) (sym size.1) past))
 
     pub memory_there : IsMemoryAt p.state (index_of n mem) (get_or (memory_bytes p.state) (index_of n mem) [])
     memory_there = slice_get-get_or (memory_bytes p.state) (index_of n mem) [] size.0
@@ -151,7 +151,7 @@ module _ (h : StoredHeight) (p : Published) (knows : KnowsHeight h p) (id : Byte
     pub reads_these : (bytes : Bytes) → from + len ≤ calls.pages_of mem at.value * PAGE_SIZE → bytes ≡ take len (drop from (get_or (memory_bytes p.state) (index_of n mem) []))
         → replies.Bytes bytes ≡ read_reply p.state id mem from len
     reads_these bytes within is =
-        answers (replies.Bytes bytes) (reads_bytes held (p.height, opened p) (opened_kept h p knows) id n mem at from len bytes (subst (λ (k : ℕ). from + len ≤ k) (sym size.1) within) is)
+        answers (replies.Bytes bytes) (reads_bytes held (p.height, opened_state p) (opened_kept h p knows) id n mem at from len bytes (subst (λ (k : ℕ). from + len ≤ k) (sym size.1) within) is)
 
 -- the same, of a system that is that of the height
 module _ (id : Bytes) (mem : Mem) (n from len : ℕ) (h : StoredHeight) (p : Published) (knows : KnowsHeight h p) where

@@ -16,7 +16,7 @@ use Rattle.script_text.specs.declared.reply.Reply.{Reply}
 use Rattle.script_text.specs.declared.reply.Reply.TheVariants as replies
 use Rattle.script_text.specs.declared.reply.Refusal.TheVariants.{NoHeight}
 use Rattle.machine_spec.specs.Costs.{on_disk}
-use Rattle.machine_spec.specs.Machine.{Machine, Outcome, answered, unless_none, on_state, state_at, kept_at, published_at, without_height}
+use Rattle.machine_spec.specs.Machine.{Machine, Outcome, outcome_of, unless_none, on_state, state_at, kept_at, published_at, without_height}
 use Rattle.store_spec.specs.Image.{Published}
 use Rattle.disk_model.specs.Files.{Files}
 use Rattle.height_store.specs.Kept.{ShowsHeight}
@@ -218,17 +218,17 @@ pub with_tree : (old new : ManagerView) (m : Machine) (at : HeightOrLive) → ne
 with_tree old new m at same k none = subst (λ (h : ManagerView). WithTree h m at) (sym same) (record { keeps = k; none = none })
 
 -- a line that answers something of a state
-module _ (held : ManagerView) (m : Machine) (k : KeepsStates held m) (at : HeightOrLive) (command : Command) (tell : State → Reply) (same : step m command ≡ on_state m at (λ s. answered (tell s) m)) where
-  told : (reply : Reply) → (reply ≡ (on_state m at (λ s. answered (tell s) m)).reply) × KeepsStates held (on_state m at (λ s. answered (tell s) m)).after × ((on_state m at (λ s. answered (tell s) m)).after.published ≡ m.published)
+module _ (held : ManagerView) (m : Machine) (k : KeepsStates held m) (at : HeightOrLive) (command : Command) (tell : State → Reply) (same : step m command ≡ on_state m at (λ s. outcome_of (tell s) m)) where
+  told : (reply : Reply) → (reply ≡ (on_state m at (λ s. outcome_of (tell s) m)).reply) × KeepsStates held (on_state m at (λ s. outcome_of (tell s) m)).after × ((on_state m at (λ s. outcome_of (tell s) m)).after.published ≡ m.published)
       → Performs (Ok reply) held m command
   told reply h = subst (λ (o : Outcome). (reply ≡ o.reply) × KeepsStates held o.after × (o.after.published ≡ m.published)) (sym same) h
 
   pub performs_published : (height : ℕ) → (e : Some height ≡ published_height held at) → (result : Result Reply NoMemory)
       → IfOk result (λ reply. reply ≡ tell (knows_some held m k at height e).published.state) → Performs result held m command
-  performs_published height e (Ok reply) is = told reply (line_published held m k at height e (λ s. answered (tell s) m) reply (λ s. refl) is)
+  performs_published height e (Ok reply) is = told reply (line_published held m k at height e (λ s. outcome_of (tell s) m) reply (λ s. refl) is)
   performs_published height e (Err x) is = tt
 
   pub performs_in_memory : None ≡ published_height held at → (a : StateView) → (e : Some a ≡ held_at held at) → (result : Result Reply NoMemory)
       → IfOk result (λ reply. reply ≡ tell (at_some held m k at a e).0.1) → Performs result held m command
-  performs_in_memory none a e (Ok reply) is = told reply (line_some held m k at none a e (λ s. answered (tell s) m) reply (λ s. refl) is)
+  performs_in_memory none a e (Ok reply) is = told reply (line_some held m k at none a e (λ s. outcome_of (tell s) m) reply (λ s. refl) is)
   performs_in_memory none a e (Err x) is = tt

@@ -1,6 +1,6 @@
 -- Why a manager stops or does not open.
 use Rattle.std.specs.Prelude.{ℕ, ◌≤◌, Result, Ok, Err, IsErrOf}
-use Rattle.disk_model.specs.Call.{counted}
+use Rattle.disk_model.specs.Call.{count_after}
 use Rattle.height_store.specs.declared.error.StoreError.{StoreError}
 use Rattle.height_store.specs.declared.error.StoreError.TheVariants as store
 use Rattle.script_text.specs.declared.reply.Reply.{Reply}
@@ -31,12 +31,12 @@ open_error e = opens.Memory
 -- `Disk` comes only where the disk's count of faults rose, or stands at the top of a `u64`
 pub record HasCause {T : Type 0} (old new : ℕ) (result : Result T Stop) : Type 0 where
   pub never_falls : old ≤ new
-  pub fault : IsErrOf result stops.Disk → counted old 1 ≤ new
+  pub fault : IsErrOf result stops.Disk → count_after old 1 ≤ new
 
 -- the same of opening
 pub record OpensByCause {T : Type 0} (old new : ℕ) (result : Result T OpenError) : Type 0 where
   pub never_falls : old ≤ new
-  pub fault : IsErrOf result opens.Fault → counted old 1 ≤ new
+  pub fault : IsErrOf result opens.Fault → count_after old 1 ≤ new
 
 -- a file of the disk is bad
 abbrev pub IsBadFile : {T : Type 0} → Result T OpenError → Type 0

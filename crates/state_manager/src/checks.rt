@@ -2,7 +2,7 @@
 
 ghost use Rattle.std.specs.Prelude.{◌≡◌, IfOk};
 ghost use Rattle.tree_spec.specs.Cbor.{read_tree};
-ghost use Rattle.machine_spec.specs.WitnessSteps.{told, told_by};
+ghost use Rattle.machine_spec.specs.WitnessSteps.{reply_of_look, reply_of_witness};
 ghost use Rattle.witness.specs.Answers.{checked as checked_of};
 ghost use Rattle.live_state.specs.Changes.{RefusedBy};
 
@@ -15,7 +15,7 @@ use witness::{Checked, WitnessError, check};
 
 // The reply that tells what a witness shows.
 fn reply_of(checked: Checked) -> Reply
-    ensures { result ≡ told (checked_of checked) }
+    ensures { result ≡ reply_of_look (checked_of checked) }
 {
     match checked {
         Checked::Found(bytes) => Reply::Found(bytes),
@@ -43,7 +43,7 @@ pub fn check_witness(
     bytes: &[u8],
     path: &Path,
 ) -> Result<Reply, NoMemory>
-    ensures { IfOk result (λ reply. reply ≡ told_by root.now path.now (read_tree bytes.now)) }
+    ensures { IfOk result (λ reply. reply ≡ reply_of_witness root.now path.now (read_tree bytes.now)) }
 {
     match check(alloc, root, bytes, path) {
         Ok(checked) => Ok(reply_of(checked)),

@@ -5,7 +5,7 @@ ghost use Rattle.std.specs.List.{last_or, AllByRecursion, AllZip};
 ghost use Rattle.std.specs.Option.{option_map_or};
 ghost use Rattle.format_spec.specs.declared.limits.TheConstants.{PAGE_SIZE as page_size};
 ghost use Rattle.state_spec.specs.Root.{root_of};
-ghost use Rattle.store_spec.specs.Image.{Published, opened};
+ghost use Rattle.store_spec.specs.Image.{Published, opened_state};
 ghost use Rattle.disk_model.specs.Looking.{OnlyLooks};
 ghost use Rattle.height_store.specs.Errors.{HasCause as StoreCause, NoBadFile};
 ghost use Rattle.height_store.specs.Kept.{IsReadable, ShowsHeight};
@@ -78,7 +78,7 @@ pub fn load<D: Disk>(
     requires there { is_some (height_at store.now.heights height) ≡ true }
     ensures state { IsTrue D.tells → (h : StoredHeight) (p : Published) → height_at store.now.heights height ≡ Some h
         → ShowsHeight (D.view disk.old).state.files h p
-        → IfOk result (λ state. KeepsState state (p.height + 1, opened p)) }
+        → IfOk result (λ state. KeepsState state (p.height + 1, opened_state p)) }
     ensures looks { IsTrue D.tells → OnlyLooks (bytes_at store.now.heights height) (D.view disk.old) (D.view disk.new) }
     ensures cause { StoreCause (D.faults disk.old) (D.faults disk.new) result }
     ensures no_bad_file { NoBadFile result }

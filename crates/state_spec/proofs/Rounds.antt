@@ -10,7 +10,7 @@ use Rattle.std.proofs.lemmas.List.Sums.{fold-append}
 use Rattle.std.proofs.lemmas.Grind.{div_ceil_times}
 use Rattle.format_spec.specs.declared.limits.TheConstants.{PAGE_SIZE}
 use Rattle.format_spec.proofs.Lists.{from_T, to_T}
-use Rattle.state_spec.specs.Memory.{pages_for, pages_between, stamped}
+use Rattle.state_spec.specs.Memory.{pages_for, pages_between, stamped_rounds}
 
 abbrev pub Rounds : Type 0
 Rounds = List (ℕ × ℕ)
@@ -18,7 +18,7 @@ Rounds = List (ℕ × ℕ)
 -- ---- rounds
 
 -- one page after the other
-pub stamped_more : (round : ℕ) (pages : List ℕ) (page : ℕ) (rs : Rounds) → stamped round (pages ++ page ∷ []) rs ≡ put nat_cmp page round (stamped round pages rs)
+pub stamped_more : (round : ℕ) (pages : List ℕ) (page : ℕ) (rs : Rounds) → stamped_rounds round (pages ++ page ∷ []) rs ≡ put nat_cmp page round (stamped_rounds round pages rs)
 stamped_more round pages page rs = fold-append (λ (xs : Rounds) (p : ℕ). put nat_cmp p round xs) rs pages (page ∷ [])
 
 equal_is : (q k : ℕ) → is_eq (nat_cmp q k) ≡ nat_eq q k
@@ -33,7 +33,7 @@ equal_is q k = by (nat_lt q k) refl (nat_eq q k)
         told false = refl
 
 -- a page has the new round where it is one of these pages, and else the round that it had
-pub stamped_find : (round : ℕ) (pages : List ℕ) (rs : Rounds) (q : ℕ) → find nat_cmp q (stamped round pages rs) ≡ cond (list_any (nat_eq q) pages) (Some round) (find nat_cmp q rs)
+pub stamped_find : (round : ℕ) (pages : List ℕ) (rs : Rounds) (q : ℕ) → find nat_cmp q (stamped_rounds round pages rs) ≡ cond (list_any (nat_eq q) pages) (Some round) (find nat_cmp q rs)
 stamped_find round [] rs q = refl
 stamped_find round (p ∷ pages) rs q =
     stamped_find round pages (put nat_cmp p round rs) q
@@ -46,7 +46,7 @@ stamped_find round (p ∷ pages) rs q =
     joined false true = refl
     joined false false = refl
 
-pub stamped_sorted : (round : ℕ) (pages : List ℕ) (rs : Rounds) → is_sorted nat_cmp rs ≡ true → is_sorted nat_cmp (stamped round pages rs) ≡ true
+pub stamped_sorted : (round : ℕ) (pages : List ℕ) (rs : Rounds) → is_sorted nat_cmp rs ≡ true → is_sorted nat_cmp (stamped_rounds round pages rs) ≡ true
 stamped_sorted round [] rs h = h
 stamped_sorted round (p ∷ pages) rs h =
     stamped_sorted round pages (put nat_cmp p round rs)
@@ -61,7 +61,7 @@ put_within n round page (r ∷ rs) lt h = by (nat_cmp page r.0) (put_within n ro
     by Equal more = h
     by Greater more = (h.0, more)
 
-pub stamped_within : (n round : ℕ) (pages : List ℕ) (rs : Rounds) → AllByRecursion (λ p. p < n) pages → AllByRecursion (λ r. r.0 < n) rs → AllByRecursion (λ r. r.0 < n) (stamped round pages rs)
+pub stamped_within : (n round : ℕ) (pages : List ℕ) (rs : Rounds) → AllByRecursion (λ p. p < n) pages → AllByRecursion (λ r. r.0 < n) rs → AllByRecursion (λ r. r.0 < n) (stamped_rounds round pages rs)
 stamped_within n round [] rs p h = h
 stamped_within n round (page ∷ pages) rs p h = stamped_within n round pages (put nat_cmp page round rs) p.1 (put_within n round page rs p.0 h)
 

@@ -4,7 +4,7 @@ use Rattle.std.specs.Prelude.{◌==◌, option_map, IfSome, nat_le, if◌then◌
 use Rattle.std.proofs.lemmas.Bool.{le-leb}
 use Rattle.format_spec.specs.declared.limits.TheConstants.{MAX_ANSWER}
 use Rattle.format_spec.specs.Bytes.{Bytes, IsBytes}
-use Rattle.format_spec.specs.Fields.{Cursor, gives, ended, and_then, ◌>>=◌, Reading, field, byte}
+use Rattle.format_spec.specs.Fields.{Cursor, gives, value_at_end, and_then, ◌>>=◌, Reading, field, byte}
 use Rattle.format_spec.proofs.Readings.{read_ok}
 use Rattle.state_spec.specs.Root.{as_option}
 use Rattle.sync_spec.specs.Messages.{Ask, Answer, Content, IsAnswer, ask_text, content_text, answer_text, ask_fields, content_behind, answer_fields, read_answer}
@@ -19,18 +19,18 @@ module _ {A B : Type 0} (make : A → B) where
   made_if false x place = refl
 
   -- the value that is made of what all of a text gives
-  pub made_of_whole : (r : Result (A × Cursor) ℕ) → as_option (ended (and_then r (λ x. gives (make x)))) ≡ option_map make (as_option (ended r))
+  pub made_of_whole : (r : Result (A × Cursor) ℕ) → as_option (value_at_end (and_then r (λ x. gives (make x)))) ≡ option_map make (as_option (value_at_end r))
   made_of_whole (Err place) = refl
   made_of_whole (Ok x) = made_if (length x.1.rest == 0) x.0 x.1.at
 
 abbrev pub with_ask : Ask → Content → Answer
 with_ask ask content = record { ask = ask; content = content }
 
-behind : (ask : Ask) (r : Result (ℕ × Cursor) ℕ) → as_option (ended (and_then r (λ flag. content_behind flag >>= λ content. gives (with_ask ask content)))) ≡ option_map (with_ask ask) (as_option (ended (and_then r content_behind)))
+behind : (ask : Ask) (r : Result (ℕ × Cursor) ℕ) → as_option (value_at_end (and_then r (λ flag. content_behind flag >>= λ content. gives (with_ask ask content)))) ≡ option_map (with_ask ask) (as_option (value_at_end (and_then r content_behind)))
 behind ask (Err place) = refl
 behind ask (Ok x) = made_of_whole (with_ask ask) (content_behind x.0 x.1)
 
-pub behind_ask : (ask : Ask) (c : Cursor) → as_option (ended ((field byte (λ f. nat_le f 1) >>= λ flag. content_behind flag >>= λ content. gives (with_ask ask content)) c)) ≡ option_map (with_ask ask) (as_option (ended (content_fields c)))
+pub behind_ask : (ask : Ask) (c : Cursor) → as_option (value_at_end ((field byte (λ f. nat_le f 1) >>= λ flag. content_behind flag >>= λ content. gives (with_ask ask content)) c)) ≡ option_map (with_ask ask) (as_option (value_at_end (content_fields c)))
 unfolding content_fields
 behind_ask ask c = behind ask (field byte (λ f. nat_le f 1) c)
 
@@ -43,11 +43,11 @@ abbrev pub front : Bytes → Result (Ask × Cursor) ℕ
 front s = ask_fields (record { at = 0; rest = s })
 
 module _ (s : Bytes) (short : length s ≤ MAX_ANSWER) where
-  as_read : read_answer s ≡ as_option (ended (answer_fields (record { at = 0; rest = s })))
+  as_read : read_answer s ≡ as_option (value_at_end (answer_fields (record { at = 0; rest = s })))
   unfolding read_answer
   as_read = rw (le-leb (length s) MAX_ANSWER short) refl
 
-  none_behind : (r : Result (Ask × Cursor) ℕ) (more : Ask → Reading Answer) → as_option r ≡ None → as_option (ended (and_then r more)) ≡ None
+  none_behind : (r : Result (Ask × Cursor) ℕ) (more : Ask → Reading Answer) → as_option r ≡ None → as_option (value_at_end (and_then r more)) ≡ None
   none_behind (Err place) more e = refl
   none_behind (Ok x) more e = absurd cc
 
@@ -57,7 +57,7 @@ module _ (s : Bytes) (short : length s ≤ MAX_ANSWER) where
   no_ask e = as_read ∙ none_behind (front s) _ e
 
   -- an ask, and what stands behind it
-  pub ask_first : (ask : Ask) (d : Cursor) → front s ≡ Ok (ask, d) → read_answer s ≡ option_map (with_ask ask) (as_option (ended (content_fields d)))
+  pub ask_first : (ask : Ask) (d : Cursor) → front s ≡ Ok (ask, d) → read_answer s ≡ option_map (with_ask ask) (as_option (value_at_end (content_fields d)))
   unfolding answer_fields
   ask_first ask d e = as_read ∙ (rw e (behind_ask ask d))
 

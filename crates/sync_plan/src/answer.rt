@@ -1,7 +1,7 @@
 //! Answers: the ask, a byte that says whether the item is there, and its bytes.
 
 ghost use Rattle.std.specs.Prelude.{◌≡◌, ◌∷◌, ◌++◌, IfOk, IfSome, option_map};
-ghost use Rattle.format_spec.specs.Fields.{ended};
+ghost use Rattle.format_spec.specs.Fields.{value_at_end};
 ghost use Rattle.state_spec.specs.Root.{as_option};
 ghost use Rattle.sync_spec.specs.Messages.{IsAnswer, ask_text, answer_text, read_answer as answer_in};
 ghost use Rattle.sync_plan.specs.Views.{ask_of, content_of, answer_of};
@@ -64,7 +64,7 @@ impl Answer {
 // What stands behind the ask, to the end of the text.
 #[tactic(auto, unfolding(crate::specs::Reading::content_fields))]
 fn read_content(alloc: Global, reader: &mut Reader) -> Result<Option<Content>, NoMemory>
-    ensures { IfOk result (λ content. option_map content_of content ≡ as_option (ended (content_fields reader.old))) }
+    ensures { IfOk result (λ content. option_map content_of content ≡ as_option (value_at_end (content_fields reader.old))) }
 {
     match reader.u8() {
         Ok(0) if reader.left() == 0 => Ok(Some(Content::Gone)),

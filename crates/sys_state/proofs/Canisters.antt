@@ -10,7 +10,7 @@ use Rattle.state_spec.specs.State.{is_id}
 use Rattle.sys_state.specs.declared.mem.Mem.{Mem}
 use Rattle.sys_state.specs.declared.mem.Mem.TheVariants.{Heap, Stable}
 use Rattle.sys_state.specs.declared.record.CanisterRecord.{CanisterRecord}
-use Rattle.sys_state.specs.Calls.{all_pages_of, pages_of, extended, newborn, with_certified, with_module, Changes, Creates, Removes}
+use Rattle.sys_state.specs.Calls.{all_pages_of, pages_of, with_more_pages, newborn, with_certified, with_module, Changes, Creates, Removes}
 use Rattle.sys_state.specs.Id.{IsId}
 use Rattle.sys_state.specs.Places.{Stands, IsAbsent}
 use Rattle.sys_state.specs.System.{System, IsWithinLimits}
@@ -85,17 +85,17 @@ module _ (s : System) (kept : IsWithinLimits s) (id : Bytes) (i : ℕ) (at : Sta
       let grown_now = subst (λ (c : CanisterRecord). (change c).heap + (change c).stable ≡ c.heap + c.stable + more) value_is grown in
       subst (λ (e : Named). Changed s (record s { canisters = set s.canisters i e }) id more change) (λ j. (id_is j, y_is j)) (changed change more good_now grown_now bound)
 
-  extended_good : (mem : Mem) (more : ℕ) (c : CanisterRecord) → pages_of mem c + more ≤ MAX_MEMORY_PAGES → Good (id, c) → Good (id, extended mem more c)
+  extended_good : (mem : Mem) (more : ℕ) (c : CanisterRecord) → pages_of mem c + more ≤ MAX_MEMORY_PAGES → Good (id, c) → Good (id, with_more_pages mem more c)
   extended_good Heap more c bound g = record { fits = record { id = g.fits.id; wasm = g.fits.wasm; certified = g.fits.certified; heap = bound; stable = g.fits.stable }; bytes = record { id = g.bytes.id; wasm = g.bytes.wasm; certified = g.bytes.certified; birth = g.bytes.birth } }
   extended_good Stable more c bound g = record { fits = record { id = g.fits.id; wasm = g.fits.wasm; certified = g.fits.certified; heap = g.fits.heap; stable = bound }; bytes = record { id = g.bytes.id; wasm = g.bytes.wasm; certified = g.bytes.certified; birth = g.bytes.birth } }
 
-  extended_pages : (mem : Mem) (more : ℕ) (c : CanisterRecord) → (extended mem more c).heap + (extended mem more c).stable ≡ c.heap + c.stable + more
+  extended_pages : (mem : Mem) (more : ℕ) (c : CanisterRecord) → (with_more_pages mem more c).heap + (with_more_pages mem more c).stable ≡ c.heap + c.stable + more
   extended_pages Heap more c = omega arith
   extended_pages Stable more c = omega arith
 
-  pub extends : (mem : Mem) (more : ℕ) (x : Named) (y : CanisterRecord) → x ≡ get_or s.canisters i x → y ≡ extended mem more x.1 → pages_of mem x.1 + more ≤ MAX_MEMORY_PAGES → all_pages_of s + more ≤ MAX_STATE_PAGES
-      → Changed s (record s { canisters = set s.canisters i (x.0, y) }) id more (extended mem more)
-  extends mem more x y read is bound sum = written (extended mem more) more x y read is (extended_good mem more x.1 bound) (extended_pages mem more x.1) sum
+  pub extends : (mem : Mem) (more : ℕ) (x : Named) (y : CanisterRecord) → x ≡ get_or s.canisters i x → y ≡ with_more_pages mem more x.1 → pages_of mem x.1 + more ≤ MAX_MEMORY_PAGES → all_pages_of s + more ≤ MAX_STATE_PAGES
+      → Changed s (record s { canisters = set s.canisters i (x.0, y) }) id more (with_more_pages mem more)
+  extends mem more x y read is bound sum = written (with_more_pages mem more) more x y read is (extended_good mem more x.1 bound) (extended_pages mem more x.1) sum
 
   same_sum : (n : ℕ) → n ≡ n + 0
   same_sum n = omega arith

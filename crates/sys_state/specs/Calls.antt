@@ -51,8 +51,8 @@ with_pages Heap n c = record c { heap = n }
 with_pages Stable n c = record c { stable = n }
 
 -- so many pages more
-abbrev pub extended : Mem → ℕ → CanisterRecord → CanisterRecord
-extended mem more c = with_pages mem (pages_of mem c + more) c
+abbrev pub with_more_pages : Mem → ℕ → CanisterRecord → CanisterRecord
+with_more_pages mem more c = with_pages mem (pages_of mem c + more) c
 
 abbrev pub with_module : Option Bytes → CanisterRecord → CanisterRecord
 with_module wasm c = record c { «module» = wasm }

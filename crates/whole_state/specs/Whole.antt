@@ -7,7 +7,7 @@ use Rattle.format_spec.specs.declared.limits.TheConstants.{PAGE_SIZE}
 use Rattle.state_spec.specs.State.{State, system_of, memory_bytes}
 use Rattle.state_spec.specs.Files.{memories_in}
 use Rattle.state_spec.specs.Memory.{pages_for}
-use Rattle.store_spec.specs.Image.{Published, HasTrueSums, whole_layers, opened}
+use Rattle.store_spec.specs.Image.{Published, HasTrueSums, whole_layers, opened_state}
 use Rattle.sys_state.specs.System.{System, part_of, kept_of}
 use Rattle.state_spec.specs.Root.{root_of}
 use Rattle.height_store.specs.Store.{StoredHeight, IsHeight, height_at}

@@ -3,13 +3,13 @@ use Rattle.std.proofs.Common.{◌≡◌, ℕ, List, Result, Ok, Err, refl, sym, 
 use Rattle.format_spec.specs.Bytes.{Bytes}
 use Rattle.tree_spec.specs.Tree.{Tree, reconstruct}
 use Rattle.tree_spec.specs.Lookup as tree
-use Rattle.witness.specs.Answers.{Checks, IsAnswered, checked}
+use Rattle.witness.specs.Answers.{Checks, IsAnswered, answer_of_check}
 use Rattle.witness.specs.declared.checking.Checked.{Checked}
 use Rattle.witness.specs.declared.checking.Checked.TheVariants.{Found, Absent, Unknown, Error}
 use Rattle.witness.specs.declared.error.WitnessError.{WitnessError}
 use Rattle.witness.specs.declared.error.WitnessError.TheVariants.{BadWitness, WrongRoot, Memory}
 
-told_once : (a b : Checked) → checked a ≡ checked b → a ≡ b
+told_once : (a b : Checked) → answer_of_check a ≡ answer_of_check b → a ≡ b
 told_once (Found x) (Found y) e = ap Found (cc e)
 told_once (Found x) Absent e = absurd cc
 told_once (Found x) Unknown e = absurd cc

@@ -4,7 +4,7 @@ use Rattle.std.proofs.lemmas.Bool.{eqb-true}
 use Rattle.format_spec.specs.Bytes.{Bytes}
 use Rattle.tree_spec.specs.Tree.{Tree, empty, fork, labeled, leaf, pruned, reconstruct}
 use Rattle.tree_spec.specs.Witness.{rests, going_on}
-use Rattle.witness.specs.Parts.{part, begins_between, first_in, last_in, reached, over_leaf}
+use Rattle.witness.specs.Parts.{part, begins_between, first_in, last_in, reached_bytes, over_leaf}
 
 pub part_none : (t : Tree) → part t [] ≡ pruned (reconstruct t)
 unfolding part
@@ -42,7 +42,7 @@ part_fork l r [] h = absurd cc
 part_fork l r (p ∷ ps) h = refl
 
 pub part_labeled : (k : Bytes) (t : Tree) (ps : List (List Bytes)) → is_some_list ps ≡ true
-    → part (labeled k t) ps ≡ labeled k (over_leaf (reached k t ps) (part t (going_on (rests k ps))))
+    → part (labeled k t) ps ≡ labeled k (over_leaf (reached_bytes k t ps) (part t (going_on (rests k ps))))
 unfolding part
 part_labeled k t [] h = absurd cc
 part_labeled k t (p ∷ ps) h = refl

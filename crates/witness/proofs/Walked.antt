@@ -11,7 +11,7 @@ use Rattle.tree_spec.specs.Tree.{Tree, empty, fork, labeled, leaf, pruned, flatt
 use Rattle.tree_spec.specs.Witness.{Kept, rest_behind, rests, going_on, begins_some, none_kept, all_pruned, under_forks}
 use Rattle.tree_spec.proofs.Forks.{forks_halves}
 use Rattle.tree_spec.proofs.KeptForks.{kept_halves, choose_kept, choose_pruned}
-use Rattle.witness.specs.Parts.{is_under, begins_between, first_of, first_in, last_in, reached, over_leaf, part}
+use Rattle.witness.specs.Parts.{is_under, begins_between, first_of, first_in, last_in, reached_bytes, over_leaf, part}
 use Rattle.witness.proofs.Neighbours.{Side, lower, equal, higher, side_of, trans, under_too, after_too, head_of}
 use Rattle.witness.proofs.Parts.{part_none, part_fork, part_labeled, is_some_list}
 
@@ -132,7 +132,7 @@ module _ (b a : Option Bytes) (l : Bytes) (after : is_after bytes_cmp b l ≡ tr
 -- what is kept of a child between these labels
 abbrev pub kept_of : List (List Bytes) → Bytes → Tree → List (List Bytes) → Option Tree
 kept_of ps l t [] = None
-kept_of ps l t (q ∷ qs) = Some (labeled l (over_leaf (reached l t ps) (part t (going_on (rests l ps)))))
+kept_of ps l t (q ∷ qs) = Some (labeled l (over_leaf (reached_bytes l t ps) (part t (going_on (rests l ps)))))
 
 pub record IsChild (b a : Option Bytes) (ps : List (List Bytes)) (x : Kept) : Type 0 where
   pub label : Bytes
@@ -327,7 +327,7 @@ pub record Walks (b a : Option Bytes) (ps : List (List Bytes)) (xs : List Kept) 
   pub shown : part (whole_of xs) (filter (begins_between b a) ps) ≡ under_forks xs
   pub kept : some_kept xs ≡ list_any (begins_between b a) ps
 
-reached_same : (l : Bytes) (t : Tree) (ps qs : List (List Bytes)) → begins_some l ps ≡ begins_some l qs → reached l t ps ≡ reached l t qs
+reached_same : (l : Bytes) (t : Tree) (ps qs : List (List Bytes)) → begins_some l ps ≡ begins_some l qs → reached_bytes l t ps ≡ reached_bytes l t qs
 reached_same l empty ps qs e = refl
 reached_same l (fork x y) ps qs e = refl
 reached_same l (labeled k t) ps qs e = refl
@@ -356,12 +356,12 @@ walk_one b a ps x c = record {
     by (q ∷ qs) e =
         let l : Bytes = c.label in
         let t : Tree = c.below in
-        let open_is : x.kept ≡ Some (labeled l (over_leaf (reached l t ps) (part t (going_on (rests l ps))))) = c.kept ∙ ap (kept_of ps l t) e in
+        let open_is : x.kept ≡ Some (labeled l (over_leaf (reached_bytes l t ps) (part t (going_on (rests l ps))))) = c.kept ∙ ap (kept_of ps l t) e in
         ap (λ (w : Tree). part w (q ∷ qs)) c.whole
         ∙ part_labeled l t (q ∷ qs) refl
-        ∙ ap (λ (rs : List (List Bytes)). labeled l (over_leaf (reached l t rs) (part t (going_on (rests l rs))))) (sym e)
+        ∙ ap (λ (rs : List (List Bytes)). labeled l (over_leaf (reached_bytes l t rs) (part t (going_on (rests l rs))))) (sym e)
         ∙ ap (λ (o : Option Bytes). labeled l (over_leaf o (part t (going_on (rests l (filter (begins_between b a) ps)))))) (reached_same l t (filter (begins_between b a) ps) ps (begins_kept b a l c.after c.under ps))
-        ∙ ap (λ (rs : List (List Bytes)). labeled l (over_leaf (reached l t ps) (part t (going_on rs)))) (rests_kept b a l c.after c.under ps)
+        ∙ ap (λ (rs : List (List Bytes)). labeled l (over_leaf (reached_bytes l t ps) (part t (going_on rs)))) (rests_kept b a l c.after c.under ps)
         ∙ sym (ap (λ (o : Option Tree). elim o as (λ y. Tree) [ None ↦ all_pruned (x ∷ []) | Some t ↦ t ]) open_is)
 
 -- both halves of a level under a fork

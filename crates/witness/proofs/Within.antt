@@ -3,7 +3,7 @@ use Rattle.std.proofs.Common.{◌≡◌, ◌≢◌, ℕ, suc, ◌-◌, ◌≤◌
 use Rattle.std.specs.List.{last_or}
 use Rattle.std.proofs.lemmas.List.Elements.{filter_map-append}
 use Rattle.format_spec.specs.Bytes.{Bytes, bytes_cmp, is_after}
-use Rattle.format_spec.specs.Fields.{Cursor, Reading, and_then, field, byte, any, ended}
+use Rattle.format_spec.specs.Fields.{Cursor, Reading, and_then, field, byte, any, value_at_end}
 use Rattle.format_spec.specs.declared.limits.TheConstants.{HASH_SIZE, MAX_DEPTH}
 use Rattle.tree_spec.specs.Tree.{Tree, empty, fork, labeled, leaf, pruned, flatten, label_of, labels}
 use Rattle.tree_spec.specs.Cbor.{is_array_head, fits_head, tree_of_kind, tree_within, behind_tag, read_tree, last_label, string_form}
@@ -119,4 +119,4 @@ last_of_fork last left right =
 pub whole_read : (s : Bytes) (c d : Cursor) (t : Tree) → c ≡ behind_tag s → tree_within MAX_DEPTH false None c ≡ Ok (t, d) → length d.rest ≡ 0 → read_tree s ≡ Ok t
 unfolding read_tree
 whole_read s c d t start read end =
-    ap (λ (x : Cursor). ended (tree_within MAX_DEPTH false None x)) (sym start) ∙ ap ended read ∙ rw (eq-eqb (length d.rest) 0 end) refl
+    ap (λ (x : Cursor). value_at_end (tree_within MAX_DEPTH false None x)) (sym start) ∙ ap value_at_end read ∙ rw (eq-eqb (length d.rest) 0 end) refl

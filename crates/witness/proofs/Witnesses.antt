@@ -6,7 +6,7 @@ use Rattle.format_spec.specs.Bytes.{Bytes, bytes_cmp, same_bytes, is_after, asce
 use Rattle.format_spec.proofs.Follow.{Follow, follow_parts, ascend_all}
 use Rattle.state_spec.specs.State.{SystemPart, IsSystem, is_path}
 use Rattle.tree_spec.specs.Tree.{Tree, empty, fork, labeled, leaf, pruned, reconstruct, is_leaf, forks}
-use Rattle.tree_spec.specs.Labelled.{Children, none, leaf_at, node_at, child_trees, tree_of, labelled, state_tree}
+use Rattle.tree_spec.specs.Labelled.{Children, none, leaf_at, node_at, child_trees, tree_of, root_children, state_tree}
 use Rattle.tree_spec.specs.Witness.{Kept, rests, is_some_path, going_on, child_labels, begins_some, is_neighbour, kept_closed, kept_children, under_forks, witness_of, witness}
 use Rattle.tree_spec.specs.Lookup.{lookup}
 use Rattle.tree_spec.specs.Cbor.{IsSpellable}
@@ -16,7 +16,7 @@ use Rattle.soundness.proofs.ShownStates.{path_shown, path_hidden}
 use Rattle.soundness.proofs.StateTrees.{InOrder, all_children, forks_are, state_in_order}
 use Rattle.std.proofs.lemmas.List.{map-append, take_more, take_all}
 use Rattle.witness.specs.Shows.{IsWitness}
-use Rattle.witness.specs.Parts.{is_under, begins_between, reached, over_leaf, part}
+use Rattle.witness.specs.Parts.{is_under, begins_between, reached_bytes, over_leaf, part}
 use Rattle.witness.proofs.Neighbours.{beside, kept_where, head_of}
 use Rattle.witness.proofs.Parts.{part_none, part_bare, is_some_list}
 use Rattle.witness.proofs.Walked.{kept_of, first_name, Level, whole_of, some_filter, walk}
@@ -50,7 +50,7 @@ goes_begins l ((k ∷ p) ∷ ps) h = by (same_bytes k l) h (goes_begins l ps)
 
 -- ---- what is kept of a child
 
-unreached : (l : Bytes) (t : Tree) (ps : List (List Bytes)) → is_leaf t ≡ false → reached l t ps ≡ None
+unreached : (l : Bytes) (t : Tree) (ps : List (List Bytes)) → is_leaf t ≡ false → reached_bytes l t ps ≡ None
 unreached l empty ps h = refl
 unreached l (fork x y) ps h = refl
 unreached l (labeled k t) ps h = refl
@@ -87,7 +87,7 @@ node_is labels l below ps g h no_leaf walked = go (going_on (rests l ps)) (begin
     closed : part (tree_of below) [] ≡ pruned (reconstruct (tree_of below))
     closed = part_none (tree_of below)
 
-    opened : (gs : List (List Bytes)) → going_on (rests l ps) ≡ gs → over_leaf (reached l (tree_of below) ps) (part (tree_of below) (going_on (rests l ps))) ≡ part (tree_of below) gs
+    opened : (gs : List (List Bytes)) → going_on (rests l ps) ≡ gs → over_leaf (reached_bytes l (tree_of below) ps) (part (tree_of below) (going_on (rests l ps))) ≡ part (tree_of below) gs
     opened gs is = ap (λ o. over_leaf o (part (tree_of below) (going_on (rests l ps)))) (unreached l (tree_of below) ps no_leaf) ∙ ap (part (tree_of below)) is
 
     go : (gs : List (List Bytes)) (x : Bool) (qs : List (List Bytes)) → going_on (rests l ps) ≡ gs → begins_some l ps || is_neighbour labels ps l ≡ x → x ≡ is_some_list qs
@@ -201,7 +201,7 @@ walked c h ps some = from_level c ps some (level_of c h ps (child_labels c) [] r
 
 pub state_walked : (v : ℕ) (s : SystemPart) → IsSystem v s → (ps : List (List Bytes)) → AllSome ps → part (state_tree s) ps ≡ witness s ps
 unfolding state_tree witness
-state_walked v s good ps some = walked (labelled s) (state_in_order s good.ids_ascend) ps some
+state_walked v s good ps some = walked (root_children s) (state_in_order s good.ids_ascend) ps some
 
 -- ---- with what the laws say of witnesses
 

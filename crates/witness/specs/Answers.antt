@@ -3,7 +3,7 @@ use Rattle.std.specs.Prelude.{◌≡◌, ◌≢◌, ◌⊎◌, List, ◌++◌, R
 use Rattle.format_spec.specs.Bytes.{Bytes}
 use Rattle.format_spec.specs.Hashes.{Clash}
 use Rattle.state_spec.specs.State.{State, IsState, system_of}
-use Rattle.tree_spec.specs.Tree.{Tree, reconstruct, hashed}
+use Rattle.tree_spec.specs.Tree.{Tree, reconstruct, hashed_strings}
 use Rattle.tree_spec.specs.Labelled.{state_tree}
 use Rattle.tree_spec.specs.Cbor.{read_tree}
 use Rattle.byte_codec.specs.declared.error.NoMemory.{NoMemory}
@@ -16,22 +16,22 @@ use Rattle.witness.specs.declared.error.WitnessError.{WitnessError}
 use Rattle.witness.specs.declared.error.WitnessError.TheVariants.{BadWitness, WrongRoot, Memory}
 
 -- what a tree tells of a path
-abbrev pub looked : Looked → tree.Looked
-looked (Found bytes) = tree.found bytes.now
-looked Absent = tree.absent
-looked Unknown = tree.unknown
-looked Error = tree.error
+abbrev pub answer_of_look : Looked → tree.Looked
+answer_of_look (Found bytes) = tree.found bytes.now
+answer_of_look Absent = tree.absent
+answer_of_look Unknown = tree.unknown
+answer_of_look Error = tree.error
 
-abbrev pub checked : Checked → tree.Looked
-checked (CheckedVariants.Found bytes) = tree.found bytes
-checked CheckedVariants.Absent = tree.absent
-checked CheckedVariants.Unknown = tree.unknown
-checked CheckedVariants.Error = tree.error
+abbrev pub answer_of_check : Checked → tree.Looked
+answer_of_check (CheckedVariants.Found bytes) = tree.found bytes
+answer_of_check CheckedVariants.Absent = tree.absent
+answer_of_check CheckedVariants.Unknown = tree.unknown
+answer_of_check CheckedVariants.Error = tree.error
 
 -- what a check of a text against a root answers for a path
 abbrev pub Checks : Bytes → Bytes → List Bytes → Result Checked WitnessError → Type 0
 Checks root text path (Ok told) =
-    (t : Tree) × (read_tree text ≡ Ok t) × (reconstruct t ≡ root) × (checked told ≡ tree.lookup path t)
+    (t : Tree) × (read_tree text ≡ Ok t) × (reconstruct t ≡ root) × (answer_of_check told ≡ tree.lookup path t)
 Checks root text path (Err (BadWitness place)) = read_tree text ≡ Err place
 Checks root text path (Err (WrongRoot hash)) =
     (t : Tree) × (read_tree text ≡ Ok t) × (hash ≡ reconstruct t) × (hash ≢ root)
@@ -42,14 +42,14 @@ abbrev pub IsAnswered : Result Checked WitnessError → Type 0
 IsAnswered (Err Memory) = ⊥
 IsAnswered result = Unit {0}
 
--- what was told of a path, the tree of every valid state with this root tells too; or a string hashed for the tree in
--- the text and another one hashed for the state's tree have one hash
+-- what was told of a path, the tree of every valid state with this root tells too; or a string hashed_strings for the tree in
+-- the text and another one hashed_strings for the state's tree have one hash
 abbrev pub TellsTruth : Bytes → Bytes → List Bytes → Checked → Type 0
 TellsTruth root text path told =
-    (t : Tree) (s : State) → read_tree text ≡ Ok t → checked told ≢ tree.unknown
+    (t : Tree) (s : State) → read_tree text ≡ Ok t → answer_of_check told ≢ tree.unknown
     → IsState s → reconstruct (state_tree (system_of s)) ≡ root
-    → (checked told ≡ tree.lookup path (state_tree (system_of s)))
-    ⊎ Clash (hashed t) (hashed (state_tree (system_of s)))
+    → (answer_of_check told ≡ tree.lookup path (state_tree (system_of s)))
+    ⊎ Clash (hashed_strings t) (hashed_strings (state_tree (system_of s)))
 
 -- the text stands behind what was there, unless memory ran out
 abbrev pub Spells : Result (Unit {0}) NoMemory → Bytes → Bytes → Bytes → Type 0

@@ -42,12 +42,12 @@ abbrev pub goes_on : Bytes → List Bytes → Bool
 goes_on l path = is_some_rest (rest_behind l path)
 
 -- the bytes of a leaf that a path reaches, or would pass through
-abbrev pub reached : Bytes → Tree → List (List Bytes) → Option Bytes
-reached l empty paths = None
-reached l (fork left right) paths = None
-reached l (labeled label below) paths = None
-reached l (leaf bytes) paths = if begins_some l paths then Some bytes else None
-reached l (pruned hash) paths = None
+abbrev pub reached_bytes : Bytes → Tree → List (List Bytes) → Option Bytes
+reached_bytes l empty paths = None
+reached_bytes l (fork left right) paths = None
+reached_bytes l (labeled label below) paths = None
+reached_bytes l (leaf bytes) paths = if begins_some l paths then Some bytes else None
+reached_bytes l (pruned hash) paths = None
 
 abbrev pub over_leaf : Option Bytes → Tree → Tree
 over_leaf None t = t
@@ -61,6 +61,6 @@ part (fork left right) (p ∷ ps) =
     (part left (filter (begins_between None (first_in right)) (p ∷ ps)))
     (part right (filter (begins_between (last_in left) None) (p ∷ ps)))
 part (labeled label below) (p ∷ ps) =
-    labeled label (over_leaf (reached label below (p ∷ ps)) (part below (going_on (rests label (p ∷ ps)))))
+    labeled label (over_leaf (reached_bytes label below (p ∷ ps)) (part below (going_on (rests label (p ∷ ps)))))
 part (leaf bytes) (p ∷ ps) = pruned (reconstruct (leaf bytes))
 part (pruned hash) (p ∷ ps) = pruned hash

@@ -3,7 +3,7 @@ use Rattle.std.specs.Prelude.{◌≡◌, ◌≢◌, true, false, List, [], Conta
 use Rattle.format_spec.specs.Bytes.{Bytes}
 use Rattle.state_spec.specs.State.{SystemPart}
 use Rattle.tree_spec.specs.Tree.{Tree, reconstruct}
-use Rattle.tree_spec.specs.Labelled.{labelled, state_tree}
+use Rattle.tree_spec.specs.Labelled.{root_children, state_tree}
 use Rattle.tree_spec.specs.Lookup.{lookup, unknown}
 use Rattle.tree_spec.specs.Witness.{witness, is_hidden}
 use Rattle.tree_spec.specs.Cbor.{IsSpellable}
@@ -14,6 +14,6 @@ pub record IsWitness (s : SystemPart) (paths : List (List Bytes)) (w : Tree) : T
   pub value : w ≡ witness s paths
   pub hash : reconstruct w ≡ reconstruct (state_tree s)
   pub good : IsSpellable w
-  pub shown : (p : List Bytes) → Contains paths p → p ≢ [] → is_hidden paths p (labelled s) ≡ false
+  pub shown : (p : List Bytes) → Contains paths p → p ≢ [] → is_hidden paths p (root_children s) ≡ false
       → lookup p w ≡ lookup p (state_tree s)
-  pub hidden : (p : List Bytes) → Contains paths p → p ≢ [] → is_hidden paths p (labelled s) ≡ true → lookup p w ≡ unknown
+  pub hidden : (p : List Bytes) → Contains paths p → p ≢ [] → is_hidden paths p (root_children s) ≡ true → lookup p w ≡ unknown

@@ -1,7 +1,7 @@
-//! Witnesses checked against a root.
+//! Witnesses answer_of_check against a root.
 
 ghost use Rattle.std.specs.Prelude.{◌≡◌, IfOk};
-ghost use Rattle.witness.specs.Answers.{looked, checked, Checks, TellsTruth};
+ghost use Rattle.witness.specs.Answers.{answer_of_look, answer_of_check, Checks, TellsTruth};
 
 use crate::error::WitnessError;
 use crate::looking::{Looked, lookup};
@@ -12,7 +12,7 @@ use hash_tree::reconstruct;
 use std::alloc::Global;
 use sys_state::Path;
 
-/// What a checked witness tells of a path.
+/// What a answer_of_check witness tells of a path.
 #[derive(Debug, Drop)]
 pub enum Checked {
     /// The bytes of the leaf at it.
@@ -45,7 +45,7 @@ pub fn check(
 }
 
 fn owned(alloc: Global, told: Looked) -> Result<Checked, NoMemory>
-    ensures { IfOk result (λ own. checked own ≡ looked told.entry) }
+    ensures { IfOk result (λ own. answer_of_check own ≡ answer_of_look told.entry) }
 {
     Ok(match told {
         Looked::Found(bytes) => Checked::Found(Blob::from_slice(alloc, bytes)?),

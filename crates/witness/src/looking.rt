@@ -1,10 +1,10 @@
-//! Paths looked up in a tree, as in the Internet Computer Interface Specification, "Certification".
+//! Paths answer_of_look up in a tree, as in the Internet Computer Interface Specification, "Certification".
 
 ghost use Rattle.std.specs.Prelude.{◌≡◌};
 ghost use Rattle.tree_spec.specs.Lookup.{lookup as lookup_of, at_end, missing};
 ghost use Rattle.tree_spec.specs.Tree.{flatten};
 ghost use Rattle.hash_tree.specs.View.{tree_view};
-ghost use Rattle.witness.specs.Answers.{looked};
+ghost use Rattle.witness.specs.Answers.{answer_of_look};
 
 use crate::level::{find, has_gap, is_one_leaf};
 use hash_tree::HashTree;
@@ -25,7 +25,7 @@ pub enum Looked<'a> {
 
 /// What the tree tells of a path. That a label below a leaf is an error is a choice of this project.
 pub fn lookup<'a>(tree: &'a HashTree, path: &Path) -> Looked<'a>
-    ensures { looked result ≡ lookup_of path.now (tree_view tree.now) }
+    ensures { answer_of_look result ≡ lookup_of path.now (tree_view tree.now) }
 {
     let mut at = tree;
     for label in path.labels() {
@@ -39,7 +39,7 @@ pub fn lookup<'a>(tree: &'a HashTree, path: &Path) -> Looked<'a>
 
 // What a path that ends at this tree gives.
 fn at_end<'a>(tree: &'a HashTree) -> Looked<'a>
-    ensures { looked result ≡ at_end (tree_view tree.now) }
+    ensures { answer_of_look result ≡ at_end (tree_view tree.now) }
 {
     match tree {
         HashTree::Empty => Looked::Absent,
@@ -51,7 +51,7 @@ fn at_end<'a>(tree: &'a HashTree) -> Looked<'a>
 
 // What a label gives that no entry of this level has.
 fn missing<'a>(tree: &'a HashTree, label: &[u8]) -> Looked<'a>
-    ensures { looked result ≡ missing label.now (flatten (tree_view tree.now)) }
+    ensures { answer_of_look result ≡ missing label.now (flatten (tree_view tree.now)) }
 {
     if has_gap(tree, label) {
         Looked::Absent

@@ -2,7 +2,7 @@
 
 ghost use Rattle.std.specs.Prelude.{◌≡◌, ◌≤◌, length, OnOk, OnErr, IfSome};
 ghost use Rattle.sys_state.specs.Calls.{Answers, answer, create_refusal, extend_refusal, find_refusal};
-ghost use Rattle.sys_state.specs.Calls.{Creates, Changes, Removes, newborn, extended, with_module, with_certified};
+ghost use Rattle.sys_state.specs.Calls.{Creates, Changes, Removes, newborn, with_more_pages, with_module, with_certified};
 ghost use Rattle.format_spec.specs.Bytes.{IsBytes};
 
 use super::SysState;
@@ -54,7 +54,7 @@ impl SysState {
     /// is as it was.
     pub fn extend(&mut self, id: &CanisterId, mem: Mem, pages: u64) -> Result<(), SysError>
         ensures answer { result ≡ answer (extend_refusal self.old id.now mem pages) }
-        ensures extended { OnOk result (Changes self.old self.new id.now (extended mem pages)) }
+        ensures with_more_pages { OnOk result (Changes self.old self.new id.now (with_more_pages mem pages)) }
         ensures unchanged { OnErr result (self.new ≡ self.old) }
     {
         let Ok(i) = self.place(id) else {

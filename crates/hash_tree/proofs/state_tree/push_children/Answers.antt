@@ -1,7 +1,7 @@
 use Rattle.std.proofs.Common.{codes, ap, sym, subst, ◌∙◌, arith}
 use Rattle.format_spec.specs.Bytes.{Bytes, leb}
 use Rattle.tree_spec.specs.Tree.{labeled, leaf}
-use Rattle.tree_spec.specs.Labelled.{child_trees, entry_children, labelled}
+use Rattle.tree_spec.specs.Labelled.{child_trees, entry_children, root_children}
 use Rattle.sys_state.specs.System.{part_of}
 use Rattle.hash_tree.specs.Stack.{Pushes}
 use Rattle.hash_tree.specs.Levels.{level}
@@ -28,7 +28,7 @@ push_level-requires-3-clause-level c = level_within c.args.sys.now _ _ c.entries
 pub returns : goal.returns
 returns c =
     let time = c.in_ok-leaf_under.ensures ∙ ap (λ (b : Bytes). labeled (codes "time") (leaf b)) (c.in_ok-leb_of.ensures ∙ ap leb c.time.ensures) in
-    ok_then c.push_level-3.result _ (λ _. Pushes c.args.branches.now.items c.push_level-3.new.branches.items (child_trees (labelled (part_of c.args.sys.now)))) c.push_level-3.ensures
+    ok_then c.push_level-3.result _ (λ _. Pushes c.args.branches.now.items c.push_level-3.new.branches.items (child_trees (root_children (part_of c.args.sys.now)))) c.push_level-3.ensures
     (λ _ last. subst (Pushes c.args.branches.now.items c.push_level-3.new.branches.items)
     (sym (state_trees c.args.sys.now _ _ c.first_above-canisters.ensures c.first_above-time.ensures))
     (pushes_then _ _ _ _ _ c.in_ok-push_level.ensures

@@ -1,7 +1,7 @@
 use Rattle.std.proofs.Common.{◌-◌, set, refl, ap}
 use Rattle.page_pool.specs.Pool.{count_at}
 use Rattle.slab.specs.Slab.{Slab}
-use Rattle.page_delta.specs.Nodes.{node_at, recounted, count_in}
+use Rattle.page_delta.specs.Nodes.{node_at, node_with_count, count_in}
 use Rattle.page_delta.specs.declared.node.Node.{Node}
 use Rattle.page_delta.proofs.Looks.{child-live}
 use Rattle.page_delta.proofs.Owning.{some_left, shared-split, owned-split}
@@ -12,7 +12,7 @@ copy-fresh-requires-clause-node c = child-live c.args.nodes.now.slots (count_at 
 
 pub lower-requires-clause-some : goal.lower-requires-clause-some
 lower-requires-clause-some c =
-    let lowered = set c.link.new.nodes.slots c.args.child (recounted (node_at c.link.new.nodes.slots c.args.child) (count_in (node_at c.link.new.nodes.slots c.args.child) - 1)) in
+    let lowered = set c.link.new.nodes.slots c.args.child (node_with_count (node_at c.link.new.nodes.slots c.args.child) (count_in (node_at c.link.new.nodes.slots c.args.child) - 1)) in
     some_left c.args.nodes.now.slots c.copy-fresh.new.nodes.slots c.link.new.nodes.slots lowered c.args.parent c.args.digit c.args.child c.copy-fresh.result (count_at c.args.pool.now) c.requires.stands.hands c.requires.stands.loose c.requires.stands.shared c.requires.parent c.requires.child c.requires.many c.requires.digit c.copy-fresh.ensures.fresh c.copy-fresh.ensures.copy c.copy-fresh.ensures.rest c.copy-fresh.ensures.looks c.copy-fresh.ensures.alike c.link.ensures.now c.link.ensures.rest refl
 
 pub returns-clause-shared : goal.returns-clause-shared

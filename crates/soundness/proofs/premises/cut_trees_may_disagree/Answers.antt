@@ -1,5 +1,5 @@
 use Rattle.std.proofs.Common.{refl}
-use Rattle.tree_spec.specs.Tree.{reconstruct, hashed, is_well_formed}
+use Rattle.tree_spec.specs.Tree.{reconstruct, hashed_strings, is_well_formed}
 use Rattle.tree_spec.specs.Lookup.{lookup}
 use Rattle.tree_spec.specs.Computing.{trees_compute}
 use Rattle.soundness.specs.Samples.{only_a, only_b}
@@ -24,4 +24,4 @@ returns-clause-there c = refl
 
 pub returns-clause-no_clash : goal.returns-clause-no_clash
 unfolding trees_compute
-returns-clause-no_clash c = no_clash (hashed only_b) (hashed only_a) refl
+returns-clause-no_clash c = no_clash (hashed_strings only_b) (hashed_strings only_a) refl

@@ -1,6 +1,6 @@
 use Rattle.std.proofs.Common.{◌≡◌, ◌++◌, ◌∷◌, [], ◌∙◌, ap, sym}
 use Rattle.std.proofs.lemmas.Result.{on_ok_weaker}
-use Rattle.script_text.specs.Commands.{parsed}
+use Rattle.script_text.specs.Commands.{parsed_line}
 use Rattle.script_text.specs.Texts.{bad_line_text}
 use Rattle.script_text.specs.declared.parsing.Parsed.TheVariants.{BadLine, Line}
 use Rattle.state_manager.specs.Kept.{Keeps}
@@ -22,12 +22,12 @@ returns-in_ok-push-in-BadLine-clause-answer g c =
 pub returns-in-Line-clause-answer : goal.returns-in-Line-clause-answer
 returns-in-Line-clause-answer g c =
     let line = c.args.line.now in
-    let is : parsed line ≡ Line c.in-Line.command = sym c.in_ok-parse_line.ensures.parsed ∙ c.in-Line.is in
+    let is : parsed_line line ≡ Line c.in-Line.command = sym c.in_ok-parse_line.ensures.parsed ∙ c.in-Line.is in
     on_ok_weaker c.answer_command.result (λ done. spoken g.D.Disk.tells (Keeps c.args.manager.now (g.D.Disk.view c.args.disk.now).state) line (Keeps c.answer_command.new.manager (g.D.Disk.view c.answer_command.new.disk).state) c.in-Line.command c.answer_command.new.out.items is done) c.answer_command.ensures.answer
 
 pub returns-in-Line-clause-images : goal.returns-in-Line-clause-images
 returns-in-Line-clause-images g c =
-    let is : parsed c.args.line.now ≡ Line c.in-Line.command = sym c.in_ok-parse_line.ensures.parsed ∙ c.in-Line.is in
+    let is : parsed_line c.args.line.now ≡ Line c.in-Line.command = sym c.in_ok-parse_line.ensures.parsed ∙ c.in-Line.is in
     images_of g.D.Disk.tells (Keeps c.args.manager.now (g.D.Disk.view c.args.disk.now).state) c.args.line.now (g.D.Disk.view c.args.disk.now) (g.D.Disk.view c.answer_command.new.disk) c.in-Line.command is c.answer_command.ensures.images
 
 pub returns-in-Silent-clause-images : goal.returns-in-Silent-clause-images

@@ -4,7 +4,7 @@ use Rattle.tree_spec.specs.Tree.{depth, fork, labeled, leaf, pruned}
 use Rattle.tree_spec.specs.Witness.{rests, going_on}
 use Rattle.hash_tree.specs.Hashes.{AreHashesOf}
 use Rattle.hash_tree.specs.View.{tree_view}
-use Rattle.witness.specs.Parts.{part, begins_between, first_in, last_in, reached, over_leaf}
+use Rattle.witness.specs.Parts.{part, begins_between, first_in, last_in, reached_bytes, over_leaf}
 use Rattle.witness.proofs.Parts.{is_bare, part_bare, part_nothing, part_fork, part_labeled, ok_then, both_sides, some_paths}
 use Rattle.witness.proofs.showing.+part.Goals as goal
 
@@ -85,8 +85,8 @@ returns-in_ok-copy-in-Some-2 t c =
     let below = tree_view c.in-Labeled.below.value in
     let rest = part below (going_on (rests k ps)) in
     let whole : tree_view c.args.tree.now ≡ labeled k below = ap tree_view c.in-Labeled.is in
-    let found : Some c.in-Some.bytes.now ≡ reached k below ps =
-    c.in-Some.ensures ∙ ap (λ (l : Bytes). reached l (tree_view c.deref-in-Labeled.result.now) ps) c.bytes.ensures.value ∙ ap (λ t. reached k (tree_view t) ps) c.deref-in-Labeled.ensures in
+    let found : Some c.in-Some.bytes.now ≡ reached_bytes k below ps =
+    c.in-Some.ensures ∙ ap (λ (l : Bytes). reached_bytes l (tree_view c.deref-in-Labeled.result.now) ps) c.bytes.ensures.value ∙ ap (λ t. reached_bytes k (tree_view t) ps) c.deref-in-Labeled.ensures in
     ok_then tree_view _ _ c.labeled.result
     (ap (λ (l : Bytes). labeled l (leaf c.in_ok-copy-in-Some.field-0)) c.in_ok-copy-in-Some-2.ensures
     ∙ ap (λ (b : Bytes). labeled k (leaf b)) c.in_ok-copy-in-Some.ensures
@@ -102,8 +102,8 @@ returns-in_ok-copy-in-None t c =
     let below = tree_view c.in-Labeled.below.value in
     let rest = part below (going_on (rests k ps)) in
     let whole : tree_view c.args.tree.now ≡ labeled k below = ap tree_view c.in-Labeled.is in
-    let nothing : None ≡ reached k below ps =
-    c.in-None.ensures ∙ ap (λ (l : Bytes). reached l (tree_view c.deref-in-Labeled.result.now) ps) c.bytes.ensures.value ∙ ap (λ t. reached k (tree_view t) ps) c.deref-in-Labeled.ensures in
+    let nothing : None ≡ reached_bytes k below ps =
+    c.in-None.ensures ∙ ap (λ (l : Bytes). reached_bytes l (tree_view c.deref-in-Labeled.result.now) ps) c.bytes.ensures.value ∙ ap (λ t. reached_bytes k (tree_view t) ps) c.deref-in-Labeled.ensures in
     let paths : map (λ p. p.now) c.deref-in-None-2.result.now ≡ going_on (rests k ps) =
     ap (map (λ p. p.now)) c.deref-in-None-2.ensures.value ∙ c.in_ok-deeper-in-None.ensures ∙ ap (λ (l : Bytes). going_on (rests l ps)) c.bytes-in-None.ensures.value in
     let inner : tree_view c.in_ok-below-in-None.below ≡ rest =

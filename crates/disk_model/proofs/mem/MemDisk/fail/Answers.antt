@@ -1,5 +1,5 @@
 use Rattle.std.proofs.Common.{sym, ◌∙◌, ap}
-use Rattle.disk_model.specs.Call.{counted}
+use Rattle.disk_model.specs.Call.{count_after}
 use Rattle.disk_model.specs.Mem.{mem_view}
 use Rattle.disk_model.proofs.Steps.{failed, files_after_failure, appended_after_failure, wrote_after_failure}
 use Rattle.disk_model.specs.Record.{files_in}
@@ -8,7 +8,7 @@ use Rattle.disk_model.proofs.mem.MemDisk.fail.Goals as goal
 pub invariant_of-self : goal.invariant_of-self
 invariant_of-self c = record {
   reads = c.args.self.now.reads ∙ sym (files_after_failure (files_in c.args.self.now.first.entries) c.args.self.now.events.items c.args.act _ c.note.ensures);
-  total = c.args.self.now.total ∙ ap (counted 0) (sym (appended_after_failure (files_in c.args.self.now.first.entries) c.args.self.now.events.items c.args.act _ c.note.ensures));
+  total = c.args.self.now.total ∙ ap (count_after 0) (sym (appended_after_failure (files_in c.args.self.now.first.entries) c.args.self.now.events.items c.args.act _ c.note.ensures));
   first_bytes = c.args.self.now.first_bytes;
   wrote_bytes = wrote_after_failure (files_in c.args.self.now.first.entries) c.args.self.now.events.items c.args.act _ c.note.ensures c.args.self.now.wrote_bytes c.requires.bytes;
 }

@@ -1,6 +1,6 @@
 use Rattle.std.proofs.Common.{[], Some, List, ℕ, ◌∙◌, ap}
 use Rattle.disk_model.specs.declared.event.Act.TheVariants.{Create}
-use Rattle.disk_model.specs.Files.{Files, replaced}
+use Rattle.disk_model.specs.Files.{Files, files_with}
 use Rattle.disk_model.specs.Record.{files_in}
 use Rattle.disk_model.specs.OfBytes.{no_bytes}
 use Rattle.disk_model.specs.Mem.{mem_view}
@@ -11,8 +11,8 @@ pub invariant_of-self-2 : goal.invariant_of-self-2
 invariant_of-self-2 c = record {
   reads = reads_after (files_in c.args.self.now.first.entries) c.args.self.now.events.items (Create c.args.name) _ _ _ c.reserve.ensures.items c.note.ensures (
       (λ i q. c.in_ok-put_file.ensures.ok q i)
-      ∙ ap (λ (l : List ℕ). replaced (files_in c.args.self.now.files.entries) c.args.name (Some l)) c.new.ensures.items
-      ∙ ap (λ (f : Files). replaced f c.args.name (Some [])) c.args.self.now.reads
+      ∙ ap (λ (l : List ℕ). files_with (files_in c.args.self.now.files.entries) c.args.name (Some l)) c.new.ensures.items
+      ∙ ap (λ (f : Files). files_with f c.args.name (Some [])) c.args.self.now.reads
       );
   total = total_after (files_in c.args.self.now.first.entries) c.args.self.now.events.items (Create c.args.name) _ _ _ c.reserve.ensures.items c.note.ensures c.args.self.now.total;
   first_bytes = c.args.self.now.first_bytes;

@@ -1,6 +1,6 @@
 use Rattle.std.proofs.Common.{◌∙◌, ap}
 use Rattle.disk_model.specs.declared.event.Act.TheVariants.{Rename}
-use Rattle.disk_model.specs.Files.{Files, moved}
+use Rattle.disk_model.specs.Files.{Files, files_after_rename}
 use Rattle.disk_model.specs.Record.{files_in}
 use Rattle.disk_model.specs.OfBytes.{no_bytes}
 use Rattle.disk_model.specs.Mem.{mem_view}
@@ -11,7 +11,7 @@ pub invariant_of-self-2 : goal.invariant_of-self-2
 invariant_of-self-2 c = record {
   reads = reads_after (files_in c.args.self.now.first.entries) c.args.self.now.events.items (Rename c.args.from c.args.to) _ _ _ c.reserve.ensures.items c.note.ensures (
       (λ i q. c.in_ok-move_file.ensures.ok q i)
-      ∙ ap (λ (f : Files). moved f c.args.from c.args.to (f c.args.from)) c.args.self.now.reads
+      ∙ ap (λ (f : Files). files_after_rename f c.args.from c.args.to (f c.args.from)) c.args.self.now.reads
       );
   total = total_after (files_in c.args.self.now.first.entries) c.args.self.now.events.items (Rename c.args.from c.args.to) _ _ _ c.reserve.ensures.items c.note.ensures c.args.self.now.total;
   first_bytes = c.args.self.now.first_bytes;

@@ -1,5 +1,5 @@
 use Rattle.std.proofs.Common.{◌∙◌, ap}
-use Rattle.slot_links.specs.Lists.{unlinked}
+use Rattle.slot_links.specs.Lists.{lists_without}
 use Rattle.slot_links.proofs.Sound.{seen-in, sound-unlinked, seen-unlinked}
 use Rattle.slot_links.proofs.links.Links.unlink.Goals as goal
 
@@ -13,4 +13,4 @@ pub returns : goal.returns
 returns c =
     let linked = rw (← c.self.view_is) at c.requires.linked in
     let small = rw (← c.self.view_is) at c.requires.item in
-    seen-unlinked c.self.inside.next.items c.self.inside.previous.items c.self.inside.owner.items c.self.inside.items c.self.inside.lists c.args.item c.index-before.result.now c.index-after.result.now linked.0 c.self.invariant small (seen-in _ _ _ _ _ linked.1) c.index-before.ensures c.index-after.ensures ∙ ap (λ l. unlinked l c.args.item) c.self.view_is
+    seen-unlinked c.self.inside.next.items c.self.inside.previous.items c.self.inside.owner.items c.self.inside.items c.self.inside.lists c.args.item c.index-before.result.now c.index-after.result.now linked.0 c.self.invariant small (seen-in _ _ _ _ _ linked.1) c.index-before.ensures c.index-after.ensures ∙ ap (λ l. lists_without l c.args.item) c.self.view_is

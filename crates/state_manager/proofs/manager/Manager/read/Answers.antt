@@ -4,7 +4,7 @@ use Rattle.disk_model.specs.Looking.{looks_none}
 use Rattle.height_store.specs.Store.{height_at}
 use Rattle.script_text.specs.declared.command.Command.TheVariants as commands
 use Rattle.machine_spec.specs.LiveSteps.{read_reply}
-use Rattle.machine_spec.specs.Machine.{answered}
+use Rattle.machine_spec.specs.Machine.{outcome_of}
 use Rattle.state_manager.specs.Kept.{ManagerView}
 use Rattle.state_manager.proofs.DiskLines.{failed_line, looks_line, shown_some, still_line}
 use Rattle.state_manager.proofs.Spending.{read_spends}
@@ -20,7 +20,7 @@ returns-in-Some-clause-line g c =
     (c.read_published.ensures.reply told p.stored p.published (ap (λ (h : ManagerView). height_at h.store.heights c.in-Some.height) c.self.view_is ∙ p.found) p.related))
     (λ told m k.
     let p = shown_some c.args.self.now _ m (g.met.D.Disk.reads_as_image c.args.disk.now told) k c.args.at c.in-Some.height c.in-Some.ensures in
-    IfOk-weaker c.read_published.result _ _ (λ reply is. asks_there m c.args.at p.published.state p.state (λ s. answered (read_reply s c.args.id.now c.args.mem c.args.offset c.args.len) m) reply is refl)
+    IfOk-weaker c.read_published.result _ _ (λ reply is. asks_there m c.args.at p.published.state p.state (λ s. outcome_of (read_reply s c.args.id.now c.args.mem c.args.offset c.args.len) m) reply is refl)
     (c.read_published.ensures.reply told p.stored p.published (ap (λ (h : ManagerView). height_at h.store.heights c.in-Some.height) c.self.view_is ∙ p.found) p.related))
 
 pub returns-in_err-read-in-Some-state_at-clause-line : goal.returns-in_err-read-in-Some-state_at-clause-line
@@ -32,7 +32,7 @@ returns-in_ok-read-in-Some-state_at-clause-line g c =
     still_line g.D.Disk.tells c.args.self.now (g.D.Disk.view c.args.disk.now) (Ok c.in_ok-read-in-Some-state_at.field-0) (commands.Read c.args.at c.args.id.now c.args.mem c.args.offset c.args.len) c.requires.over (λ m k. refl)
     (λ told m k.
     let n = at_some c.args.self.now m k.states c.args.at c.in-Some-state_at.state.now c.in-Some-state_at.ensures in
-    asks_there m c.args.at n.0.1 (published_none c.args.self.now m k.states c.args.at c.in_default.ensures ∙ n.2) (λ s. answered (read_reply s c.args.id.now c.args.mem c.args.offset c.args.len) m) c.in_ok-read-in-Some-state_at.field-0 (c.in_ok-read-in-Some-state_at.ensures n.0 n.1) refl)
+    asks_there m c.args.at n.0.1 (published_none c.args.self.now m k.states c.args.at c.in_default.ensures ∙ n.2) (λ s. outcome_of (read_reply s c.args.id.now c.args.mem c.args.offset c.args.len) m) c.in_ok-read-in-Some-state_at.field-0 (c.in_ok-read-in-Some-state_at.ensures n.0 n.1) refl)
 
 pub returns-in-None-clause-line : goal.returns-in-None-clause-line
 returns-in-None-clause-line g c =

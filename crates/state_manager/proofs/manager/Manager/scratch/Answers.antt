@@ -8,8 +8,8 @@ use Rattle.height_store.specs.Known.{bytes_at}
 use Rattle.height_store.specs.KnownLaws.{shown_known}
 use Rattle.script_text.specs.declared.command.Command.TheVariants as commands
 use Rattle.script_text.specs.declared.reply.Reply.TheVariants as replies
-use Rattle.machine_spec.specs.Machine.{answered}
-use Rattle.store_spec.specs.Image.{opened}
+use Rattle.machine_spec.specs.Machine.{outcome_of}
+use Rattle.store_spec.specs.Image.{opened_state}
 use Rattle.state_manager.specs.Kept.{ManagerView}
 use Rattle.state_manager.proofs.DiskLines.{failed_line, looks_line, shown_some, still_line}
 use Rattle.state_manager.proofs.Spending.{bytes_there}
@@ -31,8 +31,8 @@ returns-in-Some-clause-line g c =
     (λ told m k.
     let p = shown_some c.args.self.now _ m (g.met.D.Disk.reads_as_image c.args.disk.now told) k c.args.at c.in-Some.height c.in-Some.ensures in
     let state = c.in_ok-state.ensures.state told p.stored p.published (ap (λ (h : ManagerView). height_at h.store.heights c.in-Some.height) c.self.view_is ∙ p.found) p.related in
-    let root = c.in_ok-root.ensures (p.published.height + 1, opened p.published) state ∙ (shown_known _ p.stored p.published p.related).same_root in
-    asks_there m c.args.at p.published.state p.state (λ s. answered (replies.Scratch (root_of s)) m) (replies.Scratch c.in_ok-root.field-0) (ap (λ (r : Bytes). replies.Scratch r) root) refl)
+    let root = c.in_ok-root.ensures (p.published.height + 1, opened_state p.published) state ∙ (shown_known _ p.stored p.published p.related).same_root in
+    asks_there m c.args.at p.published.state p.state (λ s. outcome_of (replies.Scratch (root_of s)) m) (replies.Scratch c.in_ok-root.field-0) (ap (λ (r : Bytes). replies.Scratch r) root) refl)
 
 pub returns-in_err-root-in-Some-state_at-clause-line : goal.returns-in_err-root-in-Some-state_at-clause-line
 returns-in_err-root-in-Some-state_at-clause-line g c =
@@ -43,7 +43,7 @@ returns-in_ok-root-in-Some-state_at-clause-line g c =
     still_line g.D.Disk.tells c.args.self.now (g.D.Disk.view c.args.disk.now) (Ok (replies.Scratch c.in_ok-root-in-Some-state_at.field-0)) (commands.Scratch c.args.at) c.requires.over (λ m k. refl)
     (λ told m k.
     let n = at_some c.args.self.now m k.states c.args.at c.in-Some-state_at.state.now c.in-Some-state_at.ensures in
-    asks_there m c.args.at n.0.1 (published_none c.args.self.now m k.states c.args.at c.in_default.ensures ∙ n.2) (λ s. answered (replies.Scratch (root_of s)) m)
+    asks_there m c.args.at n.0.1 (published_none c.args.self.now m k.states c.args.at c.in_default.ensures ∙ n.2) (λ s. outcome_of (replies.Scratch (root_of s)) m)
     (replies.Scratch c.in_ok-root-in-Some-state_at.field-0) (ap (λ (r : Bytes). replies.Scratch r) (c.in_ok-root-in-Some-state_at.ensures n.0 n.1)) refl)
 
 pub returns-in-None-clause-line : goal.returns-in-None-clause-line

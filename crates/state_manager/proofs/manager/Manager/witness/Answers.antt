@@ -4,7 +4,7 @@ use Rattle.format_spec.specs.Bytes.{Bytes}
 use Rattle.height_store.specs.Store.{height_at}
 use Rattle.script_text.specs.declared.command.Command.TheVariants as commands
 use Rattle.script_text.specs.declared.reply.Reply.TheVariants as replies
-use Rattle.machine_spec.specs.Machine.{answered}
+use Rattle.machine_spec.specs.Machine.{outcome_of}
 use Rattle.state_manager.specs.Kept.{ManagerView}
 use Rattle.state_manager.proofs.Standing.{at_some, knows_some, line_none, line_some, performs_published, with_tree}
 use Rattle.state_manager.proofs.manager.Manager.witness.Goals as goal
@@ -19,10 +19,10 @@ pub returns-in_ok-witness-in-Some-state_at-clause-step : goal.returns-in_ok-witn
 returns-in_ok-witness-in-Some-state_at-clause-step c = λ m k.
     let kept = with_tree c.args.self.now c.keep_tree.new.self m c.args.at c.keep_tree.ensures k c.in_default.ensures in
     let n = at_some c.keep_tree.new.self m kept.keeps c.args.at c.in-Some-state_at.state.now c.in-Some-state_at.ensures in
-    line_some c.keep_tree.new.self m kept.keeps c.args.at kept.none c.in-Some-state_at.state.now c.in-Some-state_at.ensures (λ s. answered (replies.Witness (witness_text s c.args.paths.now)) m)
+    line_some c.keep_tree.new.self m kept.keeps c.args.at kept.none c.in-Some-state_at.state.now c.in-Some-state_at.ensures (λ s. outcome_of (replies.Witness (witness_text s c.args.paths.now)) m)
     (replies.Witness c.in_ok-witness-in-Some-state_at.field-0) (λ s. refl) (ap (λ (r : Bytes). replies.Witness r) (c.in_ok-witness-in-Some-state_at.ensures n.0 n.1))
 
 pub returns-in-None-clause-step : goal.returns-in-None-clause-step
 returns-in-None-clause-step c = λ m k.
     let kept = with_tree c.args.self.now c.keep_tree.new.self m c.args.at c.keep_tree.ensures k c.in_default.ensures in
-    line_none c.keep_tree.new.self m kept.keeps c.args.at kept.none c.in-None.ensures (λ s. answered (replies.Witness (witness_text s c.args.paths.now)) m)
+    line_none c.keep_tree.new.self m kept.keeps c.args.at kept.none c.in-None.ensures (λ s. outcome_of (replies.Witness (witness_text s c.args.paths.now)) m)
