@@ -158,7 +158,7 @@ impl MemDisk {
     // A call that only looks, and reads so many bytes.
     fn look(&mut self, count: u64) -> Result<(), DiskError>
         ensures looks { LooksOrNot count result (mem_view self.old) (mem_view self.new) }
-        ensures count_after { OnOk result ((mem_view self.new).bytes_read ≡ count_after (mem_view self.old).bytes_read count) }
+        ensures counted { OnOk result ((mem_view self.new).bytes_read ≡ count_after (mem_view self.old).bytes_read count) }
         ensures cause { HasCause (faults_of self.old) (faults_of self.new) result }
         ensures orders { FollowsOrders result self.old self.new }
         ensures files { self.new.files ≡ self.old.files }
@@ -242,7 +242,7 @@ impl Disk for MemDisk {
     ) -> Result<(), DiskError>
         requires { IsSomeAnd ((mem_view self.old).state.files name) (λ bytes. at + length into.old ≤ length bytes) }
         ensures bytes { OnOk result (IsSomeAnd ((mem_view self.old).state.files name) (λ bytes. into.new ≡ take (length into.old) (drop at bytes))) }
-        ensures count_after { OnOk result ((mem_view self.new).bytes_read ≡ count_after (mem_view self.old).bytes_read (length into.old)) }
+        ensures counted { OnOk result ((mem_view self.new).bytes_read ≡ count_after (mem_view self.old).bytes_read (length into.old)) }
         ensures looks { LooksOrNot (length into.old) result (mem_view self.old) (mem_view self.new) }
         ensures cause { HasCause (faults_of self.old) (faults_of self.new) result }
         ensures orders { FollowsOrders result self.old self.new }

@@ -41,13 +41,13 @@ pub fn turns_keep_soundness()
 
 /// Published heights that differ in births and rounds alone, as those that a disk gives, open alike.
 pub fn same_heights_open_alike()
-    ensures opened_state { (p q : Published) → SamePublished p q → opened_state p ≡ opened_state q }
+    ensures opened { (p q : Published) → SamePublished p q → opened_state p ≡ opened_state q }
     ensures may { (p q : Published) → SamePublished p q → MayBegin p → MayBegin q }
 {}
 
 /// The heights that files of bytes open at, or stand for, are such that a machine may begin at them.
 pub fn heights_of_files_are_heights()
-    ensures opened_state { (files : Files) (ps : List Published) → AreOfBytes files → OpensAt files ps → AreHeights ps }
+    ensures opened { (files : Files) (ps : List Published) → AreOfBytes files → OpensAt files ps → AreHeights ps }
     ensures stands { (files : Files) (ps : List Published) → AreOfBytes files → StandsFor files ps → AreHeights ps }
 {}
 

@@ -77,7 +77,7 @@ pub fn parse(alloc: Global, line: &[u8]) -> Result<Option<Command>, NoMemory>
 
 /// What a line is. Its command fits its form.
 pub fn parse_line(alloc: Global, line: &[u8]) -> Result<Parsed, NoMemory>
-    ensures parsed_line { IfOk result (λ found. found ≡ parsed_line line.now) }
+    ensures parsed { IfOk result (λ found. found ≡ parsed_line line.now) }
     ensures fits { IfOk result ParsedFits }
 {
     if is_silent(line) {

@@ -69,7 +69,7 @@ impl Links {
     pub fn next(&self, item: u32) -> Option<u32>
         requires { item < self.now.items }
         ensures linked { (list : ℕ) → IsIn self.now list item → result ≡ successor item (members_of self.now list) }
-        ensures lists_without { IsUnlinked self.now item → result ≡ None }
+        ensures unlinked { IsUnlinked self.now item → result ≡ None }
         ensures distinct { AreDistinct self.now }
     {
         let node = self.next[item as usize];
@@ -84,7 +84,7 @@ impl Links {
     pub fn list_of(&self, item: u32) -> Option<u32>
         requires { item < self.now.items }
         ensures linked { (list : ℕ) → IsIn self.now list item → result ≡ Some list }
-        ensures lists_without { IsUnlinked self.now item → result ≡ None }
+        ensures unlinked { IsUnlinked self.now item → result ≡ None }
         ensures cases { MatchOption result (IsUnlinked self.now item) (λ list. IsIn self.now list item) }
         ensures distinct { AreDistinct self.now }
     {
@@ -95,7 +95,7 @@ impl Links {
     pub fn push_back(&mut self, list: u32, item: u32)
         requires list { list < length self.old.members }
         requires item { item < self.old.items }
-        requires lists_without { IsUnlinked self.old item }
+        requires unlinked { IsUnlinked self.old item }
         ensures { self.new ≡ with_members self.old list (members_of self.old list ++ item ∷ []) }
     {
         let end = self.items + list;
@@ -111,7 +111,7 @@ impl Links {
     pub fn push_front(&mut self, list: u32, item: u32)
         requires list { list < length self.old.members }
         requires item { item < self.old.items }
-        requires lists_without { IsUnlinked self.old item }
+        requires unlinked { IsUnlinked self.old item }
         ensures { self.new ≡ with_members self.old list (item ∷ members_of self.old list) }
     {
         let begin = self.items + list;

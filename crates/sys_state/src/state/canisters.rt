@@ -54,7 +54,7 @@ impl SysState {
     /// is as it was.
     pub fn extend(&mut self, id: &CanisterId, mem: Mem, pages: u64) -> Result<(), SysError>
         ensures answer { result ≡ answer (extend_refusal self.old id.now mem pages) }
-        ensures with_more_pages { OnOk result (Changes self.old self.new id.now (with_more_pages mem pages)) }
+        ensures extended { OnOk result (Changes self.old self.new id.now (with_more_pages mem pages)) }
         ensures unchanged { OnErr result (self.new ≡ self.old) }
     {
         let Ok(i) = self.place(id) else {
