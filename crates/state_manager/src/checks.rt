@@ -3,7 +3,7 @@
 ghost use Rattle.std.specs.Prelude.{◌≡◌, IfOk};
 ghost use Rattle.tree_spec.specs.Cbor.{read_tree};
 ghost use Rattle.machine_spec.specs.WitnessSteps.{reply_of_look, reply_of_witness};
-ghost use Rattle.witness.specs.Answers.{checked as checked_of};
+ghost use Rattle.witness.specs.Answers.{answer_of_check as checked_of};
 ghost use Rattle.live_state.specs.Changes.{RefusedBy};
 
 use byte_codec::NoMemory;

@@ -8,7 +8,7 @@ ghost use Rattle.tree_spec.specs.Witness.{rests as rests_of, going_on as going_o
 ghost use Rattle.hash_tree.specs.Hashes.{AreHashesOf};
 ghost use Rattle.hash_tree.specs.View.{tree_view};
 ghost use Rattle.witness.specs.Shows.{IsWitness};
-ghost use Rattle.witness.specs.Parts.{part as part_of, begins_between as begins_between_of, first_in, last_in, goes_on as goes_on_of, is_under as is_under_of, reached as reached_of};
+ghost use Rattle.witness.specs.Parts.{part as part_of, begins_between as begins_between_of, first_in, last_in, goes_on as goes_on_of, is_under as is_under_of, reached_bytes as reached_of};
 
 use byte_codec::{Blob, NoMemory, is_same};
 use hash_tree::{HashTree, StateTree, TreeHashes};
