@@ -1,0 +1,243 @@
+-- Chunks that published heights have are right by the rows that they are found for.
+use Rattle.std.proofs.Common.{◌≡◌, ℕ, zero, suc, ◌+◌, ◌-◌, ◌*◌, ◌/◌, ◌<◌, ◌==◌, ◌||◌, min, cond, Bool, true, false, List, [], ◌∷◌, ◌++◌, length, map, find, take, drop, slice_get, Option, Some, None, nat_lt, refl, sym, ap, ◌∙◌, subst, arith}
+use Rattle.std.specs.List.{flat_map, AllByRecursion, list_any, enumerate_from, range_with_len}
+use Rattle.std.specs.Option.{option_map, option_map_or, option_and_then}
+use Rattle.std.specs.FinMap.{is_sorted}
+use Rattle.std.specs.FinMap.Entries.{below_all}
+use Rattle.std.specs.Ordering.{nat_cmp, is_lt}
+use Rattle.std.specs.declared.cmp.Ordering.TheVariants.{Less, Equal, Greater}
+use Rattle.std.proofs.lemmas.Bool.{and_parts, and_from, eqb-true, eq-eqb, ltb-true}
+use Rattle.std.proofs.lemmas.List.{length-take, length-drop}
+use Rattle.format_spec.specs.Bytes.{Bytes, IsBytes, AreByteStrings, parts, part_count, same_bytes}
+use Rattle.format_spec.specs.Hashes.{ChunkSum, chunk_hash, chunk_string}
+use Rattle.format_spec.specs.declared.limits.TheConstants.{CHUNK_SIZE}
+use Rattle.format_spec.proofs.ByteStrings.{cut_bytes}
+use Rattle.format_spec.proofs.Readings.{same_bytes_is, bytes_same}
+use Rattle.state_spec.specs.State.{State, IsState}
+use Rattle.state_spec.specs.Files.{files}
+use Rattle.state_spec.specs.Manifest.{Manifest, ChunkRow, manifest_of, manifest_from, chunk_rows, chunk_sums, sums_of, chunk_size_at, chunk_offset}
+use Rattle.state_spec.specs.Root.{hashed_strings}
+use Rattle.soundness.proofs.StateBytes.{state_strings}
+use Rattle.sync_spec.specs.Messages.{Item, chunk}
+use Rattle.sync_spec.specs.Serving.{is_chunk, rows}
+use Rattle.sync_spec.specs.Local.{Source, Hit, sources_in, same_chunk, first_source, hits_with, hits_from, local_hits, manifests_of, chunk_in, bytes_at}
+use Rattle.sync_spec.specs.SyncLaws.{ArePublished}
+use Rattle.sync_soundness.specs.Held.{Holds}
+use Rattle.sync_soundness.proofs.Failing.{holds_new, holds_still}
+use Rattle.sync_soundness.proofs.Files.{row_in}
+
+abbrev File : Type 0
+File = Bytes × Bytes
+
+-- ---- lists
+
+all_front : {X : Type 0} (P : X → Type 0) (xs ys : List X) → AllByRecursion P (xs ++ ys) → AllByRecursion P xs × AllByRecursion P ys
+all_front P [] ys h = (tt, h)
+all_front P (x ∷ xs) ys h = let r = all_front P xs ys h.1 in ((h.0, r.0), r.1)
+
+all_joined : {X : Type 0} (P : X → Type 0) (xs ys : List X) → AllByRecursion P xs → AllByRecursion P ys → AllByRecursion P (xs ++ ys)
+all_joined P [] ys p q = q
+all_joined P (x ∷ xs) ys p q = (p.0, all_joined P xs ys p.1 q)
+
+all_mapped : {X Y : Type 0} (P : X → Type 0) (Q : Y → Type 0) (f : X → Y) → ((x : X) → P x → Q (f x)) → (xs : List X) → AllByRecursion P xs → AllByRecursion Q (map f xs)
+all_mapped P Q f h [] all = tt
+all_mapped P Q f h (x ∷ xs) all = (h x all.0, all_mapped P Q f h xs all.1)
+
+found : {X : Type 0} (P : X → Type 0) (p : X → Bool) (xs : List X) (x : X) → AllByRecursion P xs → find p xs ≡ Some x → (p x ≡ true) × P x
+found P p [] x all e = absurd cc
+found {X} P p (y ∷ xs) x all e = by (p y) refl e (λ f. found P p xs x all.1 f)
+  where
+    some : Some y ≡ Some x → y ≡ x
+    some f = cc
+
+    by : (b : Bool) → p y ≡ b → cond b (Some y) (find p xs) ≡ Some x → (find p xs ≡ Some x → (p x ≡ true) × P x) → (p x ≡ true) × P x
+    by true is f rest = subst (λ (z : X). (p z ≡ true) × P z) (some f) (is, all.0)
+    by false is f rest = rest f
+
+-- ---- each published height is found by its number
+
+abbrev Height : Type 0
+Height = ℕ × State
+
+is_below : (a b : ℕ) → is_lt (nat_cmp a b) ≡ true → a < b
+is_below a b e = by (nat_lt a b) refl e
+  where
+    none : (c : Bool) → is_lt (cond c Equal Greater) ≡ true → a < b
+    none true f = absurd cc
+    none false f = absurd cc
+
+    by : (c : Bool) → nat_lt a b ≡ c → is_lt (cond c Less (cond (a == b) Equal Greater)) ≡ true → a < b
+    by true is f = ltb-true a b is
+    by false is f = none (a == b) f
+
+differ : (a b : ℕ) → a < b → (a == b) ≡ false
+differ a b below = by (a == b) refl
+  where
+    by : (c : Bool) → (a == b) ≡ c → c ≡ false
+    by false e = refl
+    by true e = absurd (omega (arith, eqb-true a b e, below))
+
+abbrev IsFound : List Height → Height → Type 0
+IsFound heights p = find (λ q. q.0 == p.0) heights ≡ Some p
+
+found_later : (p : Height) (ps qs : List Height) → below_all nat_cmp p.0 qs ≡ true → AllByRecursion (IsFound ps) qs → AllByRecursion (IsFound (p ∷ ps)) qs
+found_later p ps [] below all = tt
+found_later p ps (q ∷ qs) below all =
+    let b = and_parts (is_lt (nat_cmp p.0 q.0)) (below_all nat_cmp p.0 qs) below in
+    (ap (λ c. cond c (Some p) (find (λ (r : Height). r.0 == q.0) ps)) (differ p.0 q.0 (is_below p.0 q.0 b.0)) ∙ all.0, found_later p ps qs b.1 all.1)
+
+each_found : (heights : List Height) → is_sorted nat_cmp heights ≡ true → AllByRecursion (IsFound heights) heights
+each_found [] h = tt
+each_found (p ∷ ps) h =
+    let b = and_parts (below_all nat_cmp p.0 ps) (is_sorted nat_cmp ps) h in
+    (ap (λ c. cond c (Some p) (find (λ (r : Height). r.0 == p.0) ps)) (eq-eqb p.0 p.0 refl), found_later p ps ps b.0 (each_found ps b.1))
+
+-- ---- each row of a state's manifest tells where its chunk is
+
+-- bytes with the size and hash
+pub record Fits (sum : ChunkSum) (bytes : Bytes) : Type 0 where
+  pub size : length bytes ≡ sum.size
+  pub hash : chunk_hash bytes ≡ sum.hash
+  pub string : IsBytes bytes
+
+abbrev part_in : List File → ℕ → ℕ → Option Bytes
+part_in fs file from = option_and_then (λ (f : File). slice_get (parts CHUNK_SIZE f.1) from) (slice_get fs file)
+
+abbrev Leads : List File → ChunkRow → Type 0
+Leads fs r = (bytes : Bytes) × (part_in fs r.file (r.sum.offset / CHUNK_SIZE) ≡ Some bytes) × Fits r.sum bytes
+
+abbrev sum_at : ℕ → ℕ × Bytes → ChunkSum
+sum_at size e = record { size = chunk_size_at size e.0; offset = chunk_offset e.0; hash = e.1 }
+
+cut_size : (n a : ℕ) (s : Bytes) → length (take n (drop (a * n) s)) ≡ min n (length s - a * n)
+cut_size n a s = omega (arith, length-take n (drop (a * n) s), length-drop (a * n) s)
+
+module _ (fs : List File) (n : ℕ) (f : File) (at : slice_get fs n ≡ Some f) where
+  abbrev cut_at : ℕ → Bytes
+  cut_at i = take CHUNK_SIZE (drop (i * CHUNK_SIZE) f.1)
+
+  one_leads : (a : ℕ) (part : Bytes) → slice_get (parts CHUNK_SIZE f.1) a ≡ Some part → part ≡ cut_at a → IsBytes part → Leads fs (row_in n (sum_at (length f.1) (a, chunk_hash part)))
+  one_leads a part there is string =
+      let back : (a * CHUNK_SIZE) / CHUNK_SIZE ≡ a = omega arith in
+      let size : length part ≡ chunk_size_at (length f.1) a = ap length is ∙ cut_size CHUNK_SIZE a f.1 in (
+        part,
+        ap (part_in fs n) back ∙ ap (option_and_then (λ (g : File). slice_get (parts CHUNK_SIZE g.1) a)) at ∙ there,
+        record { size = size; hash = refl; string = string },
+      )
+
+  parts_lead : (k a : ℕ) → ((j : ℕ) → slice_get (parts CHUNK_SIZE f.1) (a + j) ≡ slice_get (map cut_at (range_with_len a k)) j) → AreByteStrings (map cut_at (range_with_len a k))
+      → AllByRecursion (Leads fs) (map (row_in n) (map (sum_at (length f.1)) (enumerate_from a (map chunk_hash (map cut_at (range_with_len a k))))))
+  parts_lead zero a same strings = tt
+  parts_lead (suc k) a same strings =
+      let here : a + 0 ≡ a = omega arith in (
+        one_leads a (cut_at a) (ap (slice_get (parts CHUNK_SIZE f.1)) (sym here) ∙ same 0) refl strings.0,
+        parts_lead k (a + 1) (λ j. let e : a + 1 + j ≡ a + suc j = omega arith in ap (slice_get (parts CHUNK_SIZE f.1)) e ∙ same (suc j)) strings.1,
+      )
+
+  file_leads : AreByteStrings (parts CHUNK_SIZE f.1) → AllByRecursion (Leads fs) (map (row_in n) (chunk_sums (sums_of f)))
+  unfolding parts
+  file_leads strings = parts_lead (part_count CHUNK_SIZE (length f.1)) 0 (λ j. let e : 0 + j ≡ j = omega arith in ap (slice_get (parts CHUNK_SIZE f.1)) e) strings
+
+-- the strings that are hashed are of bytes where the chunks are
+uncovered : (xs : List Bytes) → AreByteStrings (map chunk_string xs) → AreByteStrings xs
+uncovered [] h = tt
+uncovered (x ∷ xs) h = ((cut_bytes (chunk_string []) x h.0).1, uncovered xs h.1)
+
+files_lead : (all fs : List File) (n : ℕ) → ((k : ℕ) → slice_get all (n + k) ≡ slice_get fs k) → AreByteStrings (flat_map (λ f. map chunk_string (parts CHUNK_SIZE f.1)) fs) → AllByRecursion (Leads all) (chunk_rows n (map sums_of fs))
+files_lead all [] n same strings = tt
+files_lead all (f ∷ fs) n same strings =
+    let here : n + 0 ≡ n = omega arith in
+    let s = all_front IsBytes (map chunk_string (parts CHUNK_SIZE f.1)) (flat_map (λ g. map chunk_string (parts CHUNK_SIZE g.1)) fs) strings in
+    all_joined (Leads all) (map (row_in n) (chunk_sums (sums_of f))) (chunk_rows (suc n) (map sums_of fs))
+    (file_leads all n f (ap (slice_get all) (sym here) ∙ same 0) (uncovered (parts CHUNK_SIZE f.1) s.0))
+    (files_lead all fs (suc n) (λ k. let e : suc n + k ≡ n + suc k = omega arith in ap (slice_get all) e ∙ same (suc k)) s.1)
+
+rows_lead : (s : State) → IsState s → AllByRecursion (Leads (files s)) (manifest_of s).chunks
+unfolding manifest_of manifest_from hashed_strings
+rows_lead s valid =
+    files_lead (files s) (files s) 0 (λ k. let e : 0 + k ≡ k = omega arith in ap (slice_get (files s)) e)
+    (all_front IsBytes (flat_map (λ f. map chunk_string (parts CHUNK_SIZE f.1)) (files s)) _ (all_front IsBytes _ _ (all_front IsBytes _ _ (state_strings s valid)).0).0).0
+
+-- ---- sources
+
+abbrev IsSource : List Height → ChunkSum × Source → Type 0
+IsSource heights x = Fits x.0 (bytes_at heights x.1)
+
+in_height : (heights : List Height) (p : Height) → IsFound heights p → IsState p.1 → AllByRecursion (IsSource heights) (sources_in (p.0, manifest_of p.1))
+in_height heights p there valid =
+    all_mapped (Leads (files p.1)) (IsSource heights) (λ (r : ChunkRow). (r.sum, record { height = p.0; file = r.file; from = r.sum.offset / CHUNK_SIZE })) one (manifest_of p.1).chunks (rows_lead p.1 valid)
+  where
+    one : (r : ChunkRow) → Leads (files p.1) r → IsSource heights (r.sum, record { height = p.0; file = r.file; from = r.sum.offset / CHUNK_SIZE })
+    one r l =
+        let bytes : bytes_at heights (record { height = p.0; file = r.file; from = r.sum.offset / CHUNK_SIZE }) ≡ l.0 =
+        ap (λ (o : Option Height). option_map_or (λ (b : Bytes). b) (option_and_then (λ (q : Height). chunk_in (record { height = p.0; file = r.file; from = r.sum.offset / CHUNK_SIZE }) q.1) o) []) there
+        ∙ ap (λ (o : Option Bytes). option_map_or (λ (b : Bytes). b) o []) l.1 in
+        subst (Fits r.sum) (sym bytes) l.2
+
+in_heights : (heights ps : List Height) → AllByRecursion (IsFound heights) ps → AllByRecursion (λ p. IsState p.1) ps → AllByRecursion (IsSource heights) (flat_map sources_in (manifests_of ps))
+in_heights heights [] there valid = tt
+in_heights heights (p ∷ ps) there valid =
+    all_joined (IsSource heights) (sources_in (p.0, manifest_of p.1)) (flat_map sources_in (manifests_of ps)) (in_height heights p there.0 valid.0) (in_heights heights ps there.1 valid.1)
+
+-- ---- hits
+
+-- its bytes are right by the row that it is a hit for
+pub record IsHit (heights : List Height) (all : List ChunkRow) (h : Hit) : Type 0 where
+  pub right : is_chunk (bytes_at heights h.source) (slice_get all h.chunk) ≡ true
+  pub string : IsBytes (bytes_at heights h.source)
+
+source_fits : (heights : List Height) (sources : List (ChunkSum × Source)) (sum : ChunkSum) (source : Source) → AllByRecursion (IsSource heights) sources → first_source sources sum ≡ Some source → Fits sum (bytes_at heights source)
+source_fits heights sources sum source all e = by (find (same_chunk sum) sources) refl e
+  where
+    one : (x : ChunkSum × Source) → (same_chunk sum x ≡ true) × IsSource heights x → Fits sum (bytes_at heights x.1)
+    one x h =
+        let b = and_parts (x.0.size == sum.size) (same_bytes x.0.hash sum.hash) h.0 in
+        record { size = h.1.size ∙ eqb-true x.0.size sum.size b.0; hash = h.1.hash ∙ same_bytes_is x.0.hash sum.hash b.1; string = h.1.string }
+
+    same : (x : ChunkSum × Source) → Some x.1 ≡ Some source → x.1 ≡ source
+    same x f = cc
+
+    by : (o : Option (ChunkSum × Source)) → find (same_chunk sum) sources ≡ o → option_map (λ (x : ChunkSum × Source). x.1) o ≡ Some source → Fits sum (bytes_at heights source)
+    by None is f = absurd cc
+    by (Some x) is f = subst (λ (z : Source). Fits sum (bytes_at heights z)) (same x f) (one x (found (IsSource heights) (same_chunk sum) sources x all is))
+
+hits_right : (heights : List Height) (sources : List (ChunkSum × Source)) (all : List ChunkRow) (i : ℕ) (rs : List ChunkRow) → AllByRecursion (IsSource heights) sources → ((k : ℕ) → slice_get all (i + k) ≡ slice_get rs k) → AllByRecursion (IsHit heights all) (hits_from i sources rs)
+hits_right heights sources all i [] good same = tt
+hits_right heights sources all i (r ∷ rs) good same =
+    by (first_source sources r.sum) refl (hits_right heights sources all (suc i) rs good (λ k. let e : suc i + k ≡ i + suc k = omega arith in ap (slice_get all) e ∙ same (suc k)))
+  where
+    at : slice_get all i ≡ Some r
+    at = let here : i ≡ i + 0 = omega arith in ap (slice_get all) here ∙ same 0
+
+    by : (o : Option Source) → first_source sources r.sum ≡ o → AllByRecursion (IsHit heights all) (hits_from (suc i) sources rs) → AllByRecursion (IsHit heights all) (hits_with i o (hits_from (suc i) sources rs))
+    by None is rest = rest
+    by (Some source) is rest =
+        let f = source_fits heights sources r.sum source good is in
+        let same_hash : same_bytes (chunk_hash (bytes_at heights source)) r.sum.hash ≡ true = subst (λ (x : Bytes). same_bytes (chunk_hash (bytes_at heights source)) x ≡ true) f.hash (bytes_same (chunk_hash (bytes_at heights source))) in
+        let right : is_chunk (bytes_at heights source) (Some r) ≡ true = and_from (length (bytes_at heights source) == r.sum.size) (same_bytes (chunk_hash (bytes_at heights source)) r.sum.hash) (eq-eqb (length (bytes_at heights source)) r.sum.size f.size) same_hash in
+        (record { right = ap (is_chunk (bytes_at heights source)) at ∙ right; string = f.string }, rest)
+
+pub local_right : (heights : List Height) (m : Manifest) → ArePublished heights → AllByRecursion (IsHit heights m.chunks) (local_hits (manifests_of heights) m)
+unfolding local_hits
+local_right heights m published =
+    hits_right heights (flat_map sources_in (manifests_of heights)) m.chunks 0 m.chunks (in_heights heights heights (each_found heights published.ascend) published.valid) (λ k. let e : 0 + k ≡ k = omega arith in ap (slice_get m.chunks) e)
+
+-- ---- what is had then
+
+abbrev pub bytes_of_hits : List Height → List Hit → List (Item × Bytes)
+bytes_of_hits heights hits = map (λ h. (chunk h.chunk, bytes_at heights h.source)) hits
+
+-- a chunk that has a hit is held
+pub hit_held : (heights : List Height) (m : Manifest) (had : List (Item × Bytes)) (i : ℕ) (hits : List Hit) → AllByRecursion (IsHit heights m.chunks) hits → list_any (λ j. j == i) (map (λ (h : Hit). h.chunk) hits) ≡ true → Holds (rows m) (bytes_of_hits heights hits ++ had) (chunk i)
+hit_held heights m had i [] good there = absurd cc
+hit_held heights m had i (h ∷ hits) good there = by (h.chunk == i) refl there (λ e. hit_held heights m had i hits good.1 e)
+  where
+    rest : List (Item × Bytes)
+    rest = bytes_of_hits heights hits ++ had
+
+    by : (b : Bool) → (h.chunk == i) ≡ b → (b || list_any (λ j. j == i) (map (λ (g : Hit). g.chunk) hits)) ≡ true → (list_any (λ j. j == i) (map (λ (g : Hit). g.chunk) hits) ≡ true → Holds (rows m) (bytes_of_hits heights hits ++ had) (chunk i)) → Holds (rows m) ((chunk h.chunk, bytes_at heights h.source) ∷ (bytes_of_hits heights hits ++ had)) (chunk i)
+    by true e f ih =
+        let same : h.chunk ≡ i = eqb-true h.chunk i e in
+        subst (λ (j : ℕ). Holds (rows m) ((chunk h.chunk, bytes_at heights h.source) ∷ (bytes_of_hits heights hits ++ had)) (chunk j)) same
+        (holds_new (rows m) (chunk h.chunk) (bytes_at heights h.source) (bytes_of_hits heights hits ++ had) good.0.right good.0.string)
+    by false e f ih = holds_still (rows m) (chunk h.chunk) (chunk i) (bytes_at heights h.source) (bytes_of_hits heights hits ++ had) e (ih f)
