@@ -16,29 +16,29 @@ use Rattle.page_file.specs.Files.{NumberedFile, HasPages, IsAsKnown, HasHeader, 
 use Rattle.page_file.proofs.Kept.{pages_fit, some_run}
 use Rattle.page_file.proofs.Texts.{header_reads, length-index_text, index_is, length-header_text, length-ranges_text}
 
--- ---- one page
+-- ---- pages
 
-pub page_is_there : (files : Files) (file : NumberedFile) (n place offset size : ℕ) → IsAsKnown files file → n ≡ file.number → size ≡ 4096 → offset ≡ index_length file.index + 4096 * place → place < length file.index.numbers
+pub pages_are_there : (files : Files) (file : NumberedFile) (n place offset size : ℕ) → IsAsKnown files file → n ≡ file.number → offset ≡ index_length file.index + 4096 * place → 4096 * place + size ≤ 4096 * length file.index.numbers
     → IsSomeAnd (files (Page n)) (λ text. offset + size ≤ length text)
-page_is_there files file n place offset size kept is whole at below =
+pages_are_there files file n place offset size kept is at below =
     let pages = kept.0 in let has = kept.1 in
     subst (λ o. IsSomeAnd o (λ text. offset + size ≤ length text)) (sym (ap (λ n. files (Page n)) is ∙ has.there))
-    (omega (arith, whole, at, below, has.good.whole, ap length has.good.spelled, length-append (index_text file.index) pages, length-index_text file.index))
+    (omega (arith, at, below, has.good.whole, ap length has.good.spelled, length-append (index_text file.index) pages, length-index_text file.index))
 
-page_of : (text pages : Bytes) (i : PageIndex) (place offset : ℕ) → text ≡ index_text i ++ pages → offset ≡ index_length i + 4096 * place → take 4096 (drop offset text) ≡ page_at pages place
-page_of text pages i place offset is at =
+pages_of_text : (text pages : Bytes) (i : PageIndex) (place offset size : ℕ) → text ≡ index_text i ++ pages → offset ≡ index_length i + 4096 * place → take size (drop offset text) ≡ take size (drop (place * 4096) pages)
+pages_of_text text pages i place offset size is at =
     let from : 4096 * place ≡ place * 4096 = omega arith in
-    ap (take 4096) (ap (λ n. drop n text) at ∙ sym (drop-drop (4096 * place) (index_length i) text) ∙ ap (λ l. drop (4096 * place) (drop (index_length i) l)) is ∙ ap (drop (4096 * place)) (drop_at (index_text i) pages (index_length i) (length-index_text i)))
-    ∙ ap (λ n. take 4096 (drop n pages)) from
+    ap (take size) (ap (λ n. drop n text) at ∙ sym (drop-drop (4096 * place) (index_length i) text) ∙ ap (λ l. drop (4096 * place) (drop (index_length i) l)) is ∙ ap (drop (4096 * place)) (drop_at (index_text i) pages (index_length i) (length-index_text i)))
+    ∙ ap (λ n. take size (drop n pages)) from
 
 pub same_text : (files : Files) (n m : ℕ) (a b : Bytes) → n ≡ m → files (Page n) ≡ Some a → files (Page m) ≡ Some b → a ≡ b
 same_text files n m a b is one other = let e : Some a ≡ Some b = sym one ∙ ap (λ k. files (Page k)) is ∙ other in cc
 
-pub page_read : (files : Files) (n place offset size : ℕ) (i : PageIndex) (pages into : Bytes) (file : NumberedFile) → HasPages files file.number i pages → n ≡ file.number → size ≡ 4096 → offset ≡ index_length i + 4096 * place
-    → IsSomeAnd (files (Page n)) (λ text. into ≡ take size (drop offset text)) → into ≡ page_at pages place
-page_read files n place offset size i pages into file has is whole at read =
+pub pages_read : (files : Files) (n place offset size : ℕ) (i : PageIndex) (pages into : Bytes) (file : NumberedFile) → HasPages files file.number i pages → n ≡ file.number → offset ≡ index_length i + 4096 * place
+    → IsSomeAnd (files (Page n)) (λ text. into ≡ take size (drop offset text)) → into ≡ take size (drop (place * 4096) pages)
+pages_read files n place offset size i pages into file has is at read =
     let here = subst (λ o. IsSomeAnd o (λ text. into ≡ take size (drop offset text))) (ap (λ n. files (Page n)) is ∙ has.there) read in
-    here ∙ ap (λ k. take k (drop offset has.text)) whole ∙ page_of has.text pages i place offset has.good.spelled at
+    here ∙ pages_of_text has.text pages i place offset size has.good.spelled at
 
 -- ---- the header
 

@@ -20,9 +20,9 @@ touches_page call result old new n m is apart sound does = subst (λ k. TouchesO
 
 -- ---- a page more
 
-pub length-text_added : (writer : UnfinishedFile) (page : Bytes) → length page ≡ 4096 → length (text_added writer page) ≡ length_added writer
-length-text_added writer page long = elim (cases_Bool (writer.added == 0)) [
-  | inl first ↦ rw first (omega (arith, length-append (index_text writer.index) page, length-index_text writer.index, long))
+pub length-text_added : (writer : UnfinishedFile) (count : ℕ) (pages : Bytes) → length pages ≡ 4096 * count → length (text_added writer pages) ≡ length_added writer count
+length-text_added writer count pages long = elim (cases_Bool (writer.added == 0)) [
+  | inl first ↦ rw first (omega (arith, length-append (index_text writer.index) pages, length-index_text writer.index, long))
   | inr later ↦ rw later long
 ]
 
@@ -41,13 +41,13 @@ text_more writer pages page count = elim (cases_Bool (writer.added == 0)) [
 all_text : (writer : UnfinishedFile) (pages : Bytes) → 1 ≤ writer.added → text_written writer pages ≡ index_text writer.index ++ pages
 all_text writer pages some = let ne : (writer.added == 0) ≡ false = ne_eqb writer.added 0 (λ e. omega (arith, e, some)) in rw ne refl
 
-pub page_added : (writer next : UnfinishedFile) (pages page : Bytes) (old new : DiskView) → next ≡ record writer { added = writer.added + 1 } → length page ≡ 4096
-    → Done (append (Page writer.number) (text_added writer page)) old new → IsWriting writer pages old.state → IsWriting next (pages ++ page) new.state
-page_added writer next pages page old new is long does was = subst (λ (w : UnfinishedFile). IsWriting w (pages ++ page) new.state) (sym is) (record {
-  loose = subst (λ s. IsLoose s (Page writer.number)) (sym does.state) (appended_loose old.state (Page writer.number) (text_added writer page));
-  file = ap (λ (s : DiskState). s.files (Page writer.number)) does.state ∙ rw (same_name_refl (Page writer.number)) (ap (λ o. Some (unwrap_or o [] ++ text_added writer page)) was.file)
-      ∙ ap Some (text_more writer pages page was.count ∙ sym (all_text (record writer { added = writer.added + 1 }) (pages ++ page) (omega arith)));
-  count = omega (arith, length-append pages page, was.count, long);
+pub pages_added : (writer next : UnfinishedFile) (count : ℕ) (pages more : Bytes) (old new : DiskView) → next ≡ record writer { added = writer.added + count } → 1 ≤ count → length more ≡ 4096 * count
+    → Done (append (Page writer.number) (text_added writer more)) old new → IsWriting writer pages old.state → IsWriting next (pages ++ more) new.state
+pages_added writer next count pages more old new is some long does was = subst (λ (w : UnfinishedFile). IsWriting w (pages ++ more) new.state) (sym is) (record {
+  loose = subst (λ s. IsLoose s (Page writer.number)) (sym does.state) (appended_loose old.state (Page writer.number) (text_added writer more));
+  file = ap (λ (s : DiskState). s.files (Page writer.number)) does.state ∙ rw (same_name_refl (Page writer.number)) (ap (λ o. Some (unwrap_or o [] ++ text_added writer more)) was.file)
+      ∙ ap Some (text_more writer pages more was.count ∙ sym (all_text (record writer { added = writer.added + count }) (pages ++ more) (omega arith)));
+  count = omega (arith, length-append pages more, was.count, long);
 })
 
 -- ---- the seal

@@ -1,5 +1,5 @@
 -- Page files on a disk.
-use Rattle.std.specs.Prelude.{◌≡◌, ℕ, ◌+◌, ◌*◌, ◌==◌, if◌then◌else◌, [], ◌++◌, Option, Some, None, Result, Ok, Err, IfOk, IsErrOf, length, take}
+use Rattle.std.specs.Prelude.{◌≡◌, ℕ, ◌+◌, ◌*◌, ◌==◌, if◌then◌else◌, [], ◌++◌, Option, Some, None, Result, Ok, Err, IfOk, IsErrOf, length, take, drop}
 use Rattle.format_spec.specs.Bytes.{Bytes, page_at}
 use Rattle.format_spec.specs.declared.limits.TheConstants.{PAGE_SIZE, INDEX_HEAD}
 use Rattle.page_spec.specs.PageFile.{PageIndex, IsPageFile, index_text, index_length}
@@ -47,16 +47,20 @@ pub record Opens (files : Files) (n : ℕ) (result : Result NumberedFile PageErr
 abbrev pub ReadsAs : Files → NumberedFile → ℕ → Bytes → Type 0
 ReadsAs files file place bytes = (pages : Bytes) → HasPages files file.number file.index pages → bytes ≡ page_at pages place
 
+-- these are so many bytes of the pages from this place on
+abbrev pub ReadsFrom : Files → NumberedFile → ℕ → ℕ → Bytes → Type 0
+ReadsFrom files file place size bytes = (pages : Bytes) → HasPages files file.number file.index pages → bytes ≡ take size (drop (place * PAGE_SIZE) pages)
+
 -- what is written once these pages are added: nothing before the first one, with which the index goes out
 abbrev pub text_written : UnfinishedFile → Bytes → Bytes
 text_written writer pages = if writer.added == 0 then [] else index_text writer.index ++ pages
 
--- what the next page adds to the file, and how many bytes that is
+-- what the next pages add to the file, and how many bytes that is, of so many pages
 abbrev pub text_added : UnfinishedFile → Bytes → Bytes
-text_added writer page = if writer.added == 0 then index_text writer.index ++ page else page
+text_added writer pages = if writer.added == 0 then index_text writer.index ++ pages else pages
 
-abbrev pub length_added : UnfinishedFile → ℕ
-length_added writer = if writer.added == 0 then index_length writer.index + PAGE_SIZE else PAGE_SIZE
+abbrev pub length_added : UnfinishedFile → ℕ → ℕ
+length_added writer count = if writer.added == 0 then index_length writer.index + PAGE_SIZE * count else PAGE_SIZE * count
 
 -- these bytes of pages are added so far, and the file is loose
 pub record IsWriting (writer : UnfinishedFile) (pages : Bytes) (s : DiskState) : Type 0 where

@@ -1,12 +1,12 @@
 //! Reading a page file.
-ghost use Rattle.std.specs.Prelude.{◌≡◌, ◌+◌, ◌*◌, ◌<◌, ℕ, length, IsTrue, OnOk, IfOk, IfSome, IsErrOf};
+ghost use Rattle.std.specs.Prelude.{◌≡◌, ◌+◌, ◌*◌, ◌<◌, ◌≤◌, ℕ, length, take, drop, IsTrue, OnOk, IfOk, IfSome, IsErrOf};
 ghost use Rattle.format_spec.specs.declared.limits.TheConstants.{PAGE_SIZE, MAX_MEMORY_PAGES, INDEX_HEAD, INDEX_RANGE};
 ghost use Rattle.format_spec.specs.Bytes.{Bytes};
 ghost use Rattle.page_spec.specs.PageFile.{PageIndex, index_length};
 ghost use Rattle.disk_model.specs.Looking.{OnlyLooks};
 ghost use Rattle.page_file.specs.Errors.{HasCause, NoBadPage};
 ghost use Rattle.page_file.specs.Index.{are_counts};
-ghost use Rattle.page_file.specs.Files.{IsAsKnown, Opens, ReadsAs, HasPages, HasHeader, FindsHeader, FindsIndex};
+ghost use Rattle.page_file.specs.Files.{IsAsKnown, Opens, ReadsAs, ReadsFrom, HasPages, HasHeader, FindsHeader, FindsIndex};
 
 use crate::format::Header;
 use crate::{FileIndex, PageBytes, PageError};
@@ -97,6 +97,26 @@ impl PageFile {
 
         ensures page { IsTrue D.tells → OnOk result (ReadsAs (D.view disk.old).state.files self.now place into.new) }
         ensures looks { IsTrue D.tells → OnlyLooks PAGE_SIZE (D.view disk.old) (D.view disk.new) }
+        ensures cause { HasCause (D.faults disk.old) (D.faults disk.new) result }
+        ensures no_bad_page { NoBadPage result }
+    {
+        self.read_pages(alloc, disk, place, into)
+    }
+
+    /// Reads the pages from this place on that `into` has room for, by one call of the disk. The file has so many, and is as when this value was
+    /// opened or finished. Fault where the disk failed, Memory where memory ran out; `into` then has any bytes.
+    pub fn read_pages<D: Disk>(
+        &self,
+        alloc: Global,
+        disk: &mut D,
+        place: u32,
+        into: &mut [u8],
+    ) -> Result<(), PageError>
+        requires within { PAGE_SIZE * place + length into.old ≤ PAGE_SIZE * length self.now.index.numbers }
+        requires kept { IsTrue D.tells → IsAsKnown (D.view disk.old).state.files self.now }
+
+        ensures pages { IsTrue D.tells → OnOk result (ReadsFrom (D.view disk.old).state.files self.now place (length into.old) into.new) }
+        ensures looks { IsTrue D.tells → OnlyLooks (length into.old) (D.view disk.old) (D.view disk.new) }
         ensures cause { HasCause (D.faults disk.old) (D.faults disk.new) result }
         ensures no_bad_page { NoBadPage result }
     {

@@ -7,7 +7,7 @@ ghost use Rattle.page_file.specs.Index.{are_counts, ReadsIndex};
 use crate::format::Header;
 use crate::range::{Range, begun_by, pages_in, push_pages, read_ranges, write_ranges};
 use byte_codec::{Blob, NoMemory, Writer};
-use format_spec::{INDEX_HEAD, INDEX_RANGE, PAGE_SIZE, PageBytes};
+use format_spec::{INDEX_HEAD, INDEX_RANGE, PAGE_SIZE};
 use std::alloc::{AllocFailed, Global};
 use std::marker::Model;
 use std::rc::Rc;
@@ -129,8 +129,8 @@ impl FileIndex {
     }
 
     /// What stands before the pages, and the first of them behind it.
-    pub(crate) fn text_with(&self, alloc: Global, page: &PageBytes) -> Result<Blob, NoMemory>
-        ensures { IfOk result (λ text. text ≡ index_text self.now ++ page.now) }
+    pub(crate) fn text_with(&self, alloc: Global, pages: &[u8]) -> Result<Blob, NoMemory>
+        ensures { IfOk result (λ text. text ≡ index_text self.now ++ pages.now) }
     {
         let ranges = self.ranges.len();
         let header = Header {
@@ -138,11 +138,11 @@ impl FileIndex {
             ranges: ranges as u32,
             pages: self.count,
         };
-        let size = INDEX_HEAD + INDEX_RANGE * ranges + PAGE_SIZE;
+        let size = INDEX_HEAD + INDEX_RANGE * ranges + pages.len();
         let mut text = Writer::with_capacity(alloc, size)?;
         header.write(&mut text)?;
         write_ranges(&mut text, &self.ranges)?;
-        text.bytes(page)?;
+        text.bytes(pages)?;
         Ok(text.into_blob())
     }
 

@@ -84,8 +84,7 @@ fn an_overlay_is_written_and_read(rt: HostRuntime) -> Result<(), Fail> {
     let mut disk = MemDisk::new(alloc, Vec::new(alloc), None);
     let index = FileIndex::build(alloc, &[2, 3, 7], 10)?;
     let mut writer = PageWriter::begin(alloc, &mut disk, 5, index)?;
-    writer.add(alloc, &mut disk, &[22; 4096])?;
-    writer.add(alloc, &mut disk, &[33; 4096])?;
+    writer.add_pages(alloc, &mut disk, 2, &[22; 8192])?;
     writer.add(alloc, &mut disk, &[77; 4096])?;
     writer.finish(alloc, &mut disk)?;
     assert_eq!(rt; disk.appended(), 12_344);
@@ -93,9 +92,13 @@ fn an_overlay_is_written_and_read(rt: HostRuntime) -> Result<(), Fail> {
     let file = PageFile::open(alloc, &mut disk, 5)?;
     assert_eq!(rt; file.index().count(), 3);
     let mut page = [0; 4096];
-    file.read_page(alloc, &mut disk, 1, &mut page)?;
-    assert_eq!(rt; page[4095], 33);
+    file.read_page(alloc, &mut disk, 2, &mut page)?;
+    assert_eq!(rt; page[0], 77);
     assert_eq!(rt; disk.bytes_read(), 4152);
+    let mut pages = [0; 8192];
+    file.read_pages(alloc, &mut disk, 1, &mut pages)?;
+    assert_eq!(rt; [pages[4095], pages[4096]], [22, 77]);
+    assert_eq!(rt; disk.bytes_read(), 12_344);
     assert_eq!(rt; front_of(alloc, &mut disk)?.as_slice(), overlay());
     Ok(())
 }

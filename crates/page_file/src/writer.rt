@@ -1,5 +1,6 @@
 //! Writing a page file.
-ghost use Rattle.std.specs.Prelude.{◌≡◌, ◌+◌, ◌<◌, ◌++◌, [], true, length, IsTrue, OnOk, IfOk, IsErr, IsErrOf};
+ghost use Rattle.std.specs.Prelude.{◌≡◌, ◌+◌, ◌*◌, ◌<◌, ◌≤◌, ◌++◌, [], true, length, IsTrue, OnOk, OnErr, IfOk, IsErr, IsErrOf};
+ghost use Rattle.format_spec.specs.declared.limits.TheConstants.{PAGE_SIZE};
 ghost use Rattle.format_spec.specs.Bytes.{Bytes};
 ghost use Rattle.disk_model.specs.declared.name.Name.TheVariants.{Page};
 ghost use Rattle.disk_model.specs.Files.{same_name};
@@ -71,7 +72,7 @@ impl PageWriter {
 
     /// Adds the bytes of the next page of the index, and the index before those of the first one, in one call of the disk.
     /// Fewer than all were added, and the file is as this writer left it.
-    /// Fault where the disk failed, Memory where memory ran out: then the disk is as before.
+    /// Fault where the disk failed, Memory where memory ran out: then the disk is as before. The writer is unchanged after either.
     pub fn add<D: Disk>(
         &mut self,
         alloc: Global,
@@ -82,19 +83,51 @@ impl PageWriter {
         requires loose { IsTrue D.tells → IsLoose (D.view disk.old).state (Page self.old.number) }
 
         ensures writer { OnOk result (self.new ≡ record self.old { added = self.old.added + 1 }) }
+        ensures unchanged { OnErr result (self.new ≡ self.old) }
         ensures added { IsTrue D.tells → OnOk result ((pages : Bytes) → IsWriting self.old pages (D.view disk.old).state → IsWriting self.new (pages ++ page.now) (D.view disk.new).state) }
         ensures there { IsTrue D.tells → OnOk result (IsLoose (D.view disk.new).state (Page self.old.number)) }
         ensures loose { IsTrue D.tells → (D.view disk.new).state.loose (Page self.old.number) ≡ true }
         ensures memory { IsTrue D.tells → IsErrOf result PageError.Memory → D.view disk.new ≡ D.view disk.old }
-        ensures appended { IsTrue D.tells → OnOk result ((D.view disk.new).appended ≡ (D.view disk.old).appended + length_added self.old) }
+        ensures appended { IsTrue D.tells → OnOk result ((D.view disk.new).appended ≡ (D.view disk.old).appended + length_added self.old 1) }
         ensures read { IsTrue D.tells → (D.view disk.new).bytes_read ≡ (D.view disk.old).bytes_read }
         ensures touches { IsTrue D.tells → TouchesOnly (same_name (Page self.old.number)) (D.view disk.old) (D.view disk.new) }
         ensures settled { IsTrue D.tells → OnOk result (IsSettled (D.view disk.old).state → IsSettled (D.view disk.new).state) }
         ensures cause { HasCause (D.faults disk.old) (D.faults disk.new) result }
         ensures no_bad_page { NoBadPage result }
     {
-        self.append_next(alloc, disk, page)?;
-        self.added += 1;
+        self.add_pages(alloc, disk, 1, page)
+    }
+
+    /// Adds the bytes of the next pages of the index, so many, and the index before those of the first one, in one call of the disk.
+    /// At least one page and no more than are missing, and the file is as this writer left it.
+    /// Fault where the disk failed, Memory where memory ran out: then the disk is as before. The writer is unchanged after either.
+    pub fn add_pages<D: Disk>(
+        &mut self,
+        alloc: Global,
+        disk: &mut D,
+        count: u32,
+        pages: &[u8],
+    ) -> Result<(), PageError>
+        requires some { 0 < count }
+        requires room { self.old.added + count ≤ length self.old.index.numbers }
+        requires whole { length pages.now ≡ PAGE_SIZE * count }
+        requires loose { IsTrue D.tells → IsLoose (D.view disk.old).state (Page self.old.number) }
+
+        ensures writer { OnOk result (self.new ≡ record self.old { added = self.old.added + count }) }
+        ensures unchanged { OnErr result (self.new ≡ self.old) }
+        ensures added { IsTrue D.tells → OnOk result ((before : Bytes) → IsWriting self.old before (D.view disk.old).state → IsWriting self.new (before ++ pages.now) (D.view disk.new).state) }
+        ensures there { IsTrue D.tells → OnOk result (IsLoose (D.view disk.new).state (Page self.old.number)) }
+        ensures loose { IsTrue D.tells → (D.view disk.new).state.loose (Page self.old.number) ≡ true }
+        ensures memory { IsTrue D.tells → IsErrOf result PageError.Memory → D.view disk.new ≡ D.view disk.old }
+        ensures appended { IsTrue D.tells → OnOk result ((D.view disk.new).appended ≡ (D.view disk.old).appended + length_added self.old count) }
+        ensures read { IsTrue D.tells → (D.view disk.new).bytes_read ≡ (D.view disk.old).bytes_read }
+        ensures touches { IsTrue D.tells → TouchesOnly (same_name (Page self.old.number)) (D.view disk.old) (D.view disk.new) }
+        ensures settled { IsTrue D.tells → OnOk result (IsSettled (D.view disk.old).state → IsSettled (D.view disk.new).state) }
+        ensures cause { HasCause (D.faults disk.old) (D.faults disk.new) result }
+        ensures no_bad_page { NoBadPage result }
+    {
+        self.append_next(alloc, disk, pages)?;
+        self.added += count;
         Ok(())
     }
 
@@ -118,22 +151,22 @@ impl PageWriter {
         Ok(PageFile::new(self.number, self.index))
     }
 
-    // Appends the next page, and the index before the first one.
+    // Appends the next pages, and the index before the first one.
     fn append_next<D: Disk>(
         &self,
         alloc: Global,
         disk: &mut D,
-        page: &PageBytes,
+        pages: &[u8],
     ) -> Result<(), DiskError>
         requires { IsTrue D.tells → IsLoose (D.view disk.old).state (Page self.now.number) }
-        ensures does { IsTrue D.tells → Does (append (Page self.now.number) (text_added self.now page.now)) result (D.view disk.old) (D.view disk.new) }
+        ensures does { IsTrue D.tells → Does (append (Page self.now.number) (text_added self.now pages.now)) result (D.view disk.old) (D.view disk.new) }
         ensures cause { DiskCause (D.faults disk.old) (D.faults disk.new) result }
     {
         let name = Name::Page(self.number);
         if self.added > 0 {
-            return disk.append(alloc, name, page);
+            return disk.append(alloc, name, pages);
         }
-        match self.index.text_with(alloc, page) {
+        match self.index.text_with(alloc, pages) {
             Ok(text) => disk.append(alloc, name, text.bytes()),
             Err(NoMemory) => Err(DiskError::Memory),
         }

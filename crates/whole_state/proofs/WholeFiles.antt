@@ -70,8 +70,8 @@ appends_only n old new appended read = record { appended = appended; read_least 
 taken_more : (i : ℕ) (memory : Bytes) → take (i * 4096) memory ++ take 4096 (drop (i * 4096) memory) ≡ take ((i + 1) * 4096) memory
 taken_more i memory = let e : (i + 1) * 4096 ≡ i * 4096 + 4096 = omega arith in sym (ap (λ (n : ℕ). take n memory) e ∙ take-add (i * 4096) 4096 memory)
 
-more_so_far : (i : ℕ) (first writer : UnfinishedFile) → writer ≡ record first { added = i } → file_so_far i first.index + length_added writer ≡ file_so_far (i + 1) first.index
-more_so_far i first writer is = subst (λ (w : UnfinishedFile). file_so_far i first.index + length_added w ≡ file_so_far (i + 1) first.index) (sym is) (elim (cases_Bool (i == 0)) [
+more_so_far : (i : ℕ) (first writer : UnfinishedFile) → writer ≡ record first { added = i } → file_so_far i first.index + length_added writer 1 ≡ file_so_far (i + 1) first.index
+more_so_far i first writer is = subst (λ (w : UnfinishedFile). file_so_far i first.index + length_added w 1 ≡ file_so_far (i + 1) first.index) (sym is) (elim (cases_Bool (i == 0)) [
   | inl none ↦ rw (none, later) (omega (arith, eqb-true i 0 none))
   | inr some ↦ rw (some, later) (omega arith)
 ])
@@ -82,7 +82,7 @@ more_so_far i first writer is = subst (λ (w : UnfinishedFile). file_so_far i fi
 -- one page more
 pub adds_more : (memory page : Bytes) (i : ℕ) (first writer next : UnfinishedFile) (old mid new : DiskView) → writer ≡ record first { added = i } → page ≡ take 4096 (drop (i * 4096) memory)
     → IsLoose new.state (Page writer.number) → ((pages : Bytes) → IsWriting writer pages mid.state → IsWriting next (pages ++ page) new.state)
-    → TouchesOnly (same_name (Page writer.number)) mid new → (IsSettled mid.state → IsSettled new.state) → Spends (length_added writer) 0 mid new
+    → TouchesOnly (same_name (Page writer.number)) mid new → (IsSettled mid.state → IsSettled new.state) → Spends (length_added writer 1) 0 mid new
     → AddsPages memory i first writer old mid → AddsPages memory (i + 1) first next old new
 adds_more memory page i first writer next old mid new is page_is loose added touches settled spends so_far =
     let number : writer.number ≡ first.number = ap (λ (w : UnfinishedFile). w.number) is in
@@ -91,7 +91,7 @@ adds_more memory page i first writer next old mid new is page_is loose added tou
       written = λ was. subst (λ (bytes : Bytes). IsWriting next bytes new.state) (ap (λ (p : Bytes). take (i * 4096) memory ++ p) page_is ∙ taken_more i memory) (added (take (i * 4096) memory) (so_far.written was));
       touches = touches_then (same_name (Page first.number)) old mid new so_far.touches (subst (λ (n : ℕ). TouchesOnly (same_name (Page n)) mid new) number touches);
       settled = λ was. settled (so_far.settled was);
-      spends = subst (λ (n : ℕ). Spends n 0 old new) (more_so_far i first writer is) (spends_then (file_so_far i first.index) (length_added writer) 0 0 old mid new so_far.spends spends);
+      spends = subst (λ (n : ℕ). Spends n 0 old new) (more_so_far i first writer is) (spends_then (file_so_far i first.index) (length_added writer 1) 0 0 old mid new so_far.spends spends);
     }
 
 pub adds_then : (memory : Bytes) (i : ℕ) (first writer : UnfinishedFile) (old mid new : DiskView) → writer ≡ record first { added = i } → TouchesOnly (same_name (Page writer.number)) mid new → AddsPages memory i first writer old mid

@@ -14,7 +14,7 @@ loop-place-preserved g c = record {
   so_far = λ told.
       adds_more c.args.memory.now c.copy_from_slice.new.self c.loop-place.place c.args.writer.now c.loop-place.writer c.add.new.self _ _ _ c.loop-place.invariant.writer
       (one_page c.args.memory.now c.copy_from_slice.new.self (c.loop-place.place * 4096) c.copy_from_slice.ensures.after)
-      (c.in_ok-add.ensures.there told) (c.in_ok-add.ensures.added told) (c.add.ensures.touches told) (c.in_ok-add.ensures.settled told) (appends_only (length_added c.loop-place.writer) _ _ (c.in_ok-add.ensures.appended told) (c.add.ensures.read told)) (c.loop-place.invariant.so_far told);
+      (c.in_ok-add.ensures.there told) (c.in_ok-add.ensures.added told) (c.add.ensures.touches told) (c.in_ok-add.ensures.settled told) (appends_only (length_added c.loop-place.writer 1) _ _ (c.in_ok-add.ensures.appended told) (c.add.ensures.read told)) (c.loop-place.invariant.so_far told);
 }
 
 pub returns-clause-spends : goal.returns-clause-spends

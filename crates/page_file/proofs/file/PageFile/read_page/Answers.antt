@@ -1,15 +1,7 @@
-use Rattle.std.proofs.Common.{◌+◌, ◌*◌, ◌∙◌, ap, length}
-use Rattle.page_spec.specs.PageFile.{PageIndex, index_length}
-use Rattle.page_file.specs.Files.{NumberedFile}
-use Rattle.page_file.proofs.Opened.{page_is_there, page_read}
+use Rattle.std.proofs.Common.{ℕ, OnOk, subst}
+use Rattle.page_file.specs.Files.{ReadsFrom}
 use Rattle.page_file.proofs.file.PageFile.read_page.Goals as goal
 
-pub read-requires : goal.read-requires
-read-requires g c = λ told.
-    page_is_there (g.D.Disk.view c.args.disk.now).state.files c.args.self.now c.self.inside.number c.args.place c.offset.result (length c.args.into.now) (c.requires.kept told) (ap (λ (f : NumberedFile). f.number) c.self.view_is)
-    c.told-into (c.offset.ensures ∙ ap (λ (i : PageIndex). index_length i + 4096 * c.args.place) c.deref.ensures ∙ ap (λ (f : NumberedFile). index_length f.index + 4096 * c.args.place) c.self.view_is) c.requires.place
-
 pub returns-clause-page : goal.returns-clause-page
-returns-clause-page g c = λ told pages has.
-    page_read (g.D.Disk.view c.args.disk.now).state.files c.self.inside.number c.args.place c.offset.result (length c.args.into.now) c.args.self.now.index pages c.read.new.into c.args.self.now has (ap (λ (f : NumberedFile). f.number) c.self.view_is)
-    c.told-into (c.offset.ensures ∙ ap (λ (i : PageIndex). index_length i + 4096 * c.args.place) c.deref.ensures ∙ ap (λ (f : NumberedFile). index_length f.index + 4096 * c.args.place) c.self.view_is) (c.in_ok-read.ensures.bytes told)
+returns-clause-page g c = λ told.
+    subst (λ (size : ℕ). OnOk c.read_pages.result (ReadsFrom (g.D.Disk.view c.args.disk.now).state.files c.args.self.now c.args.place size c.read_pages.new.into)) c.told-into (c.read_pages.ensures.pages told)

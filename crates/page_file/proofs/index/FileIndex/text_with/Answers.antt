@@ -23,4 +23,4 @@ returns c =
     (c.len-ranges.ensures ∙ sym c.deref.ensures.len ∙ ap length c.deref.ensures.value) c.in_ok-write.ensures
     (c.in_ok-write_ranges.ensures ∙ ap (λ rs. c.write.new.out ++ text_of rs) c.deref.ensures.value)
     ∙ ap (λ (l : Bytes). l ++ index_text c.args.self.now) c.in_ok-text.ensures in
-    c.into_blob.ensures ∙ c.in_ok-bytes.ensures ∙ ap (λ (l : Bytes). l ++ c.args.page.now) front
+    c.into_blob.ensures ∙ c.in_ok-bytes.ensures ∙ ap (λ (l : Bytes). l ++ c.args.pages.now) front
