@@ -1,1 +1,3 @@
 pub mod Newest
+pub mod Unions
+pub mod RunBytes

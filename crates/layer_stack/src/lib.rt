@@ -2,9 +2,17 @@
 #![tactic(auto)]
 
 mod laws;
+mod merging;
+mod runs;
 mod stack;
+mod union;
 
-pub use laws::{a_page_reads_as_one, files_that_agree_have_the_same_layers, kept_files_are_layers};
+pub use laws::{
+    files_that_agree_have_the_same_layers, kept_files_are_layers,
+    layers_that_read_as_before_may_be_replaced, pages_read_as_one,
+    replaced_files_are_replaced_layers,
+};
+pub use merging::plan;
 pub use stack::Stack;
 
 #[cfg(test)]

@@ -1,5 +1,5 @@
 //! Layers of one memory.
-ghost use Rattle.std.specs.Prelude.{◌≡◌, ◌<◌, ◌≤◌, ◌++◌, [], ◌∷◌, List, length, reverse, replicate, false, is_some, slice_index, IsTrue, OnOk, OnErr, IfOk};
+ghost use Rattle.std.specs.Prelude.{◌≡◌, ◌<◌, ◌≤◌, ◌++◌, [], ◌∷◌, List, length, drop, reverse, replicate, false, is_some, slice_index, IsTrue, OnOk, OnErr, IfOk};
 ghost use Rattle.std.specs.List.{AllByRecursion};
 ghost use Rattle.format_spec.specs.declared.limits.TheConstants.{PAGE_SIZE, MAX_LAYERS};
 ghost use Rattle.disk_model.specs.Looking.{OnlyLooks};
@@ -17,7 +17,7 @@ use std::marker::Model;
 /// Layers of one memory, oldest first, each a page file. At most `MAX_LAYERS`.
 #[derive(Debug, Drop)]
 pub struct Stack {
-    layers: Vec<PageFile>,
+    pub(crate) layers: Vec<PageFile>,
 }
 
 // Contracts see the list of page files.
@@ -47,8 +47,17 @@ impl Stack {
     pub fn copy(&self, alloc: Global) -> Result<Stack, NoMemory>
         ensures { IfOk result (λ stack. stack ≡ self.now) }
     {
-        let mut layers = Vec::with_capacity(alloc, self.layers.len())?;
-        for file in &self.layers {
+        self.above(alloc, 0)
+    }
+
+    /// The layers from this one on, counted from the oldest as 0. NoMemory where memory runs out.
+    pub fn above(&self, alloc: Global, from: u32) -> Result<Stack, NoMemory>
+        requires { from ≤ length self.now }
+        ensures { IfOk result (λ stack. stack ≡ drop from self.now) }
+    {
+        let upper = &self.layers[from as usize..];
+        let mut layers = Vec::with_capacity(alloc, upper.len())?;
+        for file in upper {
             layers.push(file.copy(alloc)?)?;
         }
         Ok(Stack { layers })
@@ -81,7 +90,8 @@ impl Stack {
     /// How many pages this layer has, counted from the oldest as 0.
     pub fn size(&self, i: u32) -> u32
         requires { i < length self.now }
-        ensures { result ≡ slice_index (sizes_of self.now) i }
+        ensures size { result ≡ slice_index (sizes_of self.now) i }
+        ensures some { 1 ≤ result }
     {
         self.layers[i as usize].index().count()
     }
@@ -136,7 +146,7 @@ impl Stack {
     }
 
     // The index of the newest layer that has this page, and the page's place in it. `None` exactly where no layer has it.
-    fn layer_with(&self, page: u32) -> Option<(usize, u32)>
+    pub(crate) fn layer_with(&self, page: u32) -> Option<(usize, u32)>
         ensures { FindsLayer self.now page result }
     {
         for i in (0..self.layers.len()).rev() {
