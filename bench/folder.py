@@ -36,8 +36,8 @@ def page_file(memory_pages, pages):
         else:
             ranges.append([number, 1])
     places = [sum(length for _, length in ranges[:index]) for index in range(len(ranges))]
-    return b"".join([b"ICPF", be(4, 1), be(4, len(pages) == memory_pages), be(4, memory_pages), be(4, len(ranges)), be(4, len(pages)),
-                     be(8, 32 + 12 * len(ranges) + PAGE * len(pages)),
+    return b"".join([b"ICPF", be(4, 1), be(4, len(pages) == memory_pages), be(4, memory_pages), be(4, len(ranges)),
+                     be(4, len(pages)), be(8, 32 + 12 * len(ranges) + PAGE * len(pages)),
                      *(be(4, first) + be(4, length) + be(4, place) for (first, length), place in zip(ranges, places)),
                      *(pages[number] for number in sorted(pages))])
 
@@ -82,7 +82,8 @@ def random_layers(rng, content):
             chosen = [number for number in pages if number in chosen or (number not in hidden and any(pages[number]))]
         if chosen:
             size = rng.choice([len(pages), chosen[-1] + 1])
-            layers.insert(0, (size, {number: rng.randbytes(PAGE) if number in hidden else pages[number] for number in chosen}))
+            inside = {number: rng.randbytes(PAGE) if number in hidden else pages[number] for number in chosen}
+            layers.insert(0, (size, inside))
             hidden.update(chosen)
     return layers
 
@@ -107,7 +108,7 @@ class Folder:
         numbers = []
         for layer in random_layers(self.rng, content):
             same = [number for number, other in self.files.items() if other == layer and number not in numbers]
-            number = same[0] if same else len(self.files) ^ self.rng.choice([0, 0, 2**32, 2**62])
+            number = same[0] if same else len(self.files) ^ self.rng.choice([0, 0, 2**32, 2**64 - 1])
             if number not in self.files:
                 self.files[number] = layer
                 put(path_of(self.path, "page", number), page_file(*layer))
@@ -168,7 +169,8 @@ def fault_of(folder, published):
             for number in numbers:
                 file = got(path_of(folder, "page", number))
                 size, inside = read_page_file(file)
-                if file != page_file(size, inside) or len(file) != int.from_bytes(file[24:32], "big") or size > len(content) // PAGE:
+                whole = file == page_file(size, inside) and len(file) == int.from_bytes(file[24:32], "big")
+                if not whole or size > len(content) // PAGE:
                     return f"the bytes of page file {number}"
                 pages.update(inside)
             if any(pages.get(number, bytes(PAGE)) != page for number, page in enumerate(parts(content, PAGE))):

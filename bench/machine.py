@@ -92,8 +92,8 @@ def manifest_of(state):
     """The text of the manifest, and its numbers of files and of chunks."""
     files, chunks = [], []
     for number, (name, content) in enumerate(files_of(state)):
-        rows = [be(4, len(chunk)) + be(8, CHUNK * index) + chunk_hash
-                for index, (chunk, chunk_hash) in enumerate(zip(parts(content, CHUNK), chunk_hashes(content)))]
+        hashes = enumerate(zip(parts(content, CHUNK), chunk_hashes(content)))
+        rows = [be(4, len(chunk)) + be(8, CHUNK * index) + chunk_hash for index, (chunk, chunk_hash) in hashes]
         files.append(sized(1, name) + be(8, len(content)) + sha(dsep("ic-state-file"), be(4, len(rows)), *rows))
         chunks += [be(4, number) + row for row in rows]
     text = b"".join([b"ICMF", be(4, 1), be(4, len(files)), *files, be(4, len(chunks)), *chunks])
@@ -353,9 +353,9 @@ FORMS = {
     "root": [live_or_height], "scratch": [live_or_height], "tree": [live_or_height], "manifest": [live_or_height],
     "witness": [live_or_height, paths], "check": [root, string, path],
 }
-REFUSALS = ["BadLine", "Exists", "ManyCanisters", "NoCanister", "MemoryFull", "StateFull", "Reserved", "PathConflict", "TreeFull",
-            "NoPath", "NoHeight", "PastEnd", "ManyHeights", "HeightLimit", "HeightLow", "ManyMarks", "LastHeight", "BadWitness",
-            "WrongRoot"]
+REFUSALS = ["BadLine", "Exists", "ManyCanisters", "NoCanister", "MemoryFull", "StateFull", "Reserved", "PathConflict",
+            "TreeFull", "NoPath", "NoHeight", "PastEnd", "ManyHeights", "HeightLimit", "HeightLow", "ManyMarks", "LastHeight",
+            "BadWitness", "WrongRoot"]
 
 
 def command(line):

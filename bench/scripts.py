@@ -4,8 +4,8 @@ import random
 import string
 
 import machine as plain
-from machine import (EMPTY, FORK, LABELED, LEAF, MAX_CANISTERS, MAX_ENTRIES, MAX_HEIGHT, MAX_LINE, MAX_LINES, MAX_MEMORY_PAGES, PAGE, PRUNED, CHUNK,
-                     Machine, cbor, nested_map, pruned, tree_hash, tree_of)
+from machine import (CHUNK, EMPTY, FORK, LABELED, LEAF, MAX_CANISTERS, MAX_ENTRIES, MAX_HEIGHT, MAX_LINE, MAX_LINES,
+                     MAX_MEMORY_PAGES, PAGE, PRUNED, Machine, cbor, nested_map, pruned, tree_hash, tree_of)
 
 # How often a line comes, beside the others.
 USUAL = {"canister": 6, "drop": 1, "grow": 5, "write": 10, "module": 4, "certify": 3, "time": 3, "put": 9, "del": 3, "read": 10,
@@ -76,8 +76,8 @@ class Script:
         return "live" if self.chance(0.5) else self.height()
 
     def label(self):
-        return self.rng.choice([b"a", b"b", b"c", b"ab", b"a.b", b"A_-9", b"x" * 64, b"\0", b"0x", b"\xff" * 64, b"time", b"canister",
-                                self.content(1, 2, 23, 24, 64)])
+        return self.rng.choice([b"a", b"b", b"c", b"ab", b"a.b", b"A_-9", b"x" * 64, b"\0", b"0x", b"\xff" * 64, b"time",
+                                b"canister", self.content(1, 2, 23, 24, 64)])
 
     def path(self):
         """Often one that is there, with a label more, less or another at its end."""
@@ -234,7 +234,8 @@ class Script:
             if len(labels) > 1 and kind < 0.9:
                 half = self.rng.randrange(1, len(labels))
                 return FORK, fork(labels[:half]), fork(labels[half:])
-            return self.rng.choice([(EMPTY,), (LEAF, self.content(0, 1, 23, 24, 300)), pruned((EMPTY,)), (PRUNED, self.content(32, 32, 31))])
+            return self.rng.choice([(EMPTY,), (LEAF, self.content(0, 1, 23, 24, 300)), pruned((EMPTY,)),
+                                    (PRUNED, self.content(32, 32, 31))])
 
         return fork(labels)
 
@@ -249,9 +250,10 @@ class Script:
 
     def spoiled_text(self, text):
         at = self.rng.randrange(len(text))
-        return self.rng.choice([text[:at], text + self.content(1, 2), text[:at] + bytes([text[at] ^ 1 << self.rng.randrange(8)]) + text[at + 1:],
-                                text[:at] + self.content(1) + text[at:], text[at:], b"", b"\xd9\xd9\xf7" + text,
-                                text.replace(b"\x41", b"\x58\x01", 1), text.replace(b"\x58\x20", b"\x59\x00\x20", 1)])
+        changed = text[:at] + bytes([text[at] ^ 1 << self.rng.randrange(8)]) + text[at + 1:]
+        return self.rng.choice([text[:at], text + self.content(1, 2), changed, changed, text[:at] + self.content(1) + text[at:],
+                                text[at:], b"", b"\xd9\xd9\xf7" + text, text.replace(b"\x41", b"\x58\x01", 1),
+                                text.replace(b"\x58\x20", b"\x59\x00\x20", 1)])
 
     # Lines that are silent or that fit no form.
 
@@ -271,20 +273,23 @@ class Script:
         elif kind == 2:
             words += self.rng.choice([[b""], [b"/a"] * 64, [b"\r"]])
         elif kind == 3:
-            words[at] = self.rng.choice([word[:-1], word + b"0", word + word, b"0" + word, b"+" + word, b" " + word, word + b"\t", word + b"\r",
-                                         word + b"\0", word.upper(), word.title(), b"-" + word, word + b"/"])
+            words[at] = self.rng.choice([word[:-1], word + b"0", word + word, b"0" + word, b"+" + word, b" " + word, word + b"\t",
+                                         word + b"\r", word + b"\0", word.upper(), word.title(), b"-" + word, word + b"/"])
         else:
             words[at] = self.rng.choice(WRONG)
         return b" ".join(words)
 
 
 # Words that are of no kind, or of another one, or just of it.
-WRONG = [b"", b"-", b"--", b"0", b"00", b"01", b"-1", b"+1", b"1.0", b"0x1", b"%d" % (2**64 - 1), b"%d" % 2**64, b"%d" % (2**64 + 1), b"9" * 20, b"9" * 5000,
-         b"%d" % MAX_HEIGHT, b"%d" % (MAX_HEIGHT + 1), b"65536", b"65537", b"live", b"LIVE", b"lives", b"heap", b"Heap", b"heaps", b"stable", b"none",
-         b"None", b"a", b"abc", b"AB", b"aB", b"zz", b"ab" * 29, b"ab" * 30, b"ab" * 32, b"ab" * 31 + b"a", b"AB" * 32, b"ab" * 33, b"ab" * 1024,
-         b"ab" * 1025, b"ab" * 16384, b"ab" * 16385, b"/", b"//", b"/a/", b"a", b"a/b", b"/a//b", b"/0x", b"/0x0", b"/0x00", b"/0xAB", b"/0Xab", b"/0xzz",
-         b"/" + b"a" * 64, b"/" + b"a" * 65, b"/0x" + b"61" * 64, b"/0x" + b"61" * 65, b"/a" * 8, b"/a" * 9, b"/-", b"/.", b"/..", b"/_", b"/a b", b"/a\tb",
-         b"/\xc3\xa4", b"/a+", b"/0", b"/x0x", b"\xff", b"\0", b"canister", b"Canister", b"heights", b"merge", b"version", b"#", b"\r"]
+WRONG = [
+    b"", b"-", b"--", b"0", b"00", b"01", b"-1", b"+1", b"1.0", b"0x1", b"9" * 20, b"9" * 5000, b"65536", b"65537",
+    *(b"%d" % number for number in [2**64 - 1, 2**64, 2**64 + 1, MAX_HEIGHT, MAX_HEIGHT + 1]),
+    b"live", b"LIVE", b"lives", b"heap", b"Heap", b"heaps", b"stable", b"none", b"None", b"canister", b"Canister", b"merge",
+    b"a", b"abc", b"AB", b"aB", b"zz", b"ab" * 31 + b"a", b"AB" * 32,
+    *(b"ab" * count for count in [29, 30, 32, 33, 1024, 1025, 16384, 16385]),
+    b"/", b"//", b"/a/", b"a/b", b"/a//b", b"/-", b"/.", b"/..", b"/_", b"/0", b"/a b", b"/a\tb", b"/\xc3\xa4", b"/a+",
+    b"/a" * 8, b"/a" * 9, b"/0x", b"/0x0", b"/0x00", b"/0xAB", b"/0Xab", b"/0xzz", b"/x0x", b"/0x" + b"61" * 64, b"/0x" + b"61" * 65,
+    b"/" + b"a" * 64, b"/" + b"a" * 65, b"\xff", b"\0", b"#", b"\r"]
 
 
 # Cases.
@@ -292,7 +297,7 @@ WRONG = [b"", b"-", b"--", b"0", b"00", b"01", b"-1", b"+1", b"1.0", b"0x1", b"%
 class Case:
     """Scripts that are run one after another in one folder, each a list of lines with their line feeds. Where `begin` is a height,
     the first script is not run: the heights that the machine publishes by it, live being that height at first, are written into
-    the folder. Where `damaged`, a run over the damaged folder comes before the others. With words on the command line nothing is taken."""
+    the folder. Where `damaged`, a run over the damaged folder comes before the others."""
 
     def __init__(self, seed):
         self.seed, self.rng = seed, random.Random(seed)
@@ -365,7 +370,8 @@ class Case:
 
     def make_entries(self):
         """About as many entries as there may be."""
-        lines = [f"put /{number // 100:x}/{number:x} {number % 256:02x}" for number in range(MAX_ENTRIES - self.rng.randrange(4))]
+        count = MAX_ENTRIES - self.rng.randrange(4)
+        lines = [f"put /{number // 100:x}/{number:x} {number % 256:02x}" for number in range(count)]
         self.rng.shuffle(lines)
         self.run({**LARGE, "put": 40}, *lines, "root live", "round", "checkpoint", "witness 1 /a/3e8 /a/3e /0 /time")
         self.run({**LARGE, "put": 40}, "tree live")
@@ -374,10 +380,10 @@ class Case:
         """About as many pages as there may be."""
         lines = [f"canister {name:02x}" for name in range(3)]
         lines += ["grow 00 heap 65536", "grow 00 stable 65536", "grow 01 heap 65536", "grow 01 heap 1", "grow 01 heap 0"]
-        lines += [f"grow 02 stable {self.rng.choice([1, 2])}", f"grow 01 stable {self.rng.choice([65533, 65534])}", "grow 01 stable 65536"]
-        lines += ["grow 01 stable 1", "write 01 stable 268431359 0102", "write 02 heap 0 -", "write 02 heap 0 01", "grow 02 heap 0"]
-        lines += ["grow 02 stable 1", "grow 02 stable 65537", "write 00 stable 268435455 07", "read live 00 stable 268435454 2"]
-        lines += ["read live 00 stable 268435455 2", "drop 01", "grow 02 heap 1"]
+        lines += [f"grow 02 stable {self.rng.choice([1, 2])}", f"grow 01 stable {self.rng.choice([65533, 65534])}"]
+        lines += ["grow 01 stable 65536", "grow 01 stable 1", "write 01 stable 268431359 0102", "write 02 heap 0 -"]
+        lines += ["write 02 heap 0 01", "grow 02 heap 0", "grow 02 stable 1", "grow 02 stable 65537", "write 00 stable 268435455 07"]
+        lines += ["read live 00 stable 268435454 2", "read live 00 stable 268435455 2", "drop 01", "grow 02 heap 1"]
         self.run({"heights": 1}, *lines, count=3)
 
     def make_long_lines(self):
@@ -409,5 +415,6 @@ class Case:
 
 
 # The kinds of cases, in turn.
-KINDS = (["heights", "live", "trees", "folder", "pages", "trees", "damaged", "words", "heights", "folder"] * 10)
-KINDS[3::10] = ["folder", "canisters", "folder", "entries", "full", "folder", "long_lines", "many_lines", "long_lines", "command_line"]
+KINDS = ["heights", "live", "trees", "folder", "pages", "trees", "damaged", "words", "heights", "folder"] * 10
+KINDS[3::10] = ["folder", "canisters", "folder", "entries", "full", "folder", "long_lines", "many_lines", "long_lines",
+                "command_line"]
