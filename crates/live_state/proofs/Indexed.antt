@@ -9,7 +9,7 @@ use Rattle.std.proofs.Common.{Some}
 use Rattle.std.specs.FinMap.{find}
 use Rattle.format_spec.specs.Bytes.{bytes_cmp}
 use Rattle.sys_state.specs.Calls.{pages_of, with_more_pages, newborn, Creates, Removes, Changes}
-use Rattle.sys_state.specs.Places.{place_of, Stands}
+use Rattle.state_spec.specs.Places.{place_of, Stands}
 use Rattle.sys_state.specs.System.{System}
 use Rattle.sys_state.specs.declared.mem.Mem.{Mem}
 use Rattle.sys_state.specs.declared.mem.Mem.TheVariants.{Heap, Stable}

@@ -8,7 +8,7 @@ use Rattle.std.specs.Option.{is_some, option_map}
 use Rattle.format_spec.specs.Bytes.{Bytes, bytes_cmp}
 use Rattle.state_spec.specs.State.{State, Canister, without}
 use Rattle.sys_state.specs.Calls as calls
-use Rattle.sys_state.specs.Places.{place_of}
+use Rattle.state_spec.specs.Places.{place_of}
 use Rattle.sys_state.specs.System.{System, kept_of, record_of}
 use Rattle.sys_state.specs.declared.record.CanisterRecord.{CanisterRecord}
 use Rattle.machine_spec.specs.Machine.{Machine}

@@ -8,7 +8,7 @@ use Rattle.format_spec.specs.Bytes.{Bytes, bytes_cmp, path_cmp}
 use Rattle.format_spec.specs.declared.limits.TheConstants.{MAX_CANISTERS, MAX_ENTRIES}
 use Rattle.state_spec.specs.State.{is_reserved, has_conflict}
 use Rattle.sys_state.specs.Calls as calls
-use Rattle.sys_state.specs.Places.{place_of}
+use Rattle.state_spec.specs.Places.{place_of}
 use Rattle.sys_state.specs.System.{System}
 use Rattle.sys_state.specs.declared.error.SysError.TheVariants as errors
 use Rattle.script_text.specs.declared.reply.Reply.{Reply}

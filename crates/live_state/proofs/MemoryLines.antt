@@ -12,7 +12,7 @@ use Rattle.script_text.specs.declared.reply.Reply.TheVariants as replies
 use Rattle.state_spec.specs.Memory.{read, grow, write, zeros, pages_for}
 use Rattle.state_spec.proofs.Memories.{grow_pages, write_pages, write_bytes, write_none}
 use Rattle.sys_state.specs.Calls as calls
-use Rattle.sys_state.specs.Places.{place_of, Stands}
+use Rattle.state_spec.specs.Places.{place_of, Stands}
 use Rattle.sys_state.specs.System as systems
 use Rattle.sys_state.specs.System.{System, kept_of, record_of, part_of_record}
 use Rattle.sys_state.specs.declared.error.SysError.{SysError}

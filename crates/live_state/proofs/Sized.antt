@@ -10,7 +10,7 @@ use Rattle.state_spec.specs.State.{Memory}
 use Rattle.state_spec.specs.Memory.{zeros, pages_for}
 use Rattle.state_spec.proofs.Memories.{write_length}
 use Rattle.sys_state.specs.Calls as calls
-use Rattle.sys_state.specs.Places.{place_of, Stands}
+use Rattle.state_spec.specs.Places.{place_of, Stands}
 use Rattle.sys_state.specs.System.{System}
 use Rattle.sys_state.specs.declared.error.SysError.{SysError}
 use Rattle.sys_state.specs.declared.mem.Mem.{Mem}

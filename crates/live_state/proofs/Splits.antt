@@ -8,7 +8,7 @@ use Rattle.std.specs.Ordering.{is_lt, eq_by_cmp}
 use Rattle.std.specs.declared.cmp.Ordering.{Ordering}
 use Rattle.std.specs.declared.cmp.Ordering.TheVariants.{Less, Equal, Greater}
 use Rattle.format_spec.specs.Bytes.{Bytes, bytes_cmp}
-use Rattle.sys_state.proofs.Places.{parted, put_stands, put_absent, find_before, find_here, without_before, without_here, Below, Above}
+use Rattle.state_spec.proofs.Places.{parted, put_stands, put_absent, find_before, find_here, without_before, without_here, Below, Above}
 use Rattle.state_spec.specs.State.{without}
 
 as_true : (b : Bool) → T b → b ≡ true

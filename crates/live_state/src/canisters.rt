@@ -3,7 +3,7 @@
 ghost use Rattle.std.specs.Prelude.{◌≡◌, ◌*◌, ◌∷◌, ◌++◌, [], map, take, drop, length, vec_len};
 ghost use Rattle.format_spec.specs.Bytes.{bytes_cmp};
 ghost use Rattle.sys_state.specs.Calls.{Creates, Removes, create_refusal, find_refusal, newborn};
-ghost use Rattle.sys_state.specs.Places.{place_of};
+ghost use Rattle.state_spec.specs.Places.{place_of};
 ghost use Rattle.live_state.specs.Changes.{Alters};
 
 use crate::memories::{insert_pair, remove_pair};

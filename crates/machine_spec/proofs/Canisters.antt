@@ -1,15 +1,14 @@
 -- What a change of one canister leaves of what is so of each memory of a state.
 use Rattle.std.proofs.Common.{◌≡◌, Bool, true, false, cond, T, List, [], ◌∷◌, Some, refl, sym, subst, is_eq, not}
 use Rattle.std.specs.List.{AllByRecursion, flat_map}
-use Rattle.std.specs.Cmp.{IsTotalOrder}
-use Rattle.std.specs.Cmp.Lexicographic.{nat_list_cmp_total}
-use Rattle.std.specs.FinMap.{find, put, is_sorted, IsAntisymmetric, nat_cmp-IsAntisymmetric, slice_cmp-IsAntisymmetric}
+use Rattle.std.specs.FinMap.{find, put, is_sorted}
 use Rattle.std.specs.FinMap.Entries.{by_order, is_sorted-put, is_sorted-where_key}
 use Rattle.std.specs.Ordering.{eq_by_cmp}
 use Rattle.std.specs.declared.cmp.Ordering.{Ordering}
 use Rattle.std.specs.declared.cmp.Ordering.TheVariants.{Less, Equal, Greater}
 use Rattle.format_spec.specs.Bytes.{Bytes, bytes_cmp, same_bytes}
 use Rattle.state_spec.specs.State.{Canister, Memory, without}
+use Rattle.state_spec.proofs.Keys.{ids_apart, ids_total}
 use Rattle.sys_state.specs.declared.mem.Mem.{Mem}
 use Rattle.sys_state.specs.declared.mem.Mem.TheVariants.{Heap, Stable}
 use Rattle.machine_spec.specs.States.{NamedMemory, canister_memories, memory_of, with_memory}
@@ -20,12 +19,6 @@ Canisters = List (Bytes × Canister)
 
 abbrev pub memories_in : Canisters → List NamedMemory
 memories_in cs = flat_map canister_memories cs
-
-pub ids_total : IsTotalOrder bytes_cmp
-ids_total = nat_list_cmp_total
-
-pub ids_apart : IsAntisymmetric bytes_cmp
-ids_apart = slice_cmp-IsAntisymmetric nat_cmp-IsAntisymmetric
 
 equal : (o : Ordering) → is_eq o ≡ true → o ≡ Equal
 equal Less e = absurd cc

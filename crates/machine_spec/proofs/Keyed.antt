@@ -8,8 +8,8 @@ use Rattle.std.specs.List.{AllByRecursion}
 use Rattle.std.specs.Ordering.{eq_by_cmp, is_eq}
 use Rattle.std.specs.declared.cmp.Ordering.{Ordering}
 use Rattle.std.specs.declared.cmp.Ordering.TheVariants.{Less, Equal, Greater}
-use Rattle.sys_state.specs.Places.{Stands, IsAbsent}
-use Rattle.sys_state.proofs.Places.{above_from_sorted, absent, less_from_greater, parted, stands}
+use Rattle.state_spec.specs.Places.{Stands, IsAbsent}
+use Rattle.state_spec.proofs.Places.{above_from_sorted, absent, less_from_greater, parted, stands}
 use Rattle.machine_spec.proofs.Lists.{some_is, weaker}
 
 equal : (o : Ordering) → is_eq o ≡ true → o ≡ Equal

@@ -5,7 +5,7 @@ use Rattle.std.specs.FinMap.{find, put}
 use Rattle.std.proofs.lemmas.Bool.{leb-false, ltb-false}
 use Rattle.format_spec.specs.Bytes.{Bytes, bytes_cmp, path_cmp}
 use Rattle.format_spec.specs.declared.limits.TheConstants.{PAGE_SIZE, MAX_CANISTERS, MAX_ENTRIES, MAX_MEMORY_PAGES, MAX_STATE_PAGES}
-use Rattle.state_spec.specs.State.{State, Canister, Memory, IsState, HasPageRounds, pages_in, pages_of, part_of, memory_limit, state_limit, is_reserved, has_conflict, without}
+use Rattle.state_spec.specs.State.{State, AreEntries, Canister, Memory, IsState, HasPageRounds, pages_in, pages_of, part_of, memory_limit, state_limit, is_reserved, has_conflict, without}
 use Rattle.state_spec.specs.Memory.{grow, write, no_memory}
 use Rattle.state_spec.proofs.Memories.{grow_bytes, grow_good, grow_keeps_rounds, grow_pages, grow_rounds, write_IsBytes, write_good, write_keeps_rounds}
 use Rattle.sys_state.specs.declared.mem.Mem.{Mem}
@@ -20,7 +20,7 @@ use Rattle.machine_spec.specs.LiveSteps.{canister_step, drop_step, grow_step, wr
 use Rattle.machine_spec.specs.Sound.{IsSound, IsWholeState, IsWithin, IsBornBy}
 use Rattle.machine_spec.proofs.Lists.{joined, parts}
 use Rattle.machine_spec.proofs.Canisters.{Canisters, of_found, with_one, without_one, with_other}
-use Rattle.machine_spec.proofs.Valid.{AreEntries, AreGood, IsGood, canisters_of, changed, created, entries_of, removed, time_of, valid_from}
+use Rattle.machine_spec.proofs.Valid.{AreGood, IsGood, canisters_of, changed, created, entries_of, removed, time_of, valid_from}
 use Rattle.machine_spec.proofs.ValidSteps.{Follows, all_pages_are, entry_gone, entry_set, new_pages, newborn_good, with_certified, with_new, with_wasm, written_few, written_pages}
 use Rattle.machine_spec.proofs.WrittenRounds.{write_each_round}
 

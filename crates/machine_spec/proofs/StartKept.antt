@@ -40,21 +40,7 @@ resumed_is_sound m s = by (newest m.published) refl
 
 empty_valid : IsState empty_state
 empty_valid = valid_from empty_state refl (omega arith) (record { few = omega arith; sorted = refl; each = tt; room = omega arith })
-    (record {
-      system = record {
-        time = omega arith;
-        few_canisters = omega arith;
-        ids_ascend = refl;
-        canisters_fit = tt;
-        pages_fit = omega arith;
-        few_entries = omega arith;
-        paths_ascend = refl;
-        paths_apart = refl;
-        entries_fit = tt;
-      };
-      canisters = tt;
-      entries = tt;
-    })
+    (record { few = omega arith; paths_ascend = refl; paths_apart = refl; fit = tt; bytes = tt })
 
 -- nothing is published where there is no newest height
 none_above : (ps : List Published) → newest ps ≡ None → AllByRecursion (λ p. p.height < 1) ps

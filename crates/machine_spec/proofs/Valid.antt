@@ -10,11 +10,10 @@ use Rattle.std.specs.declared.cmp.Ordering.{Ordering}
 use Rattle.std.specs.declared.cmp.Ordering.TheVariants.{Less, Equal, Greater}
 use Rattle.format_spec.specs.Bytes.{Bytes, bytes_cmp}
 use Rattle.format_spec.specs.declared.limits.TheConstants.{MAX_CANISTERS, MAX_STATE_PAGES}
-use Rattle.state_spec.specs.State.{State, Canister, CanisterPart, FitsCanister, IsSystem, IsMemory, IsByteCanister, IsByteEntry, IsState, all_pages, pages_in, part_of, system_of, without}
-use Rattle.sys_state.specs.System.{IsEntry, IsWithinLimits, system}
-use Rattle.sys_state.proofs.Kept.{is_sorted-over}
-use Rattle.sys_state.proofs.Places.{parted, put_stands}
-use Rattle.machine_spec.proofs.Canisters.{Canisters, ids_apart, ids_total, sorted_with, sorted_without}
+use Rattle.state_spec.specs.State.{State, Canister, CanisterPart, FitsCanister, IsSystem, IsMemory, IsByteCanister, AreEntries, IsState, all_pages, pages_in, part_of, system_of, without}
+use Rattle.state_spec.proofs.Keys.{ids_apart, ids_total, is_sorted-over}
+use Rattle.state_spec.proofs.Places.{parted, put_stands}
+use Rattle.machine_spec.proofs.Canisters.{Canisters, sorted_with, sorted_without}
 use Rattle.machine_spec.proofs.Keyed.{Found, found}
 use Rattle.machine_spec.proofs.Lists.{joined, kept, of_map, parts, to_map, weaker}
 
@@ -45,10 +44,6 @@ pub record AreGood (cs : Canisters) : Type 0 where
   pub each : AllByRecursion IsGood cs
   pub room : pages cs ≤ MAX_STATE_PAGES
 
--- the entries of a valid state are those of one without canisters
-abbrev pub AreEntries : List Entry → Type 0
-AreEntries es = IsWithinLimits (system 0 [] es)
-
 -- ---- from a state, and back
 
 goods_in : (cs : Canisters) → AllByRecursion (FitsCanister 1) (map part cs) → AllByRecursion (λ c. IsMemory c.1.heap × IsMemory c.1.stable) cs → AllByRecursion IsByteCanister cs → AllByRecursion IsGood cs
@@ -66,14 +61,6 @@ all_whole (c ∷ cs) all = ((all.0.heap, all.0.stable), all_whole cs all.1)
 all_bytes : (cs : Canisters) → AllByRecursion IsGood cs → AllByRecursion IsByteCanister cs
 all_bytes [] all = tt
 all_bytes (c ∷ cs) all = (all.0.bytes, all_bytes cs all.1)
-
-kept_entries : (es : List Entry) → AllByRecursion IsByteEntry es → AllByRecursion IsEntry es
-kept_entries [] all = tt
-kept_entries (e ∷ es) all = (record { path = all.0.path; value = all.0.value }, kept_entries es all.1)
-
-byte_entries : (es : List Entry) → AllByRecursion IsEntry es → AllByRecursion IsByteEntry es
-byte_entries [] all = tt
-byte_entries (e ∷ es) all = (record { path = all.0.path; value = all.0.value }, byte_entries es all.1)
 
 of_version : (s : State) → IsState s → IsSystem 1 (system_of s)
 of_version s valid = subst (λ (v : ℕ). IsSystem v (system_of s)) valid.version valid.system
@@ -99,19 +86,11 @@ module _ (s : State) (valid : IsState s) where
   entries_of =
       let all : IsSystem 1 (system_of s) = of_version s valid in
       record {
-        system = record {
-          time = omega arith;
-          few_canisters = omega arith;
-          ids_ascend = refl;
-          canisters_fit = tt;
-          pages_fit = omega arith;
-          few_entries = all.few_entries;
-          paths_ascend = all.paths_ascend;
-          paths_apart = all.paths_apart;
-          entries_fit = all.entries_fit;
-        };
-        canisters = tt;
-        entries = kept_entries s.entries valid.bytes.entries;
+        few = all.few_entries;
+        paths_ascend = all.paths_ascend;
+        paths_apart = all.paths_apart;
+        fit = all.entries_fit;
+        bytes = valid.bytes.entries;
       }
 
 pub valid_from : (s : State) → s.version ≡ 1 → s.time < 2 ^ 64 → AreGood s.canisters → AreEntries s.entries → IsState s
@@ -123,16 +102,16 @@ valid_from s version time good entries =
       ids_ascend = is_sorted-over bytes_cmp part_of s.canisters ∙ good.sorted;
       canisters_fit = all_fit s.canisters good.each;
       pages_fit = good.room;
-      few_entries = entries.system.few_entries;
-      paths_ascend = entries.system.paths_ascend;
-      paths_apart = entries.system.paths_apart;
-      entries_fit = entries.system.entries_fit;
+      few_entries = entries.few;
+      paths_ascend = entries.paths_ascend;
+      paths_apart = entries.paths_apart;
+      entries_fit = entries.fit;
     } in
     record {
       version = version;
       system = subst (λ (v : ℕ). IsSystem v (system_of s)) (sym version) all;
       memories = all_whole s.canisters good.each;
-      bytes = record { canisters = all_bytes s.canisters good.each; entries = byte_entries s.entries entries.entries };
+      bytes = record { canisters = all_bytes s.canisters good.each; entries = entries.bytes };
     }
 
 -- ---- pages

@@ -9,27 +9,26 @@ use Rattle.std.specs.Prelude.{IsTrue, get_or}
 use Rattle.format_spec.specs.Bytes.{Bytes, IsBytes, AreByteStrings, path_cmp}
 use Rattle.format_spec.specs.declared.limits.TheConstants.{MAX_ENTRIES, MAX_ID, MAX_MEMORY_PAGES, MAX_MODULE, MAX_CERTIFIED, MAX_VALUE, PAGE_SIZE}
 use Rattle.format_spec.proofs.ByteStrings.{by_test}
-use Rattle.state_spec.specs.State.{State, Canister, Memory, IsMemory, has_conflict, is_id, is_path, is_reserved, pages_in, pages_of, part_of, system_of, without}
+use Rattle.state_spec.specs.State.{State, AreEntries, Canister, Memory, IsMemory, has_conflict, is_id, is_path, is_reserved, pages_in, pages_of, part_of, system_of, without}
 use Rattle.state_spec.specs.Memory.{pages_for, write}
 use Rattle.state_spec.proofs.Memories.{write_none, write_pages}
-use Rattle.sys_state.specs.Id.{IsId}
-use Rattle.sys_state.specs.System.{IsWithinLimits, system}
+use Rattle.state_spec.specs.Id.{IsId}
 use Rattle.sys_state.specs.declared.mem.Mem.{Mem}
 use Rattle.sys_state.specs.declared.mem.Mem.TheVariants.{Heap, Stable}
-use Rattle.sys_state.proofs.Entries.{entry_deleted, entry_put, value_put}
-use Rattle.sys_state.proofs.Keys.{paths_apart, paths_total}
+use Rattle.state_spec.proofs.Entries.{entry_deleted, entry_put, value_put}
+use Rattle.state_spec.proofs.Keys.{paths_apart, paths_total}
 use Rattle.machine_spec.specs.States.{memory_of, newborn, pages_with, state_pages, with_memory}
 use Rattle.machine_spec.proofs.Keyed.{absent_there, stands_there}
-use Rattle.machine_spec.proofs.Valid.{AreEntries, Entry, IsGood, pages}
+use Rattle.machine_spec.proofs.Valid.{Entry, IsGood, pages}
 
 -- ---- entries
 
 module _ (es : List Entry) (good : AreEntries es) (path : List Bytes) where
   pub entry_gone : (value : Bytes) → find path_cmp path es ≡ Some value → AreEntries (without path_cmp path es)
   entry_gone value e =
-      let at = stands_there path_cmp paths_total paths_apart path value es good.system.paths_ascend e in
-      let gone = entry_deleted (system 0 [] es) good path at.0 at.1 in
-      subst IsWithinLimits gone.1 gone.0
+      let at = stands_there path_cmp paths_total paths_apart path value es good.paths_ascend e in
+      let gone = entry_deleted es good path at.0 at.1 in
+      subst AreEntries gone.1 gone.0
 
   pub entry_set : (value : Bytes) → is_reserved path ≡ false → has_conflict es path ≡ false → (not (is_some (find path_cmp path es)) && nat_le MAX_ENTRIES (length es)) ≡ false
       → IsTrue (is_path path) → AreByteStrings path → IsBytes value → length value ≤ MAX_VALUE → AreEntries (put path_cmp path value es)
@@ -37,15 +36,15 @@ module _ (es : List Entry) (good : AreEntries es) (path : List Bytes) where
     where
       by : (o : Option Bytes) → find path_cmp path es ≡ o → (not (is_some o) && nat_le MAX_ENTRIES (length es)) ≡ false → AreEntries (put path_cmp path value es)
       by (Some old) e few =
-          let at = stands_there path_cmp paths_total paths_apart path old es good.system.paths_ascend e in
+          let at = stands_there path_cmp paths_total paths_apart path old es good.paths_ascend e in
           let x : Entry = (path, at.1.value) in
           let read : x ≡ get_or es at.0 x = sym (ap (λ (l : List Entry). get_or l at.0 x) at.1.at.split ∙ get_or_at at.1.at.before x at.1.at.after x at.0 at.1.at.count) in
-          let done = value_put (system 0 [] es) good path at.0 at.1 value x read bytes small in
-          subst IsWithinLimits done.1 done.0
+          let done = value_put es good path at.0 at.1 value x read bytes small in
+          subst AreEntries done.1 done.0
       by None e few =
-          let at = absent_there path_cmp paths_total paths_apart path es good.system.paths_ascend e in
-          let done = entry_put (system 0 [] es) good path at.0 at.1 value none is labels free bytes small (leb-false MAX_ENTRIES (length es) few) in
-          subst IsWithinLimits done.1 done.0
+          let at = absent_there path_cmp paths_total paths_apart path es good.paths_ascend e in
+          let done = entry_put es good path at.0 at.1 value none is labels free bytes small (leb-false MAX_ENTRIES (length es) few) in
+          subst AreEntries done.1 done.0
 
 -- ---- canisters
 

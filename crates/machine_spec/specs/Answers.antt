@@ -2,7 +2,7 @@
 use Rattle.std.specs.Prelude.{◌≡◌, List, [], ◌∷◌, ◌++◌, map, Option, Some, None, codes}
 use Rattle.format_spec.specs.Bytes.{Bytes}
 use Rattle.script_text.specs.declared.parsing.Parsed.{Parsed}
-use Rattle.script_text.specs.declared.parsing.Parsed.TheVariants.{Silent, BadLine, Line}
+use Rattle.script_text.specs.declared.parsing.Parsed.TheVariants.{BadLine, Line}
 use Rattle.script_text.specs.declared.reply.Reply.{Reply}
 use Rattle.script_text.specs.Commands.{parsed_line}
 use Rattle.script_text.specs.Texts.{reply_text, bad_line_text}

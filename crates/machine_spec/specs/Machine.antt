@@ -3,7 +3,7 @@ use Rattle.std.specs.Prelude.{ℕ, ◌+◌, ◌==◌, not, Bool, true, false, Li
 use Rattle.std.specs.List.{last_or}
 use Rattle.std.specs.Option.{option_map, option_or}
 use Rattle.format_spec.specs.Bytes.{Bytes}
-use Rattle.state_spec.specs.State.{State, Canister, system_of, memory_bytes, state_from}
+use Rattle.state_spec.specs.State.{State, Canister}
 use Rattle.store_spec.specs.Image.{Published, opened_state}
 use Rattle.script_text.specs.declared.command.HeightOrLive.{HeightOrLive}
 use Rattle.script_text.specs.declared.command.HeightOrLive.TheVariants.{Live, Height}

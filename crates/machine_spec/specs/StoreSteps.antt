@@ -1,10 +1,9 @@
 -- The steps of lines on published heights.
-use Rattle.std.specs.Prelude.{ℕ, ◌/◌, ◌==◌, not, nat_le, Bool, false, if◌then◌else◌, List, [], ◌∷◌, ◌++◌, length, map}
+use Rattle.std.specs.Prelude.{ℕ, ◌==◌, not, nat_le, Bool, false, List, [], ◌∷◌, ◌++◌, length}
 use Rattle.std.specs.Prelude.{is_some, None}
-use Rattle.std.specs.List.{last_or, range_with_len}
+use Rattle.std.specs.List.{last_or}
 use Rattle.std.specs.Option.{option_map_or}
-use Rattle.format_spec.specs.declared.limits.TheConstants.{PAGE_SIZE, MAX_PUBLISHED}
-use Rattle.state_spec.specs.State.{State, memory_bytes}
+use Rattle.format_spec.specs.declared.limits.TheConstants.{MAX_PUBLISHED}
 use Rattle.state_spec.specs.Root.{root_of}
 use Rattle.store_spec.specs.Image.{Published, without_published, whole_layers}
 use Rattle.script_text.specs.declared.command.HeightOrLive.{HeightOrLive}

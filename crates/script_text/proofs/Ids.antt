@@ -9,7 +9,7 @@ use Rattle.hex.specs.Hex.{decode_sized, decode_of}
 use Rattle.hex.specs.declared.error.FromHexError.{FromHexError}
 use Rattle.hex.proofs.HexLemmas.{decode_sized-ok, decode_sized-twice, decode_of-ok}
 use Rattle.byte_codec.specs.Hex.{is_lower_digit, bytes_of_hex}
-use Rattle.sys_state.specs.Id.{IsId}
+use Rattle.state_spec.specs.Id.{IsId}
 use Rattle.script_text.specs.Words.{id_of, such_that}
 
 -- what was written is what the word decodes to

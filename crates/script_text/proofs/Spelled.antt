@@ -15,7 +15,7 @@ use Rattle.format_spec.specs.declared.limits.TheConstants.{MAX_CERTIFIED, MAX_ID
 use Rattle.format_spec.proofs.ByteStrings.{by_test, one_byte}
 use Rattle.state_spec.specs.State.{is_id, is_label, is_path}
 use Rattle.byte_codec.specs.Hex.{bytes_of_hex, is_lower_digit}
-use Rattle.sys_state.specs.Id.{IsId}
+use Rattle.state_spec.specs.Id.{IsId}
 use Rattle.script_text.specs.declared.command.Command.{Command}
 use Rattle.script_text.specs.declared.command.Command.TheVariants as commands
 use Rattle.script_text.specs.declared.parsing.Parsed.TheVariants.{Silent}

@@ -5,7 +5,7 @@ use Rattle.std.specs.Str.{bytes_eq}
 use Rattle.format_spec.specs.Bytes.{Bytes, IsBytes, AreByteStrings}
 use Rattle.format_spec.specs.declared.limits.TheConstants.{MAX_MODULE, MAX_CERTIFIED, MAX_VALUE, MAX_READ, MAX_PATHS}
 use Rattle.state_spec.specs.State.{is_path}
-use Rattle.sys_state.specs.Id.{IsId}
+use Rattle.state_spec.specs.Id.{IsId}
 use Rattle.script_text.specs.declared.command.Command.{Command}
 use Rattle.script_text.specs.declared.command.Command.TheVariants as commands
 use Rattle.script_text.specs.declared.parsing.Parsed.{Parsed}

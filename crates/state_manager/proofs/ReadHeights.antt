@@ -13,7 +13,7 @@ use Rattle.state_spec.specs.Files.{heap_name, stable_name, memories_in}
 use Rattle.state_spec.specs.State.{State, Canister, CanisterPart, SystemPart, system_of, memory_bytes}
 use Rattle.store_spec.specs.Image.{Published, opened_state}
 use Rattle.sys_state.specs.Calls as calls
-use Rattle.sys_state.specs.Places.{Stands, place_of}
+use Rattle.state_spec.specs.Places.{Stands, place_of}
 use Rattle.sys_state.specs.System.{System, part_of, part_of_record, parts}
 use Rattle.sys_state.specs.declared.mem.Mem.{Mem}
 use Rattle.sys_state.specs.declared.mem.Mem.TheVariants.{Heap, Stable}

@@ -11,13 +11,14 @@ use Rattle.sys_state.specs.declared.mem.Mem.{Mem}
 use Rattle.sys_state.specs.declared.mem.Mem.TheVariants.{Heap, Stable}
 use Rattle.sys_state.specs.declared.record.CanisterRecord.{CanisterRecord}
 use Rattle.sys_state.specs.Calls.{all_pages_of, pages_of, with_more_pages, newborn, with_certified, with_module, Changes, Creates, Removes}
-use Rattle.sys_state.specs.Id.{IsId}
-use Rattle.sys_state.specs.Places.{Stands, IsAbsent}
+use Rattle.state_spec.specs.Id.{IsId}
+use Rattle.state_spec.specs.Places.{Stands, IsAbsent}
 use Rattle.sys_state.specs.System.{System, IsWithinLimits}
-use Rattle.sys_state.proofs.Keys.{ids_total}
+use Rattle.state_spec.proofs.Keys.{ids_total}
 use Rattle.sys_state.proofs.Kept.{ids_sorted, few_canisters, Good, goods, kept_with, pages, pages-join, pages-one}
-use Rattle.sys_state.proofs.Lists.{all_parts, all_join}
-use Rattle.sys_state.proofs.Places.{entry_there, sorted_put, set_split, set_is_put, set_replaces, insert_split, insert_is_put, insert_replaces, remove_split, remove_is_without, remove_sorted, remove_replaces}
+use Rattle.format_spec.proofs.Lists.{all_join}
+use Rattle.state_spec.proofs.Lists.{all_parts}
+use Rattle.state_spec.proofs.Places.{entry_there, sorted_put, set_split, set_is_put, set_replaces, insert_split, insert_is_put, insert_replaces, remove_split, remove_is_without, remove_sorted, remove_replaces}
 
 abbrev Named : Type 0
 Named = Bytes × CanisterRecord

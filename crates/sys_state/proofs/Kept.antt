@@ -1,13 +1,10 @@
 -- A state within the limits, after a change of its canisters.
-use Rattle.std.proofs.Common.{◌≡◌, ℕ, ◌+◌, ◌≤◌, true, ◌&&◌, List, [], ◌∷◌, ◌++◌, length, map, refl, sym, ap, ◌∙◌, arith}
+use Rattle.std.proofs.Common.{◌≡◌, ℕ, ◌+◌, ◌≤◌, true, List, [], ◌∷◌, ◌++◌, length, map, sym, ap, ◌∙◌, arith}
 use Rattle.std.specs.List.{AllByRecursion}
 use Rattle.std.specs.FinMap.{is_sorted}
-use Rattle.std.specs.FinMap.Entries.{below_all}
-use Rattle.std.specs.Ordering.{is_lt}
 use Rattle.std.proofs.lemmas.List.{map-append, length-map}
 use Rattle.std.proofs.lemmas.List.Sums.{sum_by-append}
 use Rattle.format_spec.specs.declared.limits.TheConstants.{MAX_CANISTERS, MAX_STATE_PAGES}
-use Rattle.std.specs.declared.cmp.Ordering.{Ordering}
 use Rattle.format_spec.specs.Bytes.{Bytes, bytes_cmp}
 use Rattle.state_spec.specs.State.{FitsCanister, all_pages, pages_in}
 use Rattle.sys_state.specs.declared.record.CanisterRecord.{CanisterRecord}
@@ -15,24 +12,11 @@ use Rattle.std.proofs.Common.{Bool, false, cond, Some, subst}
 use Rattle.std.specs.FinMap.{find}
 use Rattle.std.specs.Ordering.{eq_by_cmp}
 use Rattle.state_spec.specs.State.{memory_limit}
+use Rattle.state_spec.proofs.Keys.{over, is_sorted-over}
 use Rattle.sys_state.specs.Calls.{pages_of}
 use Rattle.sys_state.specs.declared.mem.Mem.{Mem}
 use Rattle.sys_state.specs.declared.mem.Mem.TheVariants.{Heap, Stable}
 use Rattle.sys_state.specs.System.{System, part_of_record, IsWithinLimits, IsCanister}
-
--- ---- keys beside other values are in order as before
-
-module _ {K X Y : Type 0} (R : K → K → Ordering) (f : X → Y) where
-  abbrev pub over : K × X → K × Y
-  over e = (e.0, f e.1)
-
-  below_all-over : (k : K) (es : List (K × X)) → below_all R k (map over es) ≡ below_all R k es
-  below_all-over k [] = refl
-  below_all-over k (e ∷ es) = ap (λ b. is_lt (R k e.0) && b) (below_all-over k es)
-
-  pub is_sorted-over : (es : List (K × X)) → is_sorted R (map over es) ≡ is_sorted R es
-  is_sorted-over [] = refl
-  is_sorted-over (e ∷ es) = λ i. below_all-over e.0 es i && is_sorted-over es i
 
 pub ids_sorted : (s : System) → IsWithinLimits s → is_sorted bytes_cmp s.canisters ≡ true
 ids_sorted s kept = sym (is_sorted-over bytes_cmp part_of_record s.canisters) ∙ kept.system.ids_ascend

@@ -12,10 +12,10 @@ use Rattle.std.proofs.lemmas.Option.{get_or_from_slice_get, slice_get_within}
 use Rattle.format_spec.specs.Bytes.{Bytes, path_cmp, is_after, last_key}
 use Rattle.format_spec.proofs.Ascending.{less_is}
 use Rattle.state_spec.specs.State.{is_prefix, are_apart}
-use Rattle.sys_state.proofs.Keys.{paths_total}
-use Rattle.sys_state.proofs.Lists.{all_parts}
-use Rattle.sys_state.proofs.Paths.{Entry, Lower, begins_path, only_last}
-use Rattle.sys_state.proofs.Places.{above_from_sorted}
+use Rattle.state_spec.proofs.Keys.{paths_total}
+use Rattle.state_spec.proofs.Lists.{all_parts}
+use Rattle.state_spec.proofs.Paths.{Entry, Lower, begins_path, only_last}
+use Rattle.state_spec.proofs.Places.{above_from_sorted}
 
 -- the entries, cut before the last one
 pub record EndsIn {X : Type 0} (es : List X) (e : X) : Type 0 where

@@ -10,7 +10,7 @@ use Rattle.sys_state.specs.declared.error.SysError.TheVariants as errors
 use Rattle.sys_state.specs.declared.mem.Mem.{Mem}
 use Rattle.sys_state.specs.declared.mem.Mem.TheVariants.{Heap, Stable}
 use Rattle.sys_state.specs.declared.record.CanisterRecord.{CanisterRecord}
-use Rattle.sys_state.specs.Places.{place_of, Replaces}
+use Rattle.state_spec.specs.Places.{place_of, Replaces}
 use Rattle.sys_state.specs.System.{System, part_of}
 
 -- ---- answers

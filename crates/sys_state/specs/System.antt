@@ -2,7 +2,7 @@
 use Rattle.std.specs.Prelude.{ℕ, ◌^◌, ◌<◌, List, map, IfSome}
 use Rattle.std.specs.List.{AllByRecursion}
 use Rattle.format_spec.specs.Bytes.{Bytes, IsBytes}
-use Rattle.state_spec.specs.State.{State, Canister, CanisterPart, SystemPart, IsSystem, pages_of}
+use Rattle.state_spec.specs.State.{State, Canister, CanisterPart, SystemPart, IsSystem, IsByteEntry, pages_of}
 use Rattle.sys_state.specs.declared.record.CanisterRecord.{CanisterRecord}
 
 -- canisters by ascending ids, entries by ascending paths
@@ -51,12 +51,8 @@ pub record IsCanister (c : Bytes × CanisterRecord) : Type 0 where
   pub certified : IsBytes c.1.certified
   pub birth : c.1.birth < 2 ^ 64
 
-pub record IsEntry (e : List Bytes × Bytes) : Type 0 where
-  pub path : AllByRecursion IsBytes e.0
-  pub value : IsBytes e.1
-
 -- within all limits, so that a text spells it
 pub record IsWithinLimits (s : System) : Type 0 where
   pub system : IsSystem 1 (part_of s)
   pub canisters : AllByRecursion IsCanister s.canisters
-  pub entries : AllByRecursion IsEntry s.entries
+  pub entries : AllByRecursion IsByteEntry s.entries

@@ -1,6 +1,6 @@
 ghost use Rattle.std.specs.Prelude.{◌≡◌, ◌≤◌, take, length as list_length};
 ghost use Rattle.std.specs.Option.{SomeIff};
-ghost use Rattle.sys_state.specs.Id.{IsId};
+ghost use Rattle.state_spec.specs.Id.{IsId};
 ghost use Rattle.std.specs.Cmp.{eq_by_cmp_equiv, partial_equiv_from_equiv, partial_order_from_total};
 ghost use Rattle.std.specs.Cmp.Lexicographic.{nat_list_cmp_total};
 ghost use Rattle.std.specs.Ordering.{as_partial_cmp};

@@ -2,7 +2,7 @@
 
 ghost use Rattle.std.specs.Prelude.{◌≡◌, ℕ, Result};
 ghost use Rattle.format_spec.specs.Bytes.{Bytes, bytes_cmp};
-ghost use Rattle.sys_state.specs.Places.{Places};
+ghost use Rattle.state_spec.specs.Places.{Places};
 ghost use Rattle.sys_state.specs.System.{System};
 
 /// An id has one place in a state, or one where it would come.

@@ -4,7 +4,7 @@ ghost use Rattle.std.specs.FinMap.{find};
 ghost use Rattle.format_spec.specs.Bytes.{bytes_cmp};
 ghost use Rattle.sys_state.specs.System.{IsWithinLimits};
 ghost use Rattle.state_spec.specs.State.{memory_limit};
-ghost use Rattle.sys_state.specs.Places.{Places};
+ghost use Rattle.state_spec.specs.Places.{Places};
 ghost use Rattle.sys_state.specs.Calls.{canister_in, pages_of};
 
 mod canisters;

@@ -9,7 +9,7 @@ ghost use Rattle.format_spec.specs.Fields.{field, string16, each, any};
 ghost use Rattle.state_spec.specs.State.{are_apart, is_prefix};
 ghost use Rattle.state_spec.specs.SystemText.{entry_after, path_form, path_fits};
 ghost use Rattle.byte_codec.specs.Gives.{Gives};
-ghost use Rattle.sys_state.specs.System.{IsEntry};
+ghost use Rattle.state_spec.specs.State.{IsByteEntry};
 
 use crate::path::Path;
 use byte_codec::{Blob, FieldError, Reader};
@@ -98,7 +98,7 @@ fn read_entry(
     requires apart { IsTrue (are_apart entries.now) }
     ensures read { Gives (λ e. (e, reader.new)) result (entry_after entries.now reader.old) }
     ensures fits { IfOk result (λ e. IsTrue (path_fits entries.now e.0)) }
-    ensures bytes { IfOk result IsEntry }
+    ensures bytes { IfOk result IsByteEntry }
 {
     let path = read_path(alloc, reader, entries)?;
     let value = read_value(alloc, reader)?;
@@ -111,7 +111,7 @@ pub(crate) fn read_entries(
     count: u32,
 ) -> Result<Vec<(Path, Blob)>, FieldError>
     ensures read { Gives (λ es. (es.items, reader.new)) result (each entry_after count [] reader.old) }
-    ensures bytes { IfOk result (λ es. AllByRecursion IsEntry es.items) }
+    ensures bytes { IfOk result (λ es. AllByRecursion IsByteEntry es.items) }
 {
     let mut entries = Vec::new(alloc);
     for _ in 0..count {

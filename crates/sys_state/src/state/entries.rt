@@ -5,7 +5,7 @@ ghost use Rattle.std.specs.List.{list_any};
 ghost use Rattle.std.specs.FinMap.{is_sorted};
 ghost use Rattle.format_spec.specs.Bytes.{path_cmp};
 ghost use Rattle.state_spec.specs.State.{are_apart, has_conflict, is_prefix};
-ghost use Rattle.sys_state.specs.Places.{Places, IsAbsent};
+ghost use Rattle.state_spec.specs.Places.{Places, IsAbsent};
 ghost use Rattle.sys_state.specs.Calls.{Answers, answer, put_refusal, del_refusal, with_entry, without_entry};
 
 use super::SysState;

@@ -1,6 +1,6 @@
 use Rattle.std.proofs.Common.{◌≡◌, ℕ, Result, Ok, Err, ap, sym, ◌∙◌}
 use Rattle.format_spec.specs.Bytes.{Bytes, bytes_cmp}
-use Rattle.sys_state.specs.Places.{Places}
+use Rattle.state_spec.specs.Places.{Places}
 use Rattle.sys_state.specs.System.{System}
 use Rattle.sys_state.proofs.laws.an_id_has_one_place.Goals as goal
 

@@ -1,6 +1,6 @@
 use Rattle.std.proofs.Common.{ap, sym, ◌∙◌}
 use Rattle.std.specs.Ordering.{is_eq}
-use Rattle.sys_state.proofs.Paths.{prefix_by_cmp}
+use Rattle.state_spec.proofs.Paths.{prefix_by_cmp}
 use Rattle.sys_state.proofs.path.Path.begins.Goals as goal
 
 pub returns-then-labels-others : goal.returns-then-labels-others

@@ -6,7 +6,7 @@ use Rattle.state_spec.specs.State.{all_pages}
 use Rattle.state_spec.specs.SystemText.{canister_after}
 use Rattle.sys_state.specs.System.{IsCanister, parts, part_of_record}
 use Rattle.sys_state.proofs.Kept.{pages-join, pages-one}
-use Rattle.sys_state.proofs.Lists.{all_join}
+use Rattle.format_spec.proofs.Lists.{all_join}
 use Rattle.byte_codec.proofs.Stops.{stops}
 use Rattle.sys_state.proofs.reading.canisters.read_canisters.Goals as goal
 

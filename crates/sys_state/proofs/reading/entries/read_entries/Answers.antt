@@ -2,9 +2,9 @@ use Rattle.std.proofs.Common.{◌∷◌, [], sym, ◌∙◌}
 use Rattle.std.proofs.lemmas.Result.{err_from_is_err_and}
 use Rattle.format_spec.proofs.Each.{each_more, each_ends}
 use Rattle.state_spec.specs.SystemText.{entry_after}
-use Rattle.sys_state.specs.System.{IsEntry}
-use Rattle.sys_state.proofs.Entries.{pushed}
-use Rattle.sys_state.proofs.Lists.{all_join}
+use Rattle.state_spec.specs.State.{IsByteEntry}
+use Rattle.state_spec.proofs.Entries.{pushed}
+use Rattle.format_spec.proofs.Lists.{all_join}
 use Rattle.byte_codec.proofs.Stops.{stops}
 use Rattle.sys_state.proofs.reading.entries.read_entries.Goals as goal
 
@@ -22,7 +22,7 @@ loop-preserved c =
       read = sym (each_more entry_after c.args.count c.loop.counter before c.loop.reader e c.read_entry.new.reader c.loop-test.true (rw c.deref.ensures.value at c.in_ok-entry.ensures.read)) ∙ c.loop.invariant.read;
       sorted = done.sorted;
       apart = done.apart;
-      bytes = all_join IsEntry before (e ∷ []) c.loop.invariant.bytes (c.in_ok-entry.ensures.bytes, tt);
+      bytes = all_join IsByteEntry before (e ∷ []) c.loop.invariant.bytes (c.in_ok-entry.ensures.bytes, tt);
     })
 
 pub returns-clause-read : goal.returns-clause-read

@@ -5,7 +5,7 @@ use Rattle.std.specs.Result.{result_ok}
 use Rattle.state_spec.specs.State.{memory_limit}
 use Rattle.format_spec.specs.Bytes.{Bytes, bytes_cmp}
 use Rattle.sys_state.specs.Calls.{pages_of}
-use Rattle.sys_state.specs.Places.{Places, Stands}
+use Rattle.state_spec.specs.Places.{Places, Stands}
 use Rattle.sys_state.specs.System.{System, IsWithinLimits}
 use Rattle.sys_state.proofs.Kept.{found_fits, canisters_fit}
 use Rattle.sys_state.specs.declared.mem.Mem.{Mem}

@@ -1,8 +1,8 @@
 use Rattle.std.specs.Prelude.{Ok, Err}
 use Rattle.format_spec.specs.Bytes.{bytes_cmp}
-use Rattle.sys_state.proofs.Keys.{ids_total, ids_apart}
+use Rattle.state_spec.proofs.Keys.{ids_total, ids_apart}
 use Rattle.sys_state.proofs.Kept.{ids_sorted}
-use Rattle.sys_state.proofs.Places.{placed}
+use Rattle.state_spec.proofs.Places.{placed}
 use Rattle.sys_state.proofs.state.SysState.place.Goals as goal
 
 pub returns-in-Ok : goal.returns-in-Ok

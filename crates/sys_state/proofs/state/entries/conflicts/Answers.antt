@@ -1,5 +1,5 @@
 use Rattle.std.proofs.Common.{sym, ◌∙◌}
-use Rattle.sys_state.proofs.Paths.{conflict_begun, conflict_behind}
+use Rattle.state_spec.proofs.Paths.{conflict_begun, conflict_behind}
 use Rattle.sys_state.proofs.state.entries.conflicts.Goals as goal
 
 pub returns-then-is_begun : goal.returns-then-is_begun

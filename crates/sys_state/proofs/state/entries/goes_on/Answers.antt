@@ -1,5 +1,5 @@
 use Rattle.std.proofs.Common.{◌∙◌}
-use Rattle.sys_state.proofs.Paths.{first_decides}
+use Rattle.state_spec.proofs.Paths.{first_decides}
 use Rattle.sys_state.proofs.state.entries.goes_on.Goals as goal
 
 pub returns-then-i-entries : goal.returns-then-i-entries

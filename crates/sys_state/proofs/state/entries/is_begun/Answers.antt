@@ -1,5 +1,5 @@
 use Rattle.std.proofs.Common.{◌∙◌, arith}
-use Rattle.sys_state.proofs.Paths.{last_decides, place_within}
+use Rattle.state_spec.proofs.Paths.{last_decides, place_within}
 use Rattle.sys_state.proofs.state.entries.is_begun.Goals as goal
 
 pub returns-then-i-gt0 : goal.returns-then-i-gt0

@@ -1,6 +1,6 @@
 -- Paths in order, of which none begins another: what stands next to a place tells what conflicts.
-use Rattle.sys_state.specs.Places.{IsAbsent}
-use Rattle.sys_state.proofs.Lists.{all_parts}
+use Rattle.state_spec.specs.Places.{IsAbsent}
+use Rattle.state_spec.proofs.Lists.{all_parts}
 use Rattle.std.proofs.lemmas.List.Folds.{list_any-append}
 use Rattle.std.proofs.Common.{◌≡◌, ℕ, ◌<◌, ◌≤◌, Bool, true, false, not, ◌&&◌, ◌||◌, List, [], ◌∷◌, ◌++◌, length, take, refl, sym, ap, subst, ◌∙◌, arith, ◌+◌, get_or, drop, length-append}
 use Rattle.std.specs.List.{AllByRecursion, list_any, list_all}
@@ -15,8 +15,8 @@ use Rattle.std.proofs.lemmas.Bool.{and_parts, and_from, not-true}
 use Rattle.std.proofs.lemmas.List.{take_at, drop_at, take_more, drop_more, take-append-drop}
 use Rattle.format_spec.specs.Bytes.{Bytes, bytes_cmp, same_bytes, path_cmp}
 use Rattle.state_spec.specs.State.{is_prefix, is_proper_prefix, has_conflict, are_apart}
-use Rattle.sys_state.proofs.Keys.{ids_total, ids_apart, paths_total}
-use Rattle.sys_state.proofs.Places.{greater_from_less, above_from_sorted}
+use Rattle.state_spec.proofs.Keys.{ids_total, ids_apart, paths_total}
+use Rattle.state_spec.proofs.Places.{greater_from_less, above_from_sorted}
 
 -- ---- the test of a prefix
 

@@ -15,9 +15,9 @@ use Rattle.std.proofs.lemmas.List.Sums.{sum_by-append}
 use Rattle.std.proofs.Math.Seq.{split_at}
 use Rattle.format_spec.proofs.Ascending.{less_is}
 use Rattle.format_spec.proofs.Lists.{from_T}
-use Rattle.sys_state.specs.Places.{place_of, Replaces, Stands, IsAbsent, Places}
+use Rattle.state_spec.specs.Places.{place_of, Replaces, Stands, IsAbsent, Places}
 use Rattle.state_spec.specs.State.{without}
-use Rattle.sys_state.proofs.Lists.{all_parts}
+use Rattle.state_spec.proofs.Lists.{all_parts}
 
 pub greater_from_less : {K : Type 0} (R : K → K → Ordering) → IsTotalOrder R → (x y : K) → R x y ≡ Less → R y x ≡ Greater
 greater_from_less R o x y lt = o.antisymm y x ∙ ap ordering_reverse lt
