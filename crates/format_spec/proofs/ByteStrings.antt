@@ -7,6 +7,7 @@ use Rattle.std.proofs.lemmas.Bool.{and_parts, and_from, lt-ltb, ltb-true}
 use Rattle.sha2.specs.Sha256.{sha256, digest_bytes}
 use Rattle.format_spec.specs.Bytes.{Bytes, IsBytes, AreByteStrings, are_bytes, be32, short_string, parts, part_count}
 use Rattle.format_spec.specs.Hashes.{with_separator}
+use Rattle.format_spec.proofs.Lists.{every}
 
 -- ---- the test
 
@@ -62,10 +63,6 @@ flat_bytes f (x ∷ xs) h = join_bytes (f x) (flat_map f xs) h.0 (flat_bytes f x
 pub map_bytes : {X : Type 0} (f : X → Bytes) (xs : List X) → AllByRecursion (λ x. IsBytes (f x)) xs → AreByteStrings (map f xs)
 map_bytes f [] h = tt
 map_bytes f (x ∷ xs) h = (h.0, map_bytes f xs h.1)
-
-pub every : {X : Type 0} (P : X → Type 0) → ((x : X) → P x) → (xs : List X) → AllByRecursion P xs
-every P f [] = tt
-every P f (x ∷ xs) = (f x, every P f xs)
 
 pub parts_bytes : (n : ℕ) (s : Bytes) → IsBytes s → AreByteStrings (parts n s)
 unfolding parts
