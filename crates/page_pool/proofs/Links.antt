@@ -3,15 +3,10 @@ use Rattle.std.proofs.Common.{◌≡◌, ◌≢◌, ℕ, zero, suc, ◌+◌, ◌
 use Rattle.std.proofs.lemmas.List.{get_or-set_other}
 use Rattle.page_pool.specs.Pool.{Page, used_in}
 use Rattle.page_pool.specs.Chains.{IsChain}
-
-pub no-some : {X : Type 0} (x : X) (o : Option X) → o ≡ Some x → o ≡ None → ⊥
-no-some x o is none = cc
-
-same-link : (a b : ℕ) (o : Option ℕ) → o ≡ Some a → o ≡ Some b → a ≡ b
-same-link a b o p q = cc
+use Rattle.format_spec.proofs.Lists.{none_or_some, some_once}
 
 pub link-within : (links : List (Option ℕ)) (k next : ℕ) → get_or links k None ≡ Some next → k < length links
-link-within [] k next is = absurd (no-some next None is refl)
+link-within [] k next is = absurd (none_or_some next None refl is)
 link-within (x ∷ links) zero next is = omega arith
 link-within (x ∷ links) (suc k) next is = let below = link-within links k next is in omega arith
 
@@ -21,13 +16,13 @@ one-chain links zero zero k p q = refl
 one-chain links zero (suc n) k p q = absurd (let low = link-within links k q.0 q.1 in omega arith)
 one-chain links (suc m) zero k p q = absurd (let low = link-within links k p.0 p.1 in omega arith)
 one-chain links (suc m) (suc n) k p q =
-    let e = same-link p.0 q.0 (get_or links k None) p.1 q.1 in
+    let e = some_once p.0 q.0 (get_or links k None) p.1 q.1 in
     ap suc (one-chain links m n q.0 (subst (λ i. IsChain links m i) e p.2) q.2)
 
 -- no chain begins at a used slot
 pub no-chain : (links : List (Option ℕ)) (m k : ℕ) → k < length links → get_or links k None ≡ None → IsChain links m k → ⊥
 no-chain links zero k below none chain = omega arith
-no-chain links (suc m) k below none chain = no-some chain.0 (get_or links k None) chain.1 none
+no-chain links (suc m) k below none chain = none_or_some chain.0 (get_or links k None) none chain.1
 
 -- a write at a slot that the chain does not meet keeps it
 pub chain-set : (links : List (Option ℕ)) (h : ℕ) (now : Option ℕ) (n k : ℕ) → ((m : ℕ) → m ≤ n → IsChain links m h → ⊥) → IsChain links n k → IsChain (set links h now) n k

@@ -5,7 +5,8 @@ use Rattle.std.proofs.lemmas.List.{map-set, map-append, length-map, replicate_mo
 use Rattle.page_pool.specs.Pool.{Page, Pool, used_in, count_in, bytes_in, count_at, with_count, with_bytes}
 use Rattle.page_pool.specs.Chains.{page_of, link_of, IsChain, IsSound}
 use Rattle.page_pool.specs.declared.slot.Slot.{Slot}
-use Rattle.page_pool.proofs.Links.{no-some, link-within, one-chain, no-chain, chain-set, chain-push, one_if, used-set, used-push}
+use Rattle.page_pool.proofs.Links.{link-within, one-chain, no-chain, chain-set, chain-push, one_if, used-set, used-push}
+use Rattle.format_spec.proofs.Lists.{none_or_some}
 
 -- what is seen of a slot
 pub seen-at : {X : Type 0} (f : Slot → Option X) (slots : List Slot) (k : ℕ) (s : Slot) → k < length slots → s ≡ get_or slots k s → get_or (map f slots) k None ≡ f s
@@ -64,7 +65,7 @@ chain-first slots free spare s chain read =
           let both : Some s.next ≡ Some chain.0 = sym (free-link s none) ∙ here in
           let next : s.next ≡ chain.0 = cc in
           (record { within = below; read = read }, none, subst (λ i. IsChain (map link_of slots) spare i) (sym next) chain.2)
-      | inr ne ↦ absurd (no-some chain.0 (link_of s) here (used-link s (omega arith)))
+      | inr ne ↦ absurd (none_or_some chain.0 (link_of s) (used-link s (omega arith)) here)
     ]
 
 -- how many are used after a slot is written

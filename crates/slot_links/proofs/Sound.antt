@@ -7,6 +7,7 @@ use Rattle.slot_links.specs.Rings.{tabulate, follow, row_at, IsPath, AreRings, I
 use Rattle.slot_links.proofs.Paths.{follow-path, path-owner, leads-on}
 use Rattle.slot_links.proofs.Tables.{length-tabulate, get-tabulate, tabulate-congr, map-tabulate, length-apart}
 use Rattle.slot_links.proofs.Cuts.{IsHalfCut, rings-cut}
+use Rattle.format_spec.proofs.Lists.{some_once}
 
 -- what a contract sees of these fields
 abbrev pub seen : List ℕ → ℕ → ℕ → Lists
@@ -152,13 +153,10 @@ pub next-alone : (next previous : List ℕ) (owner : List (Option ℕ)) (items l
 next-alone next previous owner items lists x r s small read free =
     read-is next x r (omega (arith, s.next_len)) read ∙ s.rings.alone x small (owner-free next previous owner items lists x s small free)
 
-some-eq : (a b : ℕ) → Some a ≡ Some b → a ≡ b
-some-eq a b e = cc
-
 pub distinct : (next previous : List ℕ) (owner : List (Option ℕ)) (items lists : ℕ) → IsSound next previous owner items lists → AreDistinct (seen next items lists)
 distinct next previous owner items lists s = record {
   apart = λ k below. let in_k = seen-count next items lists k below in rw (seen-members next items lists k in_k) (s.rings.apart k in_k);
-  single = λ x k j is also. some-eq k j (sym (owner-linked next previous owner items lists x k s is) ∙ owner-linked next previous owner items lists x j s also);
+  single = λ x k j is also. some_once k j (get_or owner x None) (owner-linked next previous owner items lists x k s is) (owner-linked next previous owner items lists x j s also);
   within = λ x k is. let own = seen-in next items lists k x is in s.rings.among k own.0 x own.1;
 }
 
