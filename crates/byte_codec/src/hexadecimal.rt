@@ -16,16 +16,17 @@ pub fn hex_text(alloc: Global, bytes: &[u8]) -> Result<Blob, NoMemory>
     Ok(Blob::from_vec(hex::encode(alloc, bytes)?.into_bytes()))
 }
 
-fn is_digit(byte: u8) -> bool
+fn is_hex_digit(byte: u8) -> bool
     ensures { result ≡ is_lower_digit byte }
 {
     matches!(byte, b'0'..=b'9' | b'a'..=b'f')
 }
 
-fn are_digits(text: &[u8]) -> bool
+/// Whether all of these bytes are digits of hexadecimal text in lower case.
+pub fn are_hex_digits(text: &[u8]) -> bool
     ensures { result ≡ list_all is_lower_digit text.now }
 {
-    text.iter().all(|byte| is_digit(*byte))
+    text.iter().all(|byte| is_hex_digit(*byte))
 }
 
 /// The bytes that an even number of lower-case digits spells. Bad exactly where the text isn't that.
@@ -34,7 +35,7 @@ pub fn hex_bytes(alloc: Global, text: &[u8]) -> Result<Blob, HexError>
     ensures bad { BadIsExact result text.now }
     ensures value { GivesHex result (bytes_of_hex text.now) }
 {
-    if !are_digits(text) {
+    if !are_hex_digits(text) {
         return Err(HexError::Bad);
     }
     Ok(Blob::from_vec(hex::decode(alloc, text)?))

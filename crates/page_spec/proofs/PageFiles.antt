@@ -7,6 +7,7 @@ use Rattle.std.proofs.lemmas.Bool.{and_parts}
 use Rattle.format_spec.specs.Bytes.{Bytes, be32, be64, ascending}
 use Rattle.format_spec.proofs.Cuts.{cons_same, cut_front, be32_same}
 use Rattle.page_spec.specs.PageFile.{PageIndex, IsIndex, before_runs, runs_of, ranges_text, kind_of, index_length, file_length, index_text, IsPageFile}
+use Rattle.format_spec.proofs.Lists.{every}
 
 -- ---- runs
 
@@ -89,9 +90,9 @@ pages_few n k (page ∷ pages) a low high le =
 
 -- ---- ranges
 
-ranges_length : (n : ℕ) (runs : Runs) → length (ranges_text n runs) ≡ 12 * length runs
-ranges_length n [] = refl
-ranges_length n (r ∷ runs) = omega (arith, ranges_length (n + r.1) runs)
+pub length-ranges_text : (n : ℕ) (runs : Runs) → length (ranges_text n runs) ≡ 12 * length runs
+length-ranges_text n [] = refl
+length-ranges_text n (r ∷ runs) = omega (arith, length-ranges_text (n + r.1) runs)
 
 same_run : (r s : ℕ × ℕ) → r.0 ≡ s.0 → r.1 ≡ s.1 → r ≡ s
 same_run r s p q = λ i. (p i, q i)
@@ -121,16 +122,12 @@ record IndexFacts (i : PageIndex) : Type 0 where
 
 facts : (i : PageIndex) → IsIndex i → IndexFacts i
 facts i h =
-    let few : length i.numbers + 0 ≤ i.memory = pages_few i.memory 0 i.numbers h.ascends (every_low i.numbers) h.within (omega arith) in
+    let few : length i.numbers + 0 ≤ i.memory = pages_few i.memory 0 i.numbers h.ascends (every (λ p. 0 ≤ p) (λ p. omega arith) i.numbers) h.within (omega arith) in
     record {
       few = omega (arith, few, h.memory_fits);
       few_runs = omega (arith, few, h.memory_fits, runs_few i.numbers);
       small = small_of i.memory (length i.numbers) 0 (runs_of i.numbers) h.memory_fits (omega (arith, few, h.memory_fits)) (runs_small i.memory i.numbers h.within);
     }
-  where
-    every_low : (xs : List ℕ) → AllByRecursion (λ p. 0 ≤ p) xs
-    every_low [] = tt
-    every_low (x ∷ xs) = (omega arith, every_low xs)
 
 same_index : (i j : PageIndex) → i.memory ≡ j.memory → i.numbers ≡ j.numbers → i ≡ j
 same_index i j p q = λ k. record { memory = p k; numbers = q k }
@@ -158,9 +155,9 @@ page_file_once text i j a b p q = index_cut i j a b p.good q.good (sym p.spelled
 
 -- ---- known by its front and its length
 
-pub length_index : (i : PageIndex) → length (index_text i) ≡ index_length i
+pub length-index_text : (i : PageIndex) → length (index_text i) ≡ index_length i
 unfolding index_text
-length_index i = omega (arith, ranges_length 0 (runs_of i.numbers))
+length-index_text i = omega (arith, length-ranges_text 0 (runs_of i.numbers))
 
 pub by_index : (text : Bytes) (i : PageIndex) → IsIndex i → take (index_length i) text ≡ index_text i → length text ≡ file_length i → IsPageFile text i (drop (index_length i) text)
 by_index text i good front size = record {
