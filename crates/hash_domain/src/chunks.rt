@@ -7,10 +7,8 @@ ghost use Rattle.format_spec.specs.Hashes.{chunk_hash as hash_of_chunk};
 ghost use Rattle.hash_domain.specs.Chunks.{IsFed};
 
 use crate::hash32::Hash32;
+use hash_lanes::CHUNK_NAME;
 use sha2::{Digest, Sha256};
-
-/// The name before the bytes of a chunk, behind its length.
-const CHUNK: &[u8] = b"\x0eic-state-chunk";
 
 /// The hash of a chunk whose bytes come in pieces.
 #[derive(Drop)]
@@ -24,7 +22,7 @@ impl ChunkHasher {
         ensures { IsFed result [] }
     {
         let mut inner = Sha256::new();
-        inner.update(CHUNK);
+        inner.update(CHUNK_NAME);
         ChunkHasher { inner }
     }
 
@@ -50,7 +48,7 @@ pub fn chunk_hash(bytes: &[u8]) -> Hash32
     ensures { result ≡ hash_of_chunk bytes.now }
 {
     let mut hasher = Sha256::new();
-    hasher.update(CHUNK);
+    hasher.update(CHUNK_NAME);
     hasher.update(bytes);
     Hash32(hasher.finalize())
 }

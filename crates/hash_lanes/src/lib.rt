@@ -8,3 +8,4 @@ mod rounds;
 mod words;
 
 pub use messages::{digest, hash_chunks};
+pub use padding::CHUNK_NAME;

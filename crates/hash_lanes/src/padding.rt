@@ -6,13 +6,13 @@ ghost use Rattle.sha2.specs.Sha256.{padding};
 ghost use Rattle.format_spec.specs.Hashes.{chunk_string};
 ghost use Rattle.hash_lanes.specs.Messages.{last_count};
 
+/// The name before the bytes of a chunk, behind its length.
+pub const CHUNK_NAME: &[u8] = b"\x0eic-state-chunk";
+
 /// Bytes of the name before a chunk, with its length.
 pub(crate) const NAME_SIZE: usize = 15;
 /// Bytes of a chunk in the first block of its message, behind the name.
 pub(crate) const FRONT: usize = 49;
-
-// The name before the bytes of a chunk, behind its length.
-const NAME: &[u8] = b"\x0eic-state-chunk";
 
 // What the padding begins with: a bit 1, then zeros.
 const PADDING: [u8; 64] = [
@@ -27,7 +27,7 @@ pub(crate) fn first_block(bytes: &[u8], start: usize) -> [u8; 64]
     ensures { result ≡ chunk_string (take FRONT (drop start bytes.now)) }
 {
     let mut block = [0; 64];
-    block[..NAME_SIZE].copy_from_slice(NAME);
+    block[..NAME_SIZE].copy_from_slice(CHUNK_NAME);
     block[NAME_SIZE..].copy_from_slice(&bytes[start..start + FRONT]);
     block
 }
