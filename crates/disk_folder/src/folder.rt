@@ -151,7 +151,7 @@ impl<R: Files + Drop> Folder<R> {
         Ok(numbers)
     }
 
-    /// How many bytes a file has. What has its name and is none, as a folder or a link, has none.
+    /// How many bytes a file has. What has its name and isn't a file, as a folder or a link, has none.
     pub fn size(&mut self, alloc: Global, name: Name) -> Result<Option<u64>, DiskError> {
         let path = file_path(alloc, &self.path, name)?;
         match fs::symlink_metadata(&self.rt, &path) {
@@ -226,7 +226,7 @@ impl<R: Files + Drop> Folder<R> {
         fault(sync_folder(&self.rt, &old_folder))
     }
 
-    /// Removes a file, and syncs its folder. What has its name and is none goes too, but for a folder with something in it.
+    /// Removes a file, and syncs its folder. What has its name and isn't a file goes too, but for a folder with something in it.
     pub fn remove(&mut self, alloc: Global, name: Name) -> Result<(), DiskError> {
         let path = file_path(alloc, &self.path, name)?;
         let folder = folder_path(alloc, &self.path, kind_of(name))?;

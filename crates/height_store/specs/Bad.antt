@@ -1,4 +1,4 @@
--- Why a disk does not open: the first mark by height that is none, or the first page file by number that is none.
+-- Why a disk does not open: the first mark by height that isn't valid, or the first page file by number that isn't.
 use Rattle.std.specs.Prelude.{◌≡◌, ℕ, ◌≤◌, ◌<◌, ◌⊎◌, nat_le, if◌then◌else◌, List, ◌∷◌, ◌++◌, length, map, sum_by, zip, Option, Some, None}
 use Rattle.std.specs.List.{flat_map, AllByRecursion}
 use Rattle.format_spec.specs.Bytes.{Bytes}
@@ -31,7 +31,7 @@ mark_bytes (Some text) = if nat_le (length text) MAX_MARK then length text else 
 abbrev pub marks_bytes : Files → List ℕ → ℕ
 marks_bytes files heights = sum_by (λ height. mark_bytes (files (name.Mark height))) heights
 
--- the mark of this height is none, or there are as many before it as may be; all before it are good
+-- the mark of this height isn't a valid mark, or there are as many before it as may be; all before it are good
 pub record IsFirstBadMark (files : Files) (height : ℕ) : Type 0 where
   pub before : List ℕ
   pub after : List ℕ

@@ -1,4 +1,4 @@
--- Where every image stands for some heights, no mark and no page file that a mark names is loose: the empty text is none.
+-- Where every image stands for some heights, no mark and no page file that a mark names is loose: the empty text is neither.
 use Rattle.std.specs.Prelude.{◌≡◌, ℕ, true, false, List, [], ◌∷◌, ◌++◌, zip, nat_eq, is_some, Option, Some, refl}
 use Rattle.std.specs.List.{AllByRecursion, AllZip, list_any}
 use Rattle.std.proofs.Common.{inl, inr, sym, ◌∙◌, ap, subst, eqb-true}

@@ -13,10 +13,10 @@ use thiserror::Error;
 /// Why a call on the store failed.
 #[derive(Clone, Copy, Debug, PartialEq, Eq, Error)]
 pub enum StoreError {
-    /// The mark of this height is none, or there are sixteen before it.
+    /// The mark of this height isn't a valid mark, or there are sixteen before it.
     #[error("the mark of height {0} is bad")]
     BadMark(u64),
-    /// The page file of this number, which a mark names, is absent or none, or has more memory pages than the memory.
+    /// The page file of this number, which a mark names, is absent or isn't a valid page file, or has more memory pages than the memory.
     #[error("the page file {0} is bad")]
     BadPage(u64),
     /// The height is not published.

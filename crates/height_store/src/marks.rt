@@ -41,7 +41,7 @@ impl Model for OpenedMark {
 }
 
 /// Reads the marks of these heights, which are all that the disk has, in order.
-/// BadMark for the first that is none for its height or is the seventeenth.
+/// BadMark for the first that isn't a valid mark of its height or is the seventeenth.
 pub(crate) fn read_marks<D: Disk>(
     alloc: Global,
     disk: &mut D,
@@ -69,7 +69,7 @@ pub(crate) fn read_marks<D: Disk>(
     Ok(marks)
 }
 
-// Reads the mark of this height. BadMark where there is none.
+// Reads the mark of this height. BadMark where it has no valid mark.
 fn read_mark<D: Disk>(alloc: Global, disk: &mut D, height: u64) -> Result<OpenedMark, StoreError>
     ensures spelled { IsTrue D.tells → IfOk result (λ m. SpellsMark (D.view disk.old).state.files height m.mark (part_of m.system)) }
     ensures height { IfOk result (λ m. m.mark.height ≡ height) }
@@ -87,7 +87,7 @@ fn read_mark<D: Disk>(alloc: Global, disk: &mut D, height: u64) -> Result<Opened
     }
 }
 
-// The bytes of the mark of this height. `None` where there are none or more than a mark can have; then none is read.
+// The bytes of the mark of this height. `None` where there is no file or it is longer than a mark can be; then nothing is read.
 fn read_text<D: Disk>(
     alloc: Global,
     disk: &mut D,

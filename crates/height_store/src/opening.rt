@@ -33,10 +33,10 @@ impl HeightStore {
     /// Opens a disk: settles it, reads its marks by height and the indices of the page files that they name by number,
     /// and removes every page file that no mark names, every draft and every stage file. No page is read.
     ///
-    /// BadMark for the first mark by height that is none for its height or is the seventeenth; a file that is longer than any mark
+    /// BadMark for the first mark by height that isn't a valid mark of its height or is the seventeenth; a file that is longer than any mark
     /// is not read. Where all marks are good,
-    /// BadPage for the first page file by number that a mark names and that is absent, is none or has more memory pages than
-    /// the memory. Nothing is removed then. Fault where the disk failed, Memory where memory ran out.
+    /// BadPage for the first page file by number that a mark names and that is absent, isn't a valid
+    /// page file or has more memory pages than the memory. Nothing is removed then. Fault where the disk failed, Memory where memory ran out.
     ///
     /// Every mark and every page file that it names reads as before, whatever the files stand for. Where every image on entry
     /// stands for some heights, every image since stands for heights that one on entry stands for; and after Ok every image stands

@@ -29,7 +29,7 @@ use std::alloc::Global;
 use sys_state::SysState;
 
 /// Opens each page file that these marks name, once, by number. The marks are all that the disk has, and good.
-/// BadPage for the first that is absent, is none or has more memory pages than a memory that names it.
+/// BadPage for the first that is absent, isn't a valid page file or has more memory pages than a memory that names it.
 pub(crate) fn open_pages<D: Disk>(
     alloc: Global,
     disk: &mut D,

@@ -37,7 +37,7 @@ pub record IsHeader (memory ranges pages : ℕ) (bytes : Bytes) (size : ℕ) : T
   pub text : bytes ≡ header_text memory ranges pages
   pub whole : size ≡ length_of ranges pages
 
--- what was read is the header of a file of this length; there was none where the bytes are none
+-- what was read is the header of a file of this length; where none was read the bytes have none
 abbrev pub ReadsHeader : Bytes → ℕ → Result (Option Header) NoMemory → Type 0
 ReadsHeader bytes size (Ok (Some h)) = IsHeader h.memory h.ranges h.pages bytes size
 ReadsHeader bytes size (Ok None) = (memory ranges pages : ℕ) → IsHeader memory ranges pages bytes size → ⊥

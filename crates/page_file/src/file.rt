@@ -130,7 +130,7 @@ impl PageFile {
     }
 }
 
-// The index of the page file of this number. `None` where there is no such file, or its bytes are none.
+// The index of the page file of this number. `None` where there is no such file, or its bytes begin with no index.
 fn read_index<D: Disk>(
     alloc: Global,
     disk: &mut D,

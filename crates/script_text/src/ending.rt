@@ -13,9 +13,9 @@ pub enum RunStop {
     ReadFault,
     WriteFault,
     DiskFault,
-    /// The mark of this height is none.
+    /// The mark of this height isn't a valid mark.
     BadMark(u64),
-    /// The page file of this number is none.
+    /// The page file of this number isn't a valid page file.
     BadPage(u64),
     /// The line of this number, from 1, is too long.
     LongLine(u32),

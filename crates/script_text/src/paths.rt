@@ -68,7 +68,7 @@ fn read_label(alloc: Global, word: &[u8]) -> Result<Option<Blob>, NoMemory>
     read_plain_label(alloc, word)
 }
 
-// Each word as a label. None where one of them is none.
+// Each word as a label. `None` where one of them isn't a label.
 fn read_labels(alloc: Global, words: &[&[u8]]) -> Result<Option<Vec<Blob>>, NoMemory>
     ensures { IfOk result (λ labels. option_map (λ found. found.items) labels ≡ each_of label_of (map (λ word. word.now) words.now)) }
 {
@@ -120,7 +120,7 @@ fn is_good_count(count: usize) -> bool
     1 <= count && count <= MAX_PATHS
 }
 
-// Each word as a path. None where one of them is none.
+// Each word as a path. `None` where one of them isn't a path.
 fn read_each_path(alloc: Global, words: &[&[u8]]) -> Result<Option<Vec<Path>>, NoMemory>
     ensures { IfOk result (λ paths. option_map (λ found. found.items) paths ≡ each_of path_of (map (λ word. word.now) words.now)) }
 {

@@ -61,8 +61,8 @@ impl Manager {
     /// answered, the marks are as before and nothing was appended. At most the marks were read, the index of each page file that
     /// one names, and all pages of the newest height.
     ///
-    /// BadMark and BadPage as the store says: the first mark by height that is none, or else the first page file by number that a
-    /// mark names and that is none. Fault where the disk failed, Memory where memory ran out.
+    /// BadMark and BadPage as the store says: the first mark by height that isn't valid, or else the first page file by number that
+    /// a mark names and that isn't. Fault where the disk failed, Memory where memory ran out.
     pub fn open<D: Disk>(alloc: Global, disk: &mut D, _cache: u32) -> Result<Manager, OpenError>
         ensures kept { IsTrue D.tells → (ps : List Published)
             → EachImage (D.view disk.old).state StandsForSome → StandsFor (D.view disk.old).state.files ps

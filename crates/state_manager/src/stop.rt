@@ -34,10 +34,10 @@ impl From<StoreError> for Stop {
 /// Why a manager does not open.
 #[derive(Clone, Copy, Debug, PartialEq, Eq, Error)]
 pub enum OpenError {
-    /// The mark of this height is none, or there are sixteen before it.
+    /// The mark of this height isn't a valid mark, or there are sixteen before it.
     #[error("the mark of height {0} is bad")]
     BadMark(u64),
-    /// The page file of this number, which a mark names, is absent or none, or has more memory pages than the memory.
+    /// The page file of this number, which a mark names, is absent or isn't a valid page file, or has more memory pages than the memory.
     #[error("page file {0} is bad")]
     BadPage(u64),
     /// The disk failed, and has counted that.

@@ -19,7 +19,7 @@ pub fn layers_that_do_not_fit()
         → FitsMemory m (name, 0) → ⊥ }
 {}
 
-/// The mark of height 1 is none of height 2.
+/// The mark of height 1 is no mark of height 2.
 pub fn a_mark_of_another_height()
     ensures { (m : Mark) (s : SystemPart) → IsMarkText 2 (mark_text one_mark) m s → ⊥ }
 {}
