@@ -10,7 +10,8 @@ use Rattle.sys_state.specs.System.{System, part_of}
 use Rattle.disk_model.specs.View.{DiskView}
 use Rattle.disk_model.specs.Looking.{OnlyLooks, looks_then, looks_more}
 use Rattle.height_store.specs.Store.{StoredHeight, height_at}
-use Rattle.height_store.specs.Known.{bytes_at, pages_holding}
+use Rattle.height_store.specs.Known.{bytes_at}
+use Rattle.state_spec.specs.Memory.{pages_holding}
 
 -- all pages hold a byte of a whole memory
 pub all_held : (most pages len : ℕ) → most ≡ pages → len ≡ most * PAGE_SIZE → PAGE_SIZE * pages_holding 0 len ≡ pages * PAGE_SIZE

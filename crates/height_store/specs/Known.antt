@@ -1,12 +1,12 @@
 -- What is known of the state of a published height, and where the pages of its memories stand.
-use Rattle.std.specs.Prelude.{◌≡◌, ◌≤◌, ◌<◌, ◌+◌, ◌-◌, ◌/◌, ◌==◌, if◌then◌else◌, ℕ, ◌*◌, List, length, map, sum_by, slice_get, Some}
+use Rattle.std.specs.Prelude.{◌≡◌, ◌≤◌, ◌<◌, ◌+◌, ◌-◌, ℕ, ◌*◌, List, length, map, sum_by, slice_get, Some}
 use Rattle.std.specs.Option.{option_map_or}
 use Rattle.std.specs.List.{AllZip}
 use Rattle.format_spec.specs.Bytes.{Bytes}
 use Rattle.format_spec.specs.declared.limits.TheConstants.{PAGE_SIZE}
 use Rattle.state_spec.specs.State.{State, system_of, memory_bytes}
 use Rattle.state_spec.specs.Files.{memories_in}
-use Rattle.state_spec.specs.Memory.{pages_for}
+use Rattle.state_spec.specs.Memory.{pages_holding}
 use Rattle.store_spec.specs.Image.{Published, HasTrueSums, opened_state}
 use Rattle.sys_state.specs.System.{part_of, kept_of}
 use Rattle.state_spec.specs.Root.{root_of}
@@ -33,10 +33,6 @@ IsMemoryAt s file bytes = slice_get (memory_bytes s) file ≡ Some bytes
 -- how many bytes the memories of a height have, and none where it is not published
 abbrev pub bytes_at : List StoredHeight → ℕ → ℕ
 bytes_at hs height = option_map_or (λ h. sum_by (λ m. m.1 * PAGE_SIZE) (memories_in (part_of h.system))) (height_at hs height) 0
-
--- how many pages hold a byte of so many, from an offset on
-abbrev pub pages_holding : ℕ → ℕ → ℕ
-pages_holding offset len = if len == 0 then 0 else pages_for (offset + len) - offset / PAGE_SIZE
 
 -- the first of them, and the one behind the last
 pub record AreTheirPages (offset len first behind : ℕ) : Type 0 where

@@ -5,6 +5,7 @@ ghost use Rattle.format_spec.specs.Bytes.{Bytes};
 ghost use Rattle.format_spec.specs.declared.limits.TheConstants.{PAGE_SIZE as page_size, MAX_MEMORY_PAGES};
 ghost use Rattle.state_spec.specs.State.{memory_bytes};
 ghost use Rattle.state_spec.specs.Files.{memories_in};
+ghost use Rattle.state_spec.specs.Memory.{pages_holding};
 ghost use Rattle.store_spec.specs.Image.{Published};
 ghost use Rattle.page_spec.specs.Layers.{Layer, memory_from};
 ghost use Rattle.sys_state.specs.System.{part_of, IsWithinLimits};
@@ -15,7 +16,7 @@ ghost use Rattle.height_store.specs.Answers.{RangeIs};
 ghost use Rattle.height_store.specs.Errors.{HasCause, NoBadFile};
 ghost use Rattle.height_store.specs.Kept.{IsReadable, ShowsHeight};
 ghost use Rattle.height_store.specs.Store.{StoredHeight, height_at};
-ghost use Rattle.height_store.specs.Known.{IsMemoryAt, AreTheirPages, bytes_at, pages_holding};
+ghost use Rattle.height_store.specs.Known.{IsMemoryAt, AreTheirPages, bytes_at};
 
 use crate::error::StoreError;
 use crate::store::HeightStore;

@@ -1,10 +1,10 @@
 -- How many bytes a line appends to the disk, and how many it reads at most.
-use Rattle.std.specs.Prelude.{ℕ, ◌+◌, ◌-◌, ◌*◌, ◌/◌, ◌==◌, ◌||◌, if◌then◌else◌, nat_le, length, sum_by, Option, None}
+use Rattle.std.specs.Prelude.{ℕ, ◌-◌, ◌*◌, ◌||◌, if◌then◌else◌, nat_le, length, sum_by, Option, None}
 use Rattle.std.specs.List.{last_or}
 use Rattle.std.specs.Option.{option_map_or}
 use Rattle.format_spec.specs.declared.limits.TheConstants.{PAGE_SIZE, MAX_PUBLISHED}
 use Rattle.state_spec.specs.State.{State, system_of, memory_bytes}
-use Rattle.state_spec.specs.Memory.{pages_for}
+use Rattle.state_spec.specs.Memory.{pages_holding}
 use Rattle.state_spec.specs.SystemText.{system_text}
 use Rattle.store_spec.specs.Whole.{whole_length}
 use Rattle.script_text.specs.declared.command.Command.{Command}
@@ -31,10 +31,6 @@ checkpoint_bytes m = option_map_or (λ k.
 abbrev pub appends : Machine → Command → ℕ
 appends m Checkpoint = checkpoint_bytes m
 appends m command = 0
-
--- how many pages hold a byte of so many, from an offset on
-abbrev pub pages_holding : ℕ → ℕ → ℕ
-pages_holding offset len = if len == 0 then 0 else pages_for (offset + len) - offset / PAGE_SIZE
 
 -- the state that a line asks about, where its height is published: its bytes are on the disk then
 abbrev pub on_disk : Machine → HeightOrLive → Option State

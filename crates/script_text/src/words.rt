@@ -3,13 +3,12 @@
 ghost use Rattle.std.specs.Prelude.{◌≡◌, ◌≤◌, IfOk, IfSome, length, map};
 ghost use Rattle.std.specs.List.{list_all};
 ghost use Rattle.format_spec.specs.declared.limits.TheConstants.{MAX_MODULE};
-ghost use Rattle.byte_codec.specs.Hex.{is_lower_digit};
 ghost use Rattle.script_text.specs.Script.{words};
 ghost use Rattle.script_text.specs.Words.{is_digit, is_number, number_of, number_up_to, hex_of, hex_up_to, id_of, hash_of, mem_of};
 ghost use Rattle.script_text.specs.Words.{module_of, height_of, height_or_live};
 
 use crate::command::HeightOrLive;
-use byte_codec::{Blob, HexError, NoMemory, hex_bytes};
+use byte_codec::{Blob, HexError, NoMemory, are_hex_digits, hex_bytes};
 use format_spec::{HASH_SIZE, MAX_HEIGHT, MAX_ID, MAX_MODULE};
 use hash_domain::Hash32;
 use std::alloc::Global;
@@ -64,13 +63,6 @@ pub fn read_hex(alloc: Global, word: &[u8]) -> Result<Option<Blob>, NoMemory>
         Err(HexError::Bad) => Ok(None),
         Err(HexError::Memory) => Err(NoMemory),
     }
-}
-
-fn are_hex_digits(word: &[u8]) -> bool
-    ensures { result ≡ list_all is_lower_digit word.now }
-{
-    word.iter()
-        .all(|byte| matches!(*byte, b'0'..=b'9' | b'a'..=b'f'))
 }
 
 /// The id of a canister, in hexadecimal.

@@ -4,6 +4,7 @@ ghost use Rattle.std.specs.Prelude.{◌≡◌, ◌≤◌, ◌<◌, ◌==◌, ◌
 ghost use Rattle.std.specs.List.{last_or, AllByRecursion, AllZip};
 ghost use Rattle.std.specs.Option.{option_map_or};
 ghost use Rattle.format_spec.specs.declared.limits.TheConstants.{PAGE_SIZE as page_size};
+ghost use Rattle.state_spec.specs.Memory.{pages_holding};
 ghost use Rattle.state_spec.specs.Root.{root_of};
 ghost use Rattle.store_spec.specs.Image.{Published, opened_state};
 ghost use Rattle.disk_model.specs.Looking.{OnlyLooks};
@@ -11,7 +12,7 @@ ghost use Rattle.height_store.specs.Errors.{HasCause as StoreCause, NoBadFile};
 ghost use Rattle.height_store.specs.Kept.{IsReadable, ShowsHeight};
 ghost use Rattle.height_store.specs.Store.{StoredHeight, height_at, heights_in};
 ghost use Rattle.height_store.specs.Known.{KnowsHeight, bytes_at};
-ghost use Rattle.machine_spec.specs.Costs.{pages_holding, pages_told};
+ghost use Rattle.machine_spec.specs.Costs.{pages_told};
 ghost use Rattle.machine_spec.specs.HeightSteps.{counts_of, tree_root};
 ghost use Rattle.machine_spec.specs.LiveSteps.{read_reply};
 ghost use Rattle.machine_spec.specs.Machine.{start};

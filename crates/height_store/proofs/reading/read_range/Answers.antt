@@ -4,9 +4,9 @@ use Rattle.disk_model.specs.State.{DiskState}
 use Rattle.disk_model.specs.Looking.{OnlyLooks, looks_then, looks_more}
 use Rattle.layer_stack.specs.Stacks.{AreLayers}
 use Rattle.height_store.specs.Memories.{layers_whole}
-use Rattle.height_store.specs.Known.{pages_holding}
 use Rattle.height_store.proofs.Ranges.{page_of_memory, range_more, size_more, within_memory}
 use Rattle.height_store.proofs.reading.read_range.Goals as goal
+use Rattle.state_spec.specs.Memory.{pages_holding}
 
 -- another page
 next_most : (page first : ℕ) → first ≤ page → PAGE_SIZE * (page - first) + PAGE_SIZE ≡ PAGE_SIZE * (page + 1 - first)
