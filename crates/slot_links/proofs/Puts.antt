@@ -1,14 +1,14 @@
 -- What putting an item into a list leaves of the fields.
 use Rattle.std.proofs.Common.{◌≡◌, ◌≢◌, ℕ, ◌+◌, ◌<◌, List, [], ◌∷◌, ◌++◌, length, get_or, set, length-set, Option, Some, None, refl, sym, ap, subst, ◌∙◌, arith}
 use Rattle.std.proofs.lemmas.List.{get_or-set_same, get_or-set_other}
+use Rattle.format_spec.proofs.Lists.{none_or_some}
 use Rattle.slot_links.specs.Lists.{Lists, members_of, Has, IsUnlinked, with_members}
-use Rattle.slot_links.specs.Rings.{row_at, IsPath, IsSound}
-use Rattle.slot_links.specs.declared.links.Links.TheInside.{Inside}
+use Rattle.slot_links.specs.Rings.{Fields, Nodes, nodes_in, row_at, IsPath, IsSound}
 use Rattle.slot_links.proofs.Cuts.{ring-forth}
-use Rattle.slot_links.proofs.Joins.{IsHalfJoin, IsJoin, IsJoined, rings-join, path-back, path-front, path-end, joined-back, joined-front}
-use Rattle.slot_links.proofs.Paths.{path-start}
-use Rattle.slot_links.proofs.Sound.{seen, seen-count, seen-members, seen-is, sound, in-seen, owner-free, read-is, prior-within, next-within}
-use Rattle.slot_links.proofs.Tables.{put, set-tabulate}
+use Rattle.slot_links.proofs.Joins.{IsHalfJoin, IsJoin, MayJoin, rings-join, path-back, path-front, path-end, joined-back, joined-front}
+use Rattle.slot_links.proofs.Paths.{AreInverse, path-start}
+use Rattle.slot_links.proofs.Sound.{lists_of, seen, seen-count, seen-members, seen-is, sound, in-seen, owner-free, read-is, prior-within, next-within}
+use Rattle.slot_links.proofs.Tables.{put as put_row, set-tabulate}
 
 -- the links of one direction, when they are set so that x stands between `a` and `t`
 half-join-set : (l : List ℕ) (x a t : ℕ) → a ≢ x → a < length l → x < length l → IsHalfJoin (λ n. get_or l n 0) (λ n. get_or (set (set l a x) x t) n 0) x a t
@@ -19,107 +19,118 @@ half-join-set l x a t apart in_a in_x = record {
 }
 
 -- an item that is in no list, and a list that `v` shows
-module _ (links : Inside) (v : Lists) (is : seen links.next.items links.items links.lists ≡ v) (s : IsSound links.next.items links.previous.items links.owner.items links.items links.lists) (k x : ℕ) (within : k < length v.members) (inside : x < v.items) (free : IsUnlinked v x) where
-  abbrev next : ℕ → ℕ
-  next n = get_or links.next.items n 0
+abbrev pub IsFree : Fields → Lists → ℕ → ℕ → Type 0
+IsFree f v k x = (seen f ≡ v) × IsSound f × (k < length v.members) × (x < v.items) × IsUnlinked v x
 
-  abbrev previous : ℕ → ℕ
-  previous n = get_or links.previous.items n 0
+module _ (f : Fields) (v : Lists) (k x : ℕ) (put : IsFree f v k x) where
+  is : seen f ≡ v
+  is = put.0
 
-  abbrev owner : ℕ → Option ℕ
-  owner n = get_or links.owner.items n None
+  s : IsSound f
+  s = put.1
+
+  free : IsUnlinked v x
+  free = put.4
 
   abbrev row : List ℕ
-  row = row_at links.next.items links.items k
+  row = row_at f.next f.items k
 
   abbrev begin : ℕ
-  begin = links.items + k
+  begin = f.items + k
 
-  pub in-lists : k < links.lists
-  in-lists = seen-count links.next.items links.items links.lists k (rw (← is) at within)
+  abbrev nodes : Nodes
+  nodes = nodes_in f
 
-  pub small : x < links.items
-  small = rw (← is) at inside
+  pub in-lists : k < f.lists
+  in-lists = seen-count f k (rw (← is) at put.2)
 
-  owns_none : owner x ≡ None
-  owns_none = owner-free links.next.items links.previous.items links.owner.items links.items links.lists x s small (rw (← is) at free)
+  pub small : x < f.items
+  small = rw (← is) at put.3
+
+  owns_none : nodes.owner x ≡ None
+  owns_none = owner-free f x s small (rw (← is) at free)
 
   absent : Has x row → ⊥
-  absent h = (rw (← is) at free) k (in-seen links.next.items links.items links.lists k x in-lists h)
+  absent h = (rw (← is) at free) k (in-seen f k x in-lists h)
 
-  old : IsPath next owner k begin row begin
+  old : IsPath nodes k begin row begin
   old = s.rings.paths k in-lists
 
-  forth : (n : ℕ) → Has n (begin ∷ row) → previous (next n) ≡ n
-  forth = ring-forth next previous owner links.items links.lists (row_at links.next.items links.items) s.rings k in-lists
+  forth : AreInverse nodes (begin ∷ row)
+  forth = ring-forth nodes f.items f.lists (row_at f.next f.items) s.rings k in-lists
 
-  -- the links when x stands between the nodes `a` and `t`
-  abbrev next' : ℕ → ℕ → ℕ → ℕ
-  next' a t n = get_or (set (set links.next.items a x) x t) n 0
-
-  abbrev previous' : ℕ → ℕ → ℕ → ℕ
-  previous' a t n = get_or (set (set links.previous.items t x) x a) n 0
-
-  abbrev owner' : ℕ → Option ℕ
-  owner' n = get_or (set links.owner.items x (Some k)) n None
+  -- the fields when x stands between the nodes `a` and `t`
+  abbrev pub linked : ℕ → ℕ → Fields
+  linked a t = record { next = set (set f.next a x) x t; previous = set (set f.previous t x) x a; owner = set f.owner x (Some k); items = f.items; lists = f.lists }
 
   abbrev IsLinkedIn : ℕ → ℕ → Type 0
-  IsLinkedIn a t = IsJoin next previous owner (next' a t) (previous' a t) owner' x a t k
+  IsLinkedIn a t = IsJoin nodes (nodes_in (linked a t)) x a t k
 
   -- then the fields are sound, and show the list as this one
   abbrev pub IsPut : ℕ → ℕ → List ℕ → Type 0
-  IsPut a t now =
-      IsSound (set (set links.next.items a x) x t) (set (set links.previous.items t x) x a) (set links.owner.items x (Some k)) links.items links.lists
-      × (seen (set (set links.next.items a x) x t) links.items links.lists ≡ with_members v k now)
+  IsPut a t now = IsSound (linked a t) × (seen (linked a t) ≡ with_members v k now)
 
-  joined : (a t : ℕ) (now : List ℕ) → a ≢ x → t ≢ x → a < links.items + links.lists → t < links.items + links.lists → next a ≡ t → owner a ≡ Some k → IsJoined x row now → (IsLinkedIn a t → IsPath (next' a t) owner' k begin now begin) → IsPut a t now
-  joined a t now apart far in_a in_t is_t mine all path =
+  joined : (a t : ℕ) (now : List ℕ) → a ≢ x → t ≢ x → t < f.items + f.lists → MayJoin nodes f.items f.lists x a t k row now → (IsLinkedIn a t → IsPath (nodes_in (linked a t)) k begin now begin) → IsPut a t now
+  joined a t now apart far in_t may path =
       let low = small in
       let join : IsLinkedIn a t = record {
-        forth = half-join-set links.next.items x a t apart (omega (arith, s.next_len)) (omega (arith, s.next_len));
-        back = half-join-set links.previous.items x t a far (omega (arith, s.previous_len)) (omega (arith, s.previous_len));
-        owner_self = get_or-set_same links.owner.items x (Some k) None (omega (arith, s.owner_len));
-        owner_rest = λ n ne. get_or-set_other links.owner.items x n (Some k) None ne;
+        forth = half-join-set f.next x a t apart (omega (arith, s.next_len, may.in_a)) (omega (arith, s.next_len));
+        back = half-join-set f.previous x t a far (omega (arith, s.previous_len, in_t)) (omega (arith, s.previous_len));
+        owner_self = get_or-set_same f.owner x (Some k) None (omega (arith, s.owner_len));
+        owner_rest = λ n ne. get_or-set_other f.owner x n (Some k) None ne;
       } in
-      let rows = put (row_at links.next.items links.items) k now in
-      let rings = rings-join next previous owner (next' a t) (previous' a t) owner' links.items links.lists x a t k (row_at links.next.items links.items) now join s.rings small owns_none in-lists in_a is_t mine all (path join) in (
-        sound (set (set links.next.items a x) x t) (set (set links.previous.items t x) x a) (set links.owner.items x (Some k)) links.items links.lists rows (simp length-set s.next_len) (simp length-set s.previous_len) (simp length-set s.owner_len) s.small rings,
-        rw (← is) (seen-is (set (set links.next.items a x) x t) (set (set links.previous.items t x) x a) (set links.owner.items x (Some k)) links.items links.lists rows rings ∙ ap (λ (m : List (List ℕ)). let l : Lists = record { items = links.items; members = m } in l) (sym (set-tabulate links.lists (row_at links.next.items links.items) k now))),
+      let rows = put_row (row_at f.next f.items) k now in
+      let rings = rings-join nodes (nodes_in (linked a t)) f.items f.lists x a t k (row_at f.next f.items) now join s.rings may (path join) in (
+        sound (linked a t) rows (simp length-set s.next_len) (simp length-set s.previous_len) (simp length-set s.owner_len) s.small rings,
+        rw (← is) (seen-is (linked a t) rows rings ∙ ap (lists_of f.items) (sym (set-tabulate f.lists (row_at f.next f.items) k now))),
       )
 
   row-is : members_of v k ≡ row
-  row-is = rw (← is) (seen-members links.next.items links.items links.lists k in-lists)
+  row-is = rw (← is) (seen-members f k in-lists)
 
-  pub put-back : (a : ℕ) → a ≡ get_or links.previous.items begin a → IsPut a begin (members_of v k ++ x ∷ [])
+  pub put-back : (a : ℕ) → a ≡ get_or f.previous begin a → IsPut a begin (members_of v k ++ x ∷ [])
   put-back a read =
       let below = in-lists in
       let low = small in
-      let in_t : begin < links.items + links.lists = omega arith in
-      let is_a : a ≡ previous begin = read-is links.previous.items begin a (omega (arith, s.previous_len)) read in
-      let in_a : a < links.items + links.lists = subst (λ m. m < links.items + links.lists) (sym is_a) (s.rings.back begin in_t).0 in
-      let end : next a ≡ begin = ap next is_a ∙ (s.rings.back begin in_t).1 in
-      let mine : owner a ≡ Some k = ap owner is_a ∙ path-end next previous owner k begin row begin old forth in
-      let apart : a ≢ x = λ e. (let bad : Some k ≡ None = sym mine ∙ ap owner e ∙ owns_none in cc) in
-      rw row-is (joined a begin (row ++ x ∷ []) apart (λ e. omega arith) in_a in_t end mine
-      (joined-back x row absent (s.rings.apart k in-lists))
-      (λ join. path-back next previous owner (next' a begin) (previous' a begin) owner' links.items links.lists x a begin k (row_at links.next.items links.items) begin row begin join is_a refl end owns_none (λ h. let less = s.rings.among k in-lists begin h in omega arith) forth old))
+      let in_t : begin < f.items + f.lists = omega arith in
+      let is_a : a ≡ nodes.previous begin = read-is f.previous begin a (omega (arith, s.previous_len)) read in
+      let end : nodes.next a ≡ begin = ap nodes.next is_a ∙ (s.rings.back begin in_t).1 in
+      let mine : nodes.owner a ≡ Some k = ap nodes.owner is_a ∙ path-end nodes k begin row begin old forth in
+      rw row-is (joined a begin (row ++ x ∷ []) (λ e. none_or_some k (nodes.owner x) owns_none (ap nodes.owner (sym e) ∙ mine)) (λ e. omega arith) in_t
+      record {
+        small = small;
+        free = owns_none;
+        in_k = in-lists;
+        in_a = subst (λ m. m < f.items + f.lists) (sym is_a) (s.rings.back begin in_t).0;
+        is_t = end;
+        mine = mine;
+        joined = joined-back x row absent (s.rings.apart k in-lists);
+      }
+      (λ join. path-back nodes (nodes_in (linked a begin)) f.items f.lists x a begin k (row_at f.next f.items) begin row begin join is_a refl end owns_none (λ h. let less = s.rings.among k in-lists begin h in omega arith) forth old))
 
-  pub put-front : (t : ℕ) → t ≡ get_or links.next.items begin t → IsPut begin t (x ∷ members_of v k)
+  pub put-front : (t : ℕ) → t ≡ get_or f.next begin t → IsPut begin t (x ∷ members_of v k)
   put-front t read =
       let below = in-lists in
       let low = small in
-      let in_a : begin < links.items + links.lists = omega arith in
-      let is_t : t ≡ next begin = read-is links.next.items begin t (omega (arith, s.next_len)) read in
-      let in_t : t < links.items + links.lists = subst (λ m. m < links.items + links.lists) (sym is_t) (s.rings.forth begin in_a).0 in
+      let in_a : begin < f.items + f.lists = omega arith in
+      let is_t : t ≡ nodes.next begin = read-is f.next begin t (omega (arith, s.next_len)) read in
       let apart : begin ≢ x = λ e. omega arith in
-      let far : t ≢ x = λ e. apart (sym (s.rings.forth begin in_a).1 ∙ ap previous (sym is_t ∙ e ∙ sym (s.rings.alone x small owns_none)) ∙ (s.rings.forth x (omega arith)).1) in
-      rw row-is (joined begin t (x ∷ row) apart far in_a in_t (sym is_t) (path-start next owner k begin row begin old)
-      (joined-front x row absent (s.rings.apart k in-lists))
-      (λ join. path-front next previous owner (next' begin t) (previous' begin t) owner' links.items links.lists x begin t k (row_at links.next.items links.items) row begin join (sym is_t) owns_none (λ h. let less = s.rings.among k in-lists begin h in omega arith) old))
+      let far : t ≢ x = λ e. apart (sym (s.rings.forth begin in_a).1 ∙ ap nodes.previous (sym is_t ∙ e ∙ sym (s.rings.alone x small owns_none)) ∙ (s.rings.forth x (omega arith)).1) in
+      rw row-is (joined begin t (x ∷ row) apart far (subst (λ m. m < f.items + f.lists) (sym is_t) (s.rings.forth begin in_a).0)
+      record {
+        small = small;
+        free = owns_none;
+        in_k = in-lists;
+        in_a = in_a;
+        is_t = sym is_t;
+        mine = path-start nodes k begin row begin old;
+        joined = joined-front x row absent (s.rings.apart k in-lists);
+      }
+      (λ join. path-front nodes (nodes_in (linked begin t)) f.items f.lists x begin t k (row_at f.next f.items) row begin join (sym is_t) owns_none (λ h. let less = s.rings.among k in-lists begin h in omega arith) old))
 
   -- the node before the list's own, and the one after it, are nodes
-  pub last-within : (a : ℕ) → a ≡ get_or links.previous.items begin a → a < length links.next.items
-  last-within a = prior-within links.next.items links.previous.items links.owner.items links.items links.lists begin a s (omega (arith, in-lists))
+  pub last-within : (a : ℕ) → a ≡ get_or f.previous begin a → a < length f.next
+  last-within a = prior-within f begin a s (omega (arith, in-lists))
 
-  pub first-within : (t : ℕ) → t ≡ get_or links.next.items begin t → t < length links.previous.items
-  first-within t = next-within links.next.items links.previous.items links.owner.items links.items links.lists begin t s (omega (arith, in-lists))
+  pub first-within : (t : ℕ) → t ≡ get_or f.next begin t → t < length f.previous
+  first-within t = next-within f begin t s (omega (arith, in-lists))

@@ -2,56 +2,56 @@
 use Rattle.std.proofs.Common.{◌≡◌, ◌≢◌, ◌⊎◌, inl, inr, ℕ, zero, suc, ◌+◌, ◌^◌, ◌<◌, ◌≤◌, List, [], ◌∷◌, length, replicate, get_or, set, Option, Some, None, MatchOption, refl, sym, ap, ◌∙◌, arith, length-set}
 use Rattle.std.proofs.lemmas.List.{get_or-set_same, get_or-set_other, get_or_default}
 use Rattle.std.proofs.lemmas.Grind.{get_or-set_at}
-use Rattle.slot_links.specs.Lists.{Lists, first_of_list, successor, Has, AreDistinct, IsIn, IsUnlinked, without, lists_without}
-use Rattle.slot_links.specs.Rings.{tabulate, follow, row_at, IsPath, AreRings, IsSound}
+use Rattle.format_spec.proofs.Lists.{some_once}
+use Rattle.slot_links.specs.Lists.{Lists, members_of, first_of_list, successor, Has, AreDistinct, IsIn, IsUnlinked, without, lists_without}
+use Rattle.slot_links.specs.Rings.{Fields, nodes_in, tabulate, follow, row_at, IsPath, AreRings, IsSound}
+use Rattle.slot_links.specs.declared.links.Links.TheInside.{Inside}
 use Rattle.slot_links.proofs.Paths.{follow-path, path-owner, leads-on}
 use Rattle.slot_links.proofs.Tables.{length-tabulate, get-tabulate, tabulate-congr, map-tabulate, length-apart}
 use Rattle.slot_links.proofs.Cuts.{IsHalfCut, rings-cut}
-use Rattle.format_spec.proofs.Lists.{some_once}
+
+abbrev pub fields : Inside → Fields
+fields links = record { next = links.next.items; previous = links.previous.items; owner = links.owner.items; items = links.items; lists = links.lists }
+
+abbrev pub lists_of : ℕ → List (List ℕ) → Lists
+lists_of items members = record { items = items; members = members }
 
 -- what a contract sees of these fields
-abbrev pub seen : List ℕ → ℕ → ℕ → Lists
-seen next items lists = record { items = items; members = tabulate lists (row_at next items) }
+abbrev pub seen : Fields → Lists
+seen f = lists_of f.items (tabulate f.lists (row_at f.next f.items))
 
 -- what follows a list's ring meets its items
-pub rings-row : (next previous : ℕ → ℕ) (owner : ℕ → Option ℕ) (items lists : ℕ) (rows : ℕ → List ℕ) → AreRings next previous owner items lists rows → (k : ℕ) → k < lists → follow items next (items + k) (next (items + k)) ≡ rows k
-rings-row next previous owner items lists rows rings k below =
-    follow-path next owner k items (items + k) (rows k) (items + k) (rings.paths k below) (λ h. let small = rings.among k below (items + k) h in omega arith) (length-apart (rows k) items (rings.apart k below) (rings.among k below))
+rings-row : (f : Fields) (rows : ℕ → List ℕ) → AreRings (nodes_in f) f.items f.lists rows → (k : ℕ) → k < f.lists → row_at f.next f.items k ≡ rows k
+rings-row f rows rings k below =
+    follow-path (nodes_in f) k f.items (f.items + k) (rows k) (f.items + k) (rings.paths k below) (λ h. let small = rings.among k below (f.items + k) h in omega arith) (length-apart (rows k) f.items (rings.apart k below) (rings.among k below))
 
-pub rings-same : (next previous : ℕ → ℕ) (owner : ℕ → Option ℕ) (items lists : ℕ) (rows rows' : ℕ → List ℕ) → AreRings next previous owner items lists rows → ((k : ℕ) → k < lists → rows' k ≡ rows k) → AreRings next previous owner items lists rows'
-rings-same next previous owner items lists rows rows' rings same = record {
+-- rings, whatever rows they were given as, are those that the links spell
+rings-same : (f : Fields) (rows : ℕ → List ℕ) → AreRings (nodes_in f) f.items f.lists rows → AreRings (nodes_in f) f.items f.lists (row_at f.next f.items)
+rings-same f rows rings = record {
   forth = rings.forth;
   back = rings.back;
   alone = rings.alone;
-  paths = λ k below. rw (same k below) (rings.paths k below);
-  among = λ k below n has. rings.among k below n (rw (same k below) at has);
-  apart = λ k below. rw (same k below) (rings.apart k below);
-  owned = λ n k small mine. let r = rings.owned n k small mine in (r.0, rw (same k r.0) r.1);
+  paths = λ k below. rw (rings-row f rows rings k below) (rings.paths k below);
+  among = λ k below n has. rings.among k below n (rw (rings-row f rows rings k below) at has);
+  apart = λ k below. rw (rings-row f rows rings k below) (rings.apart k below);
+  owned = λ n k small mine. let r = rings.owned n k small mine in (r.0, rw (rings-row f rows rings k r.0) r.1);
 }
 
--- rings, whatever rows they were given as, are those that the links spell
-pub sound : (next previous : List ℕ) (owner : List (Option ℕ)) (items lists : ℕ) (rows : ℕ → List ℕ) → length next ≡ items + lists → length previous ≡ items + lists → length owner ≡ items + lists → items + lists < 2 ^ 32 → AreRings (λ n. get_or next n 0) (λ n. get_or previous n 0) (λ n. get_or owner n None) items lists rows → IsSound next previous owner items lists
-sound next previous owner items lists rows a b c small rings = record {
-  next_len = a;
-  previous_len = b;
-  owner_len = c;
-  small = small;
-  rings = rings-same (λ n. get_or next n 0) (λ n. get_or previous n 0) (λ n. get_or owner n None) items lists rows (row_at next items) rings (rings-row (λ n. get_or next n 0) (λ n. get_or previous n 0) (λ n. get_or owner n None) items lists rows rings);
-}
+pub sound : (f : Fields) (rows : ℕ → List ℕ) → length f.next ≡ f.items + f.lists → length f.previous ≡ f.items + f.lists → length f.owner ≡ f.items + f.lists → f.items + f.lists < 2 ^ 32 → AreRings (nodes_in f) f.items f.lists rows → IsSound f
+sound f rows a b c small rings = record { next_len = a; previous_len = b; owner_len = c; small = small; rings = rings-same f rows rings }
 
-pub seen-is : (next previous : List ℕ) (owner : List (Option ℕ)) (items lists : ℕ) (rows : ℕ → List ℕ) → AreRings (λ n. get_or next n 0) (λ n. get_or previous n 0) (λ n. get_or owner n None) items lists rows → seen next items lists ≡ record { items = items; members = tabulate lists rows }
-seen-is next previous owner items lists rows rings =
-    ap (λ (m : List (List ℕ)). let l : Lists = record { items = items; members = m } in l) (tabulate-congr lists (row_at next items) rows (rings-row (λ n. get_or next n 0) (λ n. get_or previous n 0) (λ n. get_or owner n None) items lists rows rings))
+pub seen-is : (f : Fields) (rows : ℕ → List ℕ) → AreRings (nodes_in f) f.items f.lists rows → seen f ≡ lists_of f.items (tabulate f.lists rows)
+seen-is f rows rings = ap (lists_of f.items) (tabulate-congr f.lists (row_at f.next f.items) rows (rings-row f rows rings))
 
 -- an item that a contract sees in a list is in its ring
-pub seen-in : (next : List ℕ) (items lists k x : ℕ) → IsIn (seen next items lists) k x → (k < lists) × Has x (row_at next items k)
-seen-in next items lists k x is =
-    let below : k < lists = omega (arith, is.0, length-tabulate lists (row_at next items)) in
-    (below, rw (get-tabulate lists (row_at next items) k [] below) at is.1)
+pub seen-in : (f : Fields) (k x : ℕ) → IsIn (seen f) k x → (k < f.lists) × Has x (row_at f.next f.items k)
+seen-in f k x is =
+    let below : k < f.lists = omega (arith, is.0, length-tabulate f.lists (row_at f.next f.items)) in
+    (below, rw (get-tabulate f.lists (row_at f.next f.items) k [] below) at is.1)
 
-pub in-seen : (next : List ℕ) (items lists k x : ℕ) → k < lists → Has x (row_at next items k) → IsIn (seen next items lists) k x
-in-seen next items lists k x below has =
-    (omega (arith, length-tabulate lists (row_at next items)), rw (get-tabulate lists (row_at next items) k [] below) has)
+pub in-seen : (f : Fields) (k x : ℕ) → k < f.lists → Has x (row_at f.next f.items k) → IsIn (seen f) k x
+in-seen f k x below has =
+    (omega (arith, length-tabulate f.lists (row_at f.next f.items)), rw (get-tabulate f.lists (row_at f.next f.items) k [] below) has)
 
 half-cut-set : (l : List ℕ) (g : ℕ → ℕ) (x a b : ℕ) → a ≡ g x → b ≡ get_or l x 0 → a < length l → x < length l → IsHalfCut (λ n. get_or l n 0) g (λ n. get_or (set (set l a b) x x) n 0) x
 half-cut-set l g x a b is_a is_b a_in x_in = record {
@@ -65,128 +65,138 @@ pub read-is : (xs : List ℕ) (i r : ℕ) → i < length xs → r ≡ get_or xs 
 read-is xs i r below read = read ∙ sym (get_or_default xs i 0 r below)
 
 -- taking an item out
-module _ (next previous : List ℕ) (owner : List (Option ℕ)) (items lists x a b k : ℕ) (s : IsSound next previous owner items lists) (small : x < items) (is : (k < lists) × Has x (row_at next items k)) (read_a : a ≡ get_or previous x a) (read_b : b ≡ get_or next x b) where
-  rings-unlinked : AreRings (λ n. get_or (set (set next a b) x x) n 0) (λ n. get_or (set (set previous b a) x x) n 0) (λ n. get_or (set owner x None) n None) items lists (λ j. without x (row_at next items j))
+module _ (f : Fields) (s : IsSound f) (x a b k : ℕ) (small : x < f.items) (is : (k < f.lists) × Has x (row_at f.next f.items k)) (read_a : a ≡ get_or f.previous x a) (read_b : b ≡ get_or f.next x b) where
+  abbrev pub unlinked : Fields
+  unlinked = record { next = set (set f.next a b) x x; previous = set (set f.previous b a) x x; owner = set f.owner x None; items = f.items; lists = f.lists }
+
+  rings-unlinked : AreRings (nodes_in unlinked) f.items f.lists (λ j. without x (row_at f.next f.items j))
   rings-unlinked =
-      let inside : x < items + lists = omega arith in
-      let is_a : a ≡ get_or previous x 0 = read-is previous x a (omega (arith, s.previous_len)) read_a in
-      let is_b : b ≡ get_or next x 0 = read-is next x b (omega (arith, s.next_len)) read_b in
+      let inside : x < f.items + f.lists = omega arith in
+      let is_a : a ≡ get_or f.previous x 0 = read-is f.previous x a (omega (arith, s.previous_len)) read_a in
+      let is_b : b ≡ get_or f.next x 0 = read-is f.next x b (omega (arith, s.next_len)) read_b in
       let in_a = (s.rings.back x inside).0 in
       let in_b = (s.rings.forth x inside).0 in
-      let mine = path-owner (λ n. get_or next n 0) (λ n. get_or owner n None) k (items + k) (row_at next items k) (items + k) x (s.rings.paths k is.0) is.1 in
-      rings-cut (λ n. get_or next n 0) (λ n. get_or previous n 0) (λ n. get_or owner n None) items lists (row_at next items) (λ n. get_or (set (set next a b) x x) n 0) (λ n. get_or (set (set previous b a) x x) n 0) (λ n. get_or (set owner x None) n None) x k
+      let mine = path-owner (nodes_in f) k (f.items + k) (row_at f.next f.items k) (f.items + k) x (s.rings.paths k is.0) is.1 in
+      rings-cut (nodes_in f) f.items f.lists (row_at f.next f.items) (nodes_in unlinked) x k
       record {
-        forth = half-cut-set next (λ n. get_or previous n 0) x a b is_a is_b (omega (arith, s.next_len)) (omega (arith, s.next_len));
-        back = half-cut-set previous (λ n. get_or next n 0) x b a is_b is_a (omega (arith, s.previous_len)) (omega (arith, s.previous_len));
-        owner_self = get_or-set_same owner x None None (omega (arith, s.owner_len));
-        owner_rest = λ n ne. get_or-set_other owner x n None None ne;
+        forth = half-cut-set f.next (λ n. get_or f.previous n 0) x a b is_a is_b (omega (arith, s.next_len)) (omega (arith, s.next_len));
+        back = half-cut-set f.previous (λ n. get_or f.next n 0) x b a is_b is_a (omega (arith, s.previous_len)) (omega (arith, s.previous_len));
+        owner_self = get_or-set_same f.owner x None None (omega (arith, s.owner_len));
+        owner_rest = λ n ne. get_or-set_other f.owner x n None None ne;
       }
       s.rings small mine
 
-  pub sound-unlinked : IsSound (set (set next a b) x x) (set (set previous b a) x x) (set owner x None) items lists
-  sound-unlinked = sound (set (set next a b) x x) (set (set previous b a) x x) (set owner x None) items lists (λ j. without x (row_at next items j))
-      (simp length-set s.next_len) (simp length-set s.previous_len) (simp length-set s.owner_len) s.small rings-unlinked
+  pub sound-unlinked : IsSound unlinked
+  sound-unlinked = sound unlinked (λ j. without x (row_at f.next f.items j)) (simp length-set s.next_len) (simp length-set s.previous_len) (simp length-set s.owner_len) s.small rings-unlinked
 
-  pub seen-unlinked : seen (set (set next a b) x x) items lists ≡ lists_without (seen next items lists) x
-  seen-unlinked = seen-is (set (set next a b) x x) (set (set previous b a) x x) (set owner x None) items lists (λ j. without x (row_at next items j)) rings-unlinked ∙ ap (λ (m : List (List ℕ)). let l : Lists = record { items = items; members = m } in l) (sym (map-tabulate (without x) lists (row_at next items)))
+  pub seen-unlinked : seen unlinked ≡ lists_without (seen f) x
+  seen-unlinked = seen-is unlinked (λ j. without x (row_at f.next f.items j)) rings-unlinked ∙ ap (lists_of f.items) (sym (map-tabulate (without x) f.lists (row_at f.next f.items)))
 
 option_cases : (o : Option ℕ) → (o ≡ None) ⊎ ((k : ℕ) × (o ≡ Some k))
 option_cases None = inl refl
 option_cases (Some k) = inr (k, refl)
 
 -- an item that no list has belongs to none
-pub owner-free : (next previous : List ℕ) (owner : List (Option ℕ)) (items lists x : ℕ) → IsSound next previous owner items lists → x < items → IsUnlinked (seen next items lists) x → get_or owner x None ≡ None
-owner-free next previous owner items lists x s small free = elim (option_cases (get_or owner x None)) [
+pub owner-free : (f : Fields) (x : ℕ) → IsSound f → x < f.items → IsUnlinked (seen f) x → get_or f.owner x None ≡ None
+owner-free f x s small free = elim (option_cases (get_or f.owner x None)) [
   | inl e ↦ e
-  | inr some ↦ let r = s.rings.owned x some.0 small some.1 in absurd (free some.0 (in-seen next items lists some.0 x r.0 r.1))
+  | inr some ↦ let r = s.rings.owned x some.0 small some.1 in absurd (free some.0 (in-seen f some.0 x r.0 r.1))
 ]
 
 -- an item of a list belongs to it
-pub owner-linked : (next previous : List ℕ) (owner : List (Option ℕ)) (items lists x k : ℕ) → IsSound next previous owner items lists → IsIn (seen next items lists) k x → get_or owner x None ≡ Some k
-owner-linked next previous owner items lists x k s is =
-    let r = seen-in next items lists k x is in
-    path-owner (λ n. get_or next n 0) (λ n. get_or owner n None) k (items + k) (row_at next items k) (items + k) x (s.rings.paths k r.0) r.1
+pub owner-linked : (f : Fields) (x k : ℕ) → IsSound f → IsIn (seen f) k x → get_or f.owner x None ≡ Some k
+owner-linked f x k s is =
+    let r = seen-in f k x is in
+    path-owner (nodes_in f) k (f.items + k) (row_at f.next f.items k) (f.items + k) x (s.rings.paths k r.0) r.1
 
 -- the items of a list, as a contract sees them
-pub seen-members : (next : List ℕ) (items lists k : ℕ) → k < lists → get_or (seen next items lists).members k [] ≡ row_at next items k
-seen-members next items lists k below = get-tabulate lists (row_at next items) k [] below
+pub seen-members : (f : Fields) (k : ℕ) → k < f.lists → members_of (seen f) k ≡ row_at f.next f.items k
+seen-members f k below = get-tabulate f.lists (row_at f.next f.items) k [] below
 
-pub seen-count : (next : List ℕ) (items lists k : ℕ) → k < length (seen next items lists).members → k < lists
-seen-count next items lists k below = omega (arith, length-tabulate lists (row_at next items))
+pub seen-count : (f : Fields) (k : ℕ) → k < length (seen f).members → k < f.lists
+seen-count f k below = omega (arith, length-tabulate f.lists (row_at f.next f.items))
 
 -- the node before a node, and the one after it, are nodes
-pub prior-within : (next previous : List ℕ) (owner : List (Option ℕ)) (items lists n r : ℕ) → IsSound next previous owner items lists → n < items + lists → r ≡ get_or previous n r → r < length next
-prior-within next previous owner items lists n r s below read =
-    let is = read-is previous n r (omega (arith, s.previous_len)) read in
+pub prior-within : (f : Fields) (n r : ℕ) → IsSound f → n < f.items + f.lists → r ≡ get_or f.previous n r → r < length f.next
+prior-within f n r s below read =
+    let is = read-is f.previous n r (omega (arith, s.previous_len)) read in
     let within = (s.rings.back n below).0 in
     omega (arith, s.next_len)
 
-pub next-within : (next previous : List ℕ) (owner : List (Option ℕ)) (items lists n r : ℕ) → IsSound next previous owner items lists → n < items + lists → r ≡ get_or next n r → r < length previous
-next-within next previous owner items lists n r s below read =
-    let is = read-is next n r (omega (arith, s.next_len)) read in
+pub next-within : (f : Fields) (n r : ℕ) → IsSound f → n < f.items + f.lists → r ≡ get_or f.next n r → r < length f.previous
+next-within f n r s below read =
+    let is = read-is f.next n r (omega (arith, s.next_len)) read in
     let within = (s.rings.forth n below).0 in
     omega (arith, s.previous_len)
 
--- a table of items that are in no list is all rows empty
-pub row-first : (next previous : List ℕ) (owner : List (Option ℕ)) (items lists k r : ℕ) → IsSound next previous owner items lists → k < lists → r ≡ get_or next (items + k) r → (r < items → Some r ≡ first_of_list (get_or (seen next items lists).members k [])) × (items ≤ r → None ≡ first_of_list (get_or (seen next items lists).members k []))
-row-first next previous owner items lists k r s below read =
-    let is : r ≡ get_or next (items + k) 0 = read-is next (items + k) r (omega (arith, s.next_len)) read in
-    rw (seen-members next items lists k below) (first-cases (row_at next items k) (s.rings.paths k below) (s.rings.among k below) is)
+-- what the link of a list's own node says
+pub row-first : (f : Fields) (k r : ℕ) → IsSound f → k < f.lists → r ≡ get_or f.next (f.items + k) r
+    → (r < f.items → Some r ≡ first_of_list (members_of (seen f) k)) × (f.items ≤ r → None ≡ first_of_list (members_of (seen f) k))
+row-first f k r s below read =
+    let is : r ≡ get_or f.next (f.items + k) 0 = read-is f.next (f.items + k) r (omega (arith, s.next_len)) read in
+    rw (seen-members f k below) (first-cases (row_at f.next f.items k) (s.rings.paths k below) (s.rings.among k below) is)
   where
-    first-cases : (xs : List ℕ) → IsPath (λ n. get_or next n 0) (λ n. get_or owner n None) k (items + k) xs (items + k) → ((n : ℕ) → Has n xs → n < items) → r ≡ get_or next (items + k) 0 → (r < items → Some r ≡ first_of_list xs) × (items ≤ r → None ≡ first_of_list xs)
+    first-cases : (xs : List ℕ) → IsPath (nodes_in f) k (f.items + k) xs (f.items + k) → ((n : ℕ) → Has n xs → n < f.items) → r ≡ get_or f.next (f.items + k) 0
+        → (r < f.items → Some r ≡ first_of_list xs) × (f.items ≤ r → None ≡ first_of_list xs)
     first-cases [] path among is = ((λ low. absurd (let e = is ∙ path.0 in omega arith)), (λ high. refl))
     first-cases (x ∷ xs) path among is = ((λ low. ap Some (is ∙ path.0)), (λ high. absurd (let e = is ∙ path.0 in let low = among x (inl refl) in omega arith)))
 
 -- what the link of an item of a list says
-pub next-linked : (next previous : List ℕ) (owner : List (Option ℕ)) (items lists x r k : ℕ) → IsSound next previous owner items lists → x < items → r ≡ get_or next x r → IsIn (seen next items lists) k x → (r < items → r ≢ x → Some r ≡ successor x (get_or (seen next items lists).members k [])) × ((items ≤ r) ⊎ (r ≡ x) → None ≡ successor x (get_or (seen next items lists).members k []))
-next-linked next previous owner items lists x r k s small read is =
-    let own = seen-in next items lists k x is in
-    let at : r ≡ get_or next x 0 = read-is next x r (omega (arith, s.next_len)) read in
-    rw (seen-members next items lists k own.0) (elim (leads-on (λ n. get_or next n 0) (λ n. get_or owner n None) k x (items + k) (row_at next items k) (items + k) (s.rings.paths k own.0) own.1 (s.rings.apart k own.0)) [
+pub next-linked : (f : Fields) (x r k : ℕ) → IsSound f → x < f.items → r ≡ get_or f.next x r → IsIn (seen f) k x
+    → (r < f.items → r ≢ x → Some r ≡ successor x (members_of (seen f) k)) × ((f.items ≤ r) ⊎ (r ≡ x) → None ≡ successor x (members_of (seen f) k))
+next-linked f x r k s small read is =
+    let own = seen-in f k x is in
+    let at : r ≡ get_or f.next x 0 = read-is f.next x r (omega (arith, s.next_len)) read in
+    rw (seen-members f k own.0) (elim (leads-on (nodes_in f) k x (f.items + k) (row_at f.next f.items k) (f.items + k) (s.rings.paths k own.0) own.1 (s.rings.apart k own.0)) [
       | inl end ↦ ((λ low ne. absurd (let e = at ∙ end.0 in omega arith)), (λ h. sym end.1))
       | inr on ↦
-          let low = s.rings.among k own.0 (get_or next x 0) on.1 in
+          let low = s.rings.among k own.0 (get_or f.next x 0) on.1 in
           ((λ low ne. ap Some at ∙ sym on.0), (λ h. absurd (elim h [ inl high ↦ omega arith | inr e ↦ on.2 (sym at ∙ e) ])))
     ])
 
-pub next-alone : (next previous : List ℕ) (owner : List (Option ℕ)) (items lists x r : ℕ) → IsSound next previous owner items lists → x < items → r ≡ get_or next x r → IsUnlinked (seen next items lists) x → r ≡ x
-next-alone next previous owner items lists x r s small read free =
-    read-is next x r (omega (arith, s.next_len)) read ∙ s.rings.alone x small (owner-free next previous owner items lists x s small free)
+pub next-alone : (f : Fields) (x r : ℕ) → IsSound f → x < f.items → r ≡ get_or f.next x r → IsUnlinked (seen f) x → r ≡ x
+next-alone f x r s small read free = read-is f.next x r (omega (arith, s.next_len)) read ∙ s.rings.alone x small (owner-free f x s small free)
 
-pub distinct : (next previous : List ℕ) (owner : List (Option ℕ)) (items lists : ℕ) → IsSound next previous owner items lists → AreDistinct (seen next items lists)
-distinct next previous owner items lists s = record {
-  apart = λ k below. let in_k = seen-count next items lists k below in rw (seen-members next items lists k in_k) (s.rings.apart k in_k);
-  single = λ x k j is also. some_once k j (get_or owner x None) (owner-linked next previous owner items lists x k s is) (owner-linked next previous owner items lists x j s also);
-  within = λ x k is. let own = seen-in next items lists k x is in s.rings.among k own.0 x own.1;
+pub distinct : (f : Fields) → IsSound f → AreDistinct (seen f)
+distinct f s = record {
+  apart = λ k below. let in_k = seen-count f k below in rw (seen-members f k in_k) (s.rings.apart k in_k);
+  single = λ x k j is also. some_once k j (get_or f.owner x None) (owner-linked f x k s is) (owner-linked f x j s also);
+  within = λ x k is. let own = seen-in f k x is in s.rings.among k own.0 x own.1;
 }
 
-pub owner-read : (owner : List (Option ℕ)) (x : ℕ) (r : Option ℕ) → x < length owner → r ≡ get_or owner x r → r ≡ get_or owner x None
-owner-read owner x r below read = read ∙ sym (get_or_default owner x None r below)
+-- what was read of an item's list
+pub owner-read : (f : Fields) (x : ℕ) (r : Option ℕ) → IsSound f → x < f.items → r ≡ get_or f.owner x r → r ≡ get_or f.owner x None
+owner-read f x r s small read = read ∙ sym (get_or_default f.owner x None r (omega (arith, s.owner_len)))
 
-pub owner-cases : (next previous : List ℕ) (owner : List (Option ℕ)) (items lists x : ℕ) (r : Option ℕ) → IsSound next previous owner items lists → x < items → r ≡ get_or owner x None → MatchOption r (IsUnlinked (seen next items lists) x) (λ k. IsIn (seen next items lists) k x)
-owner-cases next previous owner items lists x None s small read = λ k is. (let bad : None ≡ Some k = read ∙ owner-linked next previous owner items lists x k s is in let no : ⊥ = cc in no)
-owner-cases next previous owner items lists x (Some k) s small read =
-    let own = s.rings.owned x k small (sym read) in in-seen next items lists k x own.0 own.1
+pub owner-cases : (f : Fields) (x : ℕ) (r : Option ℕ) → IsSound f → x < f.items → r ≡ get_or f.owner x None → MatchOption r (IsUnlinked (seen f) x) (λ k. IsIn (seen f) k x)
+owner-cases f x None s small read = λ k is. (let bad : None ≡ Some k = read ∙ owner-linked f x k s is in let no : ⊥ = cc in no)
+owner-cases f x (Some k) s small read = let own = s.rings.owned x k small (sym read) in in-seen f k x own.0 own.1
 
 empty-rows : (n : ℕ) → tabulate {T = List ℕ} n (λ k. []) ≡ replicate n []
 empty-rows zero = refl
 empty-rows (suc n) = ap (λ (rest : List (List ℕ)). [] ∷ rest) (empty-rows n)
 
--- where each node is a ring of its own, the lists are empty
-module _ (next previous : List ℕ) (owner : List (Option ℕ)) (items lists : ℕ) (each_next : (n : ℕ) → n < items + lists → get_or next n 0 ≡ n) (each_previous : (n : ℕ) → n < items + lists → get_or previous n 0 ≡ n) (none : (n : ℕ) → n < items → get_or owner n None ≡ None) (some : (k : ℕ) → k < lists → get_or owner (items + k) None ≡ Some k) where
-  rings-new : AreRings (λ n. get_or next n 0) (λ n. get_or previous n 0) (λ n. get_or owner n None) items lists (λ k. [])
-  rings-new = record {
-    forth = λ n below. rw (each_next n below) (below, each_previous n below);
-    back = λ n below. rw (each_previous n below) (below, each_next n below);
-    alone = λ n below free. each_next n (omega arith);
-    paths = λ k below. (each_next (items + k) (omega arith), some k below);
-    among = λ k below n has. absurd has;
-    apart = λ k below. tt;
-    owned = λ n k below own. (let bad : Some k ≡ None = sym own ∙ none n below in let no : ⊥ = cc in absurd no);
-  }
+-- each node is a ring of its own
+pub record AreAlone (f : Fields) : Type 0 where
+  pub next : (n : ℕ) → n < f.items + f.lists → get_or f.next n 0 ≡ n
+  pub previous : (n : ℕ) → n < f.items + f.lists → get_or f.previous n 0 ≡ n
+  pub items : (n : ℕ) → n < f.items → get_or f.owner n None ≡ None
+  pub lists : (k : ℕ) → k < f.lists → get_or f.owner (f.items + k) None ≡ Some k
 
-  pub sound-new : length next ≡ items + lists → length previous ≡ items + lists → length owner ≡ items + lists → items + lists < 2 ^ 32 → IsSound next previous owner items lists
-  sound-new a b c small = sound next previous owner items lists (λ k. []) a b c small rings-new
+-- then the lists are empty
+rings-new : (f : Fields) → AreAlone f → AreRings (nodes_in f) f.items f.lists (λ k. [])
+rings-new f new = record {
+  forth = λ n below. rw (new.next n below) (below, new.previous n below);
+  back = λ n below. rw (new.previous n below) (below, new.next n below);
+  alone = λ n below free. new.next n (omega arith);
+  paths = λ k below. (new.next (f.items + k) (omega arith), new.lists k below);
+  among = λ k below n has. absurd has;
+  apart = λ k below. tt;
+  owned = λ n k below own. (let bad : Some k ≡ None = sym own ∙ new.items n below in let no : ⊥ = cc in absurd no);
+}
 
-  pub seen-new : seen next items lists ≡ record { items = items; members = replicate lists [] }
-  seen-new = seen-is next previous owner items lists (λ k. []) rings-new ∙ ap (λ (m : List (List ℕ)). let l : Lists = record { items = items; members = m } in l) (empty-rows lists)
+pub sound-new : (f : Fields) → AreAlone f → length f.next ≡ f.items + f.lists → length f.previous ≡ f.items + f.lists → length f.owner ≡ f.items + f.lists → f.items + f.lists < 2 ^ 32 → IsSound f
+sound-new f new a b c small = sound f (λ k. []) a b c small (rings-new f new)
+
+pub seen-new : (f : Fields) → AreAlone f → seen f ≡ lists_of f.items (replicate f.lists [])
+seen-new f new = seen-is f (λ k. []) (rings-new f new) ∙ ap (lists_of f.items) (empty-rows f.lists)

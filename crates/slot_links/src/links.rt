@@ -25,14 +25,20 @@ impl Model for Links {
 
     ghost Value = { Lists };
 
-    ghost use Rattle.slot_links.specs.Rings.{tabulate, row_at, IsSound};
+    ghost use Rattle.slot_links.specs.Rings.{Fields, tabulate, row_at, IsSound};
 
     ghost view = { λ s. record {
       items = s.items;
       members = tabulate s.lists (row_at s.next.items s.items);
     } };
 
-    ghost invariant = { λ s. IsSound s.next.items s.previous.items s.owner.items s.items s.lists };
+    ghost invariant = { λ s. IsSound record {
+      next = s.next.items;
+      previous = s.previous.items;
+      owner = s.owner.items;
+      items = s.items;
+      lists = s.lists;
+    } };
 }
 
 impl Links {
