@@ -12,7 +12,7 @@ use Rattle.hash_tree.specs.declared.tree.HashTree.{HashTree}
 use Rattle.hash_tree.specs.Canisters.{record_tree, canister_tree, canister_trees}
 use Rattle.hash_tree.specs.View.{tree_view}
 use Rattle.hash_tree.specs.Stack.{Pushes, Takes}
-use Rattle.hash_tree.proofs.Lists.{drop_found}
+use Rattle.format_spec.proofs.Lists.{drop_found}
 
 abbrev certified_tree : CanisterPart → Tree
 certified_tree c = labeled (codes "certified_data") (leaf c.certified)

@@ -1,14 +1,14 @@
 -- Parts of levels, and entries in order.
-use Rattle.std.proofs.Common.{◌≡◌, inl, inr, ℕ, zero, suc, ◌+◌, ◌-◌, ◌≤◌, ◌<◌, Bool, true, false, not, ◌&&◌, List, [], ◌∷◌, ◌++◌, length, map, take, drop, Option, Some, None, slice_get, is_some, IsSome, refl, sym, ap, subst, ◌∙◌, arith}
+use Rattle.std.proofs.Common.{◌≡◌, inl, inr, ℕ, zero, suc, ◌+◌, ◌-◌, ◌≤◌, ◌<◌, Bool, true, false, not, ◌&&◌, List, [], ◌∷◌, ◌++◌, length, map, take, drop, Option, Some, None, slice_get, is_some, IsSome, refl, sym, ap, subst, ◌∙◌, arith, take-add}
 use Rattle.std.specs.List.{AllByRecursion, list_all}
 use Rattle.std.specs.Cmp.{tied_itself}
-use Rattle.std.specs.FinMap.{is_sorted, slice_cmp-IsAntisymmetric, nat_cmp-IsAntisymmetric}
+use Rattle.std.specs.FinMap.{is_sorted}
 use Rattle.std.specs.FinMap.Entries.{below_all}
 use Rattle.std.specs.Ordering.{is_lt, is_eq, is_gt, ordering_then}
 use Rattle.std.specs.declared.cmp.Ordering.{Ordering}
 use Rattle.std.specs.declared.cmp.Ordering.TheVariants.{Less, Equal, Greater}
 use Rattle.std.proofs.lemmas.Bool.{and_parts, not-true}
-use Rattle.std.proofs.lemmas.List.{map-append, drop-drop}
+use Rattle.std.proofs.lemmas.List.{map-append, drop-drop, take_all}
 use Rattle.format_spec.specs.Bytes.{Bytes, bytes_cmp, path_cmp}
 use Rattle.state_spec.specs.State.{is_prefix, are_apart}
 use Rattle.hash_tree.specs.Levels.{Entries, behind, level, label_at, label_in, Before, AreInOrder, IsLevel, HasFirst, IsBelow, IsAbove, EndsLabel, Misses, Parts}
@@ -17,18 +17,19 @@ use Rattle.std.proofs.Common.{bytes_eq}
 use Rattle.std.specs.Ordering.{ordering_reverse}
 use Rattle.state_spec.specs.State.{is_path, is_reserved, FitsEntry}
 use Rattle.std.proofs.Common.{codes}
-use Rattle.format_spec.proofs.Lists.{all_weaker}
+use Rattle.format_spec.proofs.Lists.{all_weaker, all_join, all_parts, drop_found}
 use Rattle.format_spec.proofs.Ascending.{less_is}
 use Rattle.sys_state.specs.System.{System, IsWithinLimits}
 use Rattle.hash_tree.proofs.Putting.{Entry, total, GoesOn}
-use Rattle.hash_tree.proofs.Lists.{all_join, all_parts, all_at, take_sum, take_all, some_at, drop_found}
+use Rattle.hash_tree.proofs.Lists.{all_at, some_at}
+use Rattle.std.proofs.lemmas.Map.Lookups.{exact_bytes}
 
 -- ---- levels in parts
 
 pub level_parts : (d from middle to : ℕ) (es : Entries) → from ≤ middle → middle ≤ to → level d from to es ≡ level d from middle es ++ level d middle to es
 level_parts d from middle to es p q =
     ap (map (behind d))
-    (take_sum (middle - from) (to - middle) (to - from) (drop from es) (omega arith)
+    (ap (λ (n : ℕ). take n (drop from es)) (omega arith) ∙ take-add (middle - from) (to - middle) (drop from es)
     ∙ ap (λ (xs : Entries). take (middle - from) (drop from es) ++ take (to - middle) xs)
     (drop-drop (middle - from) from es ∙ ap (λ (k : ℕ). drop k es) (omega arith)))
     ∙ map-append (behind d) (take (middle - from) (drop from es)) (take (to - middle) (drop middle es))
@@ -178,9 +179,6 @@ less_at l m e f a b differs h = go (subst (λ (x : List Bytes). Before x (m ∷ 
 
 -- ---- from ascending paths that are apart
 
-pub apart : (l m : Bytes) → bytes_cmp l m ≡ Equal → l ≡ m
-apart l m e = slice_cmp-IsAntisymmetric nat_cmp-IsAntisymmetric l m e
-
 before_from : (p q : List Bytes) → path_cmp p q ≡ Less → is_prefix p q ≡ false → Before p q
 before_from [] q h k = absurd cc
 before_from (l ∷ p) [] h k = absurd cc
@@ -189,7 +187,7 @@ before_from (l ∷ p) (m ∷ q) h k = go (bytes_cmp l m) refl (before_from p q) 
     go : (o : Ordering) → bytes_cmp l m ≡ o → (path_cmp p q ≡ Less → is_prefix p q ≡ false → Before p q)
         → ordering_then o (path_cmp p q) ≡ Less → (is_eq o && is_prefix p q) ≡ false → Before (l ∷ p) (m ∷ q)
     go Less is f x y = inl is
-    go Equal is f x y = inr (apart l m is, f x y)
+    go Equal is f x y = inr (exact_bytes l m is, f x y)
     go Greater is f x y = absurd cc
 
 before_all : (e : Entry) (es : Entries) → below_all path_cmp e.0 es ≡ true → list_all (λ (f : Entry). not (is_prefix e.0 f.0)) es ≡ true → AllByRecursion (λ (f : Entry). Before e.0 f.0) es
@@ -302,7 +300,7 @@ more_below from i es l m le free below other not_above =
   where
     go : (o : Ordering) → bytes_cmp m l ≡ o → (m ≡ l → ⊥) → bytes_cmp m l ≡ Less
     go Less is f = is
-    go Equal is f = absurd (f (apart m l is))
+    go Equal is f = absurd (f (exact_bytes m l is))
     go Greater is f = absurd (not_above is)
 
 pub none_below : (from : ℕ) (es : Entries) (l : Bytes) → AllByRecursion (IsBelow l) (level 0 from from es)

@@ -11,10 +11,7 @@ use Rattle.page_file.specs.Files.{NumberedFile, IsAsKnown}
 use Rattle.height_store.specs.Store.{StoredHeight, mark_names, is_needed}
 use Rattle.height_store.specs.Kept.{ShowsHeight}
 use Rattle.height_store.specs.Laws.{made_apart}
-
-pub all_weaker : {A : Type 0} (P Q : A → Type 0) → ((x : A) → P x → Q x) → (xs : List A) → AllByRecursion P xs → AllByRecursion Q xs
-all_weaker P Q step [] all = tt
-all_weaker P Q step (x ∷ xs) all = (step x all.0, all_weaker P Q step xs all.1)
+use Rattle.format_spec.proofs.Lists.{all_weaker}
 
 pub all_both : {A : Type 0} (P Q : A → Type 0) (xs : List A) → AllByRecursion P xs → AllByRecursion Q xs → AllByRecursion (λ x. P x × Q x) xs
 all_both P Q [] one other = tt

@@ -2,7 +2,7 @@
 use Rattle.std.proofs.Common.{◌≡◌, ◌⊎◌, ℕ, ◌+◌, ◌-◌, ◌<◌, Bool, true, false, ◌||◌, List, [], ◌∷◌, ◌++◌, length, get_or, nat_eq, ◌==◌, is_some, Some, None, refl, inl, inr, sym, ◌∙◌, ap, subst, arith}
 use Rattle.std.specs.List.{AllByRecursion, AllZip, list_any}
 use Rattle.std.specs.List.Sorted.{IsStrictlyIncreasing}
-use Rattle.std.proofs.lemmas.Bool.{cases_Bool, cases_lt, false≢true}
+use Rattle.std.proofs.lemmas.Bool.{cases_Bool, cases_lt, false≢true, or_from}
 use Rattle.std.proofs.lemmas.Bool.Decides.{nat_tests}
 use Rattle.std.proofs.lemmas.Map.Views.{exact_unsigned_eq}
 use Rattle.std.proofs.lemmas.List.{map-append, length-append, get_or_append_left, get_or-append_right}
@@ -10,7 +10,7 @@ use Rattle.std.proofs.lemmas.List.Elements.{All-from_recursion, All-get_or}
 use Rattle.std.proofs.lemmas.List.Folds.{list_any-append, list_any_none}
 use Rattle.format_spec.specs.Bytes.{Bytes}
 use Rattle.format_spec.specs.declared.limits.TheConstants.{MAX_PUBLISHED}
-use Rattle.format_spec.proofs.Lists.{all_join}
+use Rattle.format_spec.proofs.Lists.{all_join, all_weaker}
 use Rattle.state_spec.specs.State.{SystemPart}
 use Rattle.sys_state.specs.System.{part_of}
 use Rattle.store_spec.specs.Image.{Published}
@@ -31,7 +31,7 @@ use Rattle.height_store.specs.Laws.{kept_stands, shown_stands, shown_depends, se
 use Rattle.height_store.specs.Shown.{or_left, or_right}
 use Rattle.height_store.specs.Written.{is_of, with_mark, HasWritten, IsBeforeOrAfter}
 use Rattle.height_store.proofs.Parts.{parts_are_one}
-use Rattle.height_store.proofs.Carried.{all_weaker, all_both, height_carried, stacks_carried, no_draft_needed}
+use Rattle.height_store.proofs.Carried.{all_both, height_carried, stacks_carried, no_draft_needed}
 
 abbrev pub AreBelow : ℕ → List StoredHeight → Type 0
 AreBelow height hs = AllByRecursion (λ h. h.mark.height < height) hs
@@ -158,26 +158,23 @@ stands_for_either hs ps s h p may image (inr after) =
 
 -- ---- when it is written
 
-either_false : (a b : Bool) → a ≡ false → b ≡ false → (a || b) ≡ false
-either_false a b one other = rw one other
-
 module _ (height : ℕ) (text : Bytes) (old new : DiskView) (written : HasWritten height text old new) (touches : TouchesOnly (is_of height) old new) where
   pub reads_after : (q : Name) → same_name (name.Draft height) q ≡ false → new.state.files q ≡ with_mark height text old.state.files q
   reads_after q apart = elim (cases_Bool (same_name (name.Mark height) q)) [
     | inl same ↦ ap new.state.files (sym (same_name_eq (name.Mark height) q same)) ∙ written.there ∙ sym (replaced_here old.state.files (name.Mark height) (Some text) q same)
-    | inr other ↦ touches.reads q (either_false _ _ apart other) ∙ sym (replaced_apart old.state.files (name.Mark height) (Some text) q other)
+    | inr other ↦ touches.reads q (or_from _ _ apart other) ∙ sym (replaced_apart old.state.files (name.Mark height) (Some text) q other)
   ]
 
   pub firm_after : (q : Name) → same_name (name.Draft height) q ≡ false → old.state.loose q ≡ false → new.state.loose q ≡ false
   firm_after q apart firm = elim (cases_Bool (same_name (name.Mark height) q)) [
     | inl same ↦ ap new.state.loose (sym (same_name_eq (name.Mark height) q same)) ∙ written.firm
-    | inr other ↦ touches.firm q (either_false _ _ apart other) firm
+    | inr other ↦ touches.firm q (or_from _ _ apart other) firm
   ]
 
   pub draft_after : (n : ℕ) → old.state.files (name.Draft n) ≡ None → new.state.files (name.Draft n) ≡ None
   draft_after n none = elim (cases_Bool (height == n)) [
     | inl same ↦ ap (λ (k : ℕ). new.state.files (name.Draft k)) (sym (exact_unsigned_eq height n same)) ∙ written.no_draft
-    | inr apart ↦ touches.reads (name.Draft n) (either_false _ _ apart refl) ∙ none
+    | inr apart ↦ touches.reads (name.Draft n) (or_from _ _ apart refl) ∙ none
   ]
 
 pub keeps_push : (hs : List StoredHeight) (ps : List Published) (old new : DiskView) (h : StoredHeight) (p : Published) → MayPublish hs ps old.state h p → HasWritten h.mark.height (mark_text h.mark) old new → TouchesOnly (is_of h.mark.height) old new → IsSettled old.state

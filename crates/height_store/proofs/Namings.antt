@@ -1,7 +1,7 @@
 -- Which page files marks name, and the order in which they are opened.
-use Rattle.std.proofs.Common.{◌≡◌, ℕ, ◌+◌, ◌<◌, ◌≤◌, zero, suc, List, [], ◌∷◌, ◌++◌, length, take, drop, drop-cons, map, get_or, Result, Ok, Err, refl, sym, ◌∙◌, ap, subst, arith, ⊎_elim, append_assoc}
-use Rattle.std.specs.Prelude.{IfOk, OnOk}
-use Rattle.std.specs.List.{flat_map, zip, AllByRecursion, AllZip, Contains}
+use Rattle.std.proofs.Common.{◌≡◌, ℕ, ◌+◌, ◌<◌, ◌≤◌, zero, suc, List, [], ◌∷◌, ◌++◌, length, take, drop, drop-cons, map, get_or, Result, refl, sym, ◌∙◌, ap, subst, arith, ⊎_elim, append_assoc}
+use Rattle.std.specs.Prelude.{OnOk}
+use Rattle.std.specs.List.{flat_map, zip, AllByRecursion, Contains}
 use Rattle.std.specs.List.Sorted.{IsNonDecreasingBy, IsPermutation}
 use Rattle.std.proofs.lemmas.Bool.{cases_lt}
 use Rattle.std.proofs.lemmas.List.{append-nil, get_or_default, get_or-take, length-take, length-map, take-append-drop, take_more, take_all}
@@ -17,6 +17,7 @@ use Rattle.page_file.specs.Files.{NumberedFile}
 use Rattle.height_store.specs.Bad.{memory_namings, mark_namings, namings, IsGoodNaming, AreGoodMarks, IsFirstBadPage}
 use Rattle.height_store.specs.Naming.{rows_of, Takes, IsFirstBadNaming}
 use Rattle.height_store.proofs.FilesFound.{Opened, opened_more}
+use Rattle.std.proofs.lemmas.Slice.Zip.{AllZip-long}
 
 -- ---- gathering them
 
@@ -44,16 +45,10 @@ rows_zip [] fs = refl
 rows_zip (m ∷ ms) [] = refl
 rows_zip (m ∷ ms) (f ∷ fs) = ap (λ (l : List (ℕ × ℕ)). map (λ (n : ℕ). (n, f.1)) m.layers ++ l) (rows_zip ms fs)
 
-same_length : {A B : Type 0} (R : A → B → Type 0) (xs : List A) (ys : List B) → AllZip R xs ys → length xs ≡ length ys
-same_length R [] [] all = refl
-same_length R [] (y ∷ ys) all = absurd all
-same_length R (x ∷ xs) [] all = absurd all
-same_length R (x ∷ xs) (y ∷ ys) all = omega (arith, same_length R xs ys all.1)
-
 -- a mark has as many memories as its state
 pub as_many : (m : Mark) (s : SystemPart) (mems : List MarkMemory) (pages : List ℕ) → IsMark m s → mems ≡ m.memories → pages ≡ map (λ memory. memory.1) (memories_in s) → length mems ≡ length pages
 as_many m s mems pages good is are =
-    ap (λ (l : List MarkMemory). length l) is ∙ same_length FitsMemory m.memories (memories_in s) good.memories_fit
+    ap (λ (l : List MarkMemory). length l) is ∙ sym (AllZip-long FitsMemory m.memories (memories_in s) good.memories_fit)
     ∙ sym (length-map (memories_in s) (λ (f : Bytes × ℕ). f.1)) ∙ ap (λ (l : List ℕ). length l) (sym are)
 
 pub rows_of_mark : (m : Mark) (s : SystemPart) (mems : List MarkMemory) (pages : List ℕ) → mems ≡ m.memories → pages ≡ map (λ memory. memory.1) (memories_in s) → rows_of mems pages ≡ mark_namings (m, s)
@@ -94,10 +89,6 @@ pub named_all : (rows : List (ℕ × ℕ)) (files : List NumberedFile) (i : ℕ)
 named_all rows files i all opened = subst (Opened files) (take_all i rows all) opened
 
 -- ---- whatever their order
-
-pub ok_also : {T E : Type 0} (P Q : T → Type 0) (result : Result T E) → ((x : T) → P x → Q x) → IfOk result P → IfOk result Q
-ok_also P Q (Ok x) step h = step x h
-ok_also P Q (Err e) step h = tt
 
 pub all_moved : {X : Type 0} (P : X → Type 0) (xs ys : List X) → IsPermutation xs ys → AllByRecursion P ys → AllByRecursion P xs
 all_moved P xs ys moved all = recursion_from_All P xs (All-permutation P ys xs (IsPermutation-sym xs ys moved) (All-from_recursion P ys all))

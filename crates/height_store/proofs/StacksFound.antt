@@ -5,7 +5,7 @@ use Rattle.std.proofs.lemmas.List.{map-append}
 use Rattle.std.proofs.lemmas.List.Elements.{All-from_recursion, All-contains}
 use Rattle.format_spec.specs.Bytes.{Bytes}
 use Rattle.format_spec.specs.declared.limits.TheConstants.{MAX_LAYERS}
-use Rattle.format_spec.proofs.Lists.{all_push}
+use Rattle.format_spec.proofs.Lists.{all_push, all_parts}
 use Rattle.state_spec.specs.State.{SystemPart}
 use Rattle.state_spec.specs.Files.{memories_in}
 use Rattle.store_spec.specs.Mark.{Mark, MarkMemory, FitsMemory, IsMark}
@@ -15,10 +15,6 @@ use Rattle.height_store.specs.Bad.{memory_namings, mark_namings, namings}
 use Rattle.height_store.specs.Kept.{HasStacks}
 use Rattle.height_store.specs.Opened.{FitNamings, ReadMark, parts_of}
 use Rattle.height_store.specs.Store.{IsHeight, StoredHeight, FitsMark, FitsPages, numbers_of}
-
-all_split : {X : Type 0} (P : X → Type 0) (xs ys : List X) → AllByRecursion P (xs ++ ys) → AllByRecursion P xs × AllByRecursion P ys
-all_split P [] ys all = (tt, all)
-all_split P (x ∷ xs) ys all = let rest = all_split P xs ys all.1 in ((all.0, rest.0), rest.1)
 
 module _ (files : List NumberedFile) where
   abbrev IsNamed : ℕ → Type 0
@@ -35,7 +31,7 @@ module _ (files : List NumberedFile) where
   named_memories [] fs fit all = tt
   named_memories (m ∷ ms) [] fit all = absurd fit
   named_memories (m ∷ ms) (f ∷ fs) fit all =
-      let parts = all_split (λ (naming : ℕ × ℕ). IsNamed naming.0) (map (λ (n : ℕ). (n, f.1)) m.layers) (flat_map memory_namings (zip ms fs)) all in
+      let parts = all_parts (λ (naming : ℕ × ℕ). IsNamed naming.0) (map (λ (n : ℕ). (n, f.1)) m.layers) (flat_map memory_namings (zip ms fs)) all in
       (named_layers m.layers f.1 parts.0, named_memories ms fs fit.1 parts.1)
 
   -- every number that a mark's memories name is that of a file
@@ -61,7 +57,7 @@ module _ (files : List NumberedFile) where
   fits_memories (stack ∷ stacks) (m ∷ ms) [] fit same among fits = absurd fit
   fits_memories (stack ∷ stacks) (m ∷ ms) (f ∷ fs) fit same among fits =
       let head = head_same (numbers_of stack) m.layers (map numbers_of stacks) (map (λ (m : MarkMemory). m.layers) ms) same in
-      let parts = all_split Fits (map (λ (n : ℕ). (n, f.1)) m.layers) (flat_map memory_namings (zip ms fs)) fits in (
+      let parts = all_parts Fits (map (λ (n : ℕ). (n, f.1)) m.layers) (flat_map memory_namings (zip ms fs)) fits in (
         fits_layers stack f.1 among.0 (subst (λ (l : List ℕ). AllByRecursion Fits (map (λ (n : ℕ). (n, f.1)) l)) (sym head) parts.0),
         fits_memories stacks ms fs fit.1 (tail_same (numbers_of stack) m.layers (map numbers_of stacks) (map (λ (m : MarkMemory). m.layers) ms) same) among.1 parts.1,
       )
@@ -93,8 +89,8 @@ are_few m s mems good is = subst (AllByRecursion (λ (m : MarkMemory). length m.
 -- what holds of all namings holds of those of the mark at a place
 pub namings_at : (P : ℕ × ℕ → Type 0) (ms : List ReadMark) (i : ℕ) (d : ReadMark) → i < length ms → AllByRecursion P (namings (map parts_of ms)) → AllByRecursion P (mark_namings (parts_of (get_or ms i d)))
 namings_at P [] i d lt all = absurd (omega arith)
-namings_at P (m ∷ ms) zero d lt all = (all_split P (mark_namings (parts_of m)) (namings (map parts_of ms)) all).0
-namings_at P (m ∷ ms) (suc i) d lt all = namings_at P ms i d (omega arith) (all_split P (mark_namings (parts_of m)) (namings (map parts_of ms)) all).1
+namings_at P (m ∷ ms) zero d lt all = (all_parts P (mark_namings (parts_of m)) (namings (map parts_of ms)) all).0
+namings_at P (m ∷ ms) (suc i) d lt all = namings_at P ms i d (omega arith) (all_parts P (mark_namings (parts_of m)) (namings (map parts_of ms)) all).1
 
 abbrev mark_of : StoredHeight → ReadMark
 mark_of h = record { mark = h.mark; system = h.system }

@@ -17,8 +17,9 @@ use Rattle.state_spec.proofs.SystemSizes.{id_size, system_size}
 use Rattle.sys_state.specs.declared.record.CanisterRecord.{CanisterRecord}
 use Rattle.sys_state.specs.System.{System, IsWithinLimits, part_of_record}
 use Rattle.manifest.specs.Fits.{FitsText, FitSums}
-use Rattle.manifest.proofs.Cutting.{length-parts}
 use Rattle.manifest.proofs.Growing.{length-sums_from}
+use Rattle.format_spec.proofs.Cuts.{heads}
+use Rattle.format_spec.proofs.Parts.{parts_length}
 
 abbrev part_in : Bytes × CanisterRecord → Bytes × CanisterPart
 part_in d = (d.0, part_of_record d.1)
@@ -42,9 +43,6 @@ name_size id memory short few =
 
 few_chunks : (pages n : ℕ) → pages ≤ 65536 → n ≡ part_count CHUNK_SIZE (pages * PAGE_SIZE) → n ≤ 256
 few_chunks pages n few is = omega arith
-
-heads : (x y : ℕ) (xs ys : List ℕ) → x ∷ xs ≡ y ∷ ys → (x ≡ y) × (xs ≡ ys)
-heads x y xs ys e = (cc, cc)
 
 abbrev named : List (Bytes × CanisterPart) → List (Bytes × ℕ)
 named cs = flat_map (λ (c : Bytes × CanisterPart). (heap_name c.0, c.1.heap) ∷ (stable_name c.0, c.1.stable) ∷ []) cs
@@ -98,7 +96,7 @@ pub few_system_chunks : (s : SystemPart) → IsSystem 1 s → length (chunk_hash
 few_system_chunks s good =
     let text : Bytes = system_text s in
     let size : length text ≤ 67108864 = (system_size 1 s good).1 in
-    let chunks : length (chunk_hashes text) ≡ part_count CHUNK_SIZE (length text) = length-map (parts CHUNK_SIZE text) chunk_hash ∙ length-parts CHUNK_SIZE text in
+    let chunks : length (chunk_hashes text) ≡ part_count CHUNK_SIZE (length text) = length-map (parts CHUNK_SIZE text) chunk_hash ∙ parts_length CHUNK_SIZE text in
     omega (arith, chunks, size)
 
 pub fits_text : (s : SystemPart) (hashes : List (List Bytes)) → IsSystem 1 s → FitSums s hashes → FitsText (manifest_from 1 (file_sums s hashes))

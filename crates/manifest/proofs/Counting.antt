@@ -1,61 +1,38 @@
 -- What the manifest of a state counts, by the sizes of its parts.
-use Rattle.std.proofs.Common.{◌≡◌, ℕ, suc, ◌+◌, ◌*◌, ◌<◌, ◌≤◌, List, [], ◌∷◌, ◌++◌, length, map, take, get_or, codes, Some, refl, sym, ap, subst, ◌∙◌, arith}
+use Rattle.std.proofs.Common.{◌≡◌, ℕ, suc, ◌+◌, ◌*◌, ◌≤◌, List, [], ◌∷◌, ◌++◌, length, map, take, codes, Some, refl, sym, ap, subst, ◌∙◌, arith}
 use Rattle.std.specs.Prelude.{slice_get}
 use Rattle.std.specs.List.{flat_map, AllByRecursion, enumerate_from}
 use Rattle.std.proofs.lemmas.List.{length-map, length-append, take_more}
-use Rattle.std.proofs.lemmas.List.Concat.{flat_map-append}
 use Rattle.std.proofs.lemmas.Option.{slice_get_within, get_or_from_slice_get}
-use Rattle.hex.specs.Hex.{encode_lower, lower_digits}
-use Rattle.hex.proofs.HexLemmas.{length-encode_with}
 use Rattle.sha2.proofs.Facts256.{length-sha256}
-use Rattle.format_spec.proofs.Cuts.{Are32}
-use Rattle.format_spec.specs.Bytes.{Bytes, be32, be64, short_string, part_count, parts}
-use Rattle.format_spec.specs.Hashes.{ChunkSum, chunk_sum_text, chunk_hash, file_hash}
-use Rattle.format_spec.specs.declared.limits.TheConstants.{CHUNK_SIZE, PAGE_SIZE, PIECE_SIZE, FILE_ROW}
+use Rattle.format_spec.proofs.Cuts.{Are32, chunks_32, heads}
+use Rattle.format_spec.specs.Bytes.{Bytes, be32, part_count, parts}
+use Rattle.format_spec.specs.Hashes.{ChunkSum, file_hash}
+use Rattle.format_spec.specs.declared.limits.TheConstants.{CHUNK_SIZE, PAGE_SIZE, PIECE_SIZE}
 use Rattle.format_spec.proofs.Lists.{all_join}
-use Rattle.state_spec.specs.State.{State, SystemPart, CanisterPart, IsSystem, FitsCanister, system_of, memory_bytes}
+use Rattle.state_spec.specs.State.{State, SystemPart, CanisterPart, FitsCanister, system_of, memory_bytes}
 use Rattle.state_spec.specs.SystemText.{system_text}
-use Rattle.state_spec.specs.Files.{file_name, heap_name, stable_name, memories_in, system_name}
+use Rattle.state_spec.specs.Files.{heap_name, stable_name, memories_in, system_name}
 use Rattle.state_spec.specs.Manifest.{Manifest, FileSums, FileRow, ChunkRow, chunk_sums, chunk_rows, file_row, memory_sums, file_sums, manifest_from, manifest_of, chunk_hashes, chunk_size_at, chunk_offset}
 use Rattle.state_spec.specs.ManifestText.{manifest_text, file_row_text, chunk_row_text}
 use Rattle.state_spec.specs.Root.{pieces_of}
 use Rattle.state_spec.proofs.SystemSizes.{id_size, system_size}
 use Rattle.sys_state.specs.declared.record.CanisterRecord.{CanisterRecord}
-use Rattle.sys_state.specs.System.{System, IsWithinLimits, part_of, part_of_record, kept_of}
+use Rattle.sys_state.specs.System.{System, IsWithinLimits, part_of, kept_of}
 use Rattle.manifest.specs.declared.counts.Counts.{Counts}
 use Rattle.manifest.specs.Counts.{counts_by, counts_in, sized_counts, rows_size, chunks_in}
 use Rattle.manifest.specs.Fits.{FitMemories}
-use Rattle.manifest.proofs.Cutting.{length-parts}
 use Rattle.manifest.proofs.Growing.{length-sums_from}
 use Rattle.manifest.proofs.Memories.{named}
 use Rattle.manifest.proofs.States.{of_state, kept_parts}
+use Rattle.state_spec.proofs.RowSizes.{length-file_name, length-file_row_text, length-chunk_row_text, length-chunk_hashes}
+use Rattle.format_spec.proofs.Parts.{parts_length}
 
 -- ---- rows
 
-name_length : (id memory : Bytes) → length (file_name id memory) ≡ 10 + 2 * length id + length memory
-name_length id memory =
-    let a = length-append (codes "canister/" ++ encode_lower id ++ codes "/") memory in
-    let b = length-append (codes "canister/" ++ encode_lower id) (codes "/") in
-    let c = length-append (codes "canister/") (encode_lower id) in
-    let d = length-encode_with lower_digits id in
-    let slash : length (codes "/") ≡ 1 = refl in
-    let front : length (codes "canister/") ≡ 9 = refl in
-    omega (arith, a, b, c, d, slash, front)
-
 file_text : (f : FileSums) → length (file_row_text (file_row f)) ≡ 41 + length f.name
 unfolding file_hash
-file_text f =
-    let hash : Bytes = file_hash (chunk_sums f) in
-    let long : length hash ≡ 32 = length-sha256 _ in
-    let eight : length (be64 f.size) ≡ 8 = refl in
-    omega (arith, long, eight, length-append (short_string f.name ++ be64 f.size) hash, length-append (short_string f.name) (be64 f.size))
-
-chunk_text : (r : ChunkRow) → length r.sum.hash ≡ 32 → length (chunk_row_text r) ≡ 48
-chunk_text r h =
-    let a : length (be32 r.file) ≡ 4 = refl in
-    let b : length (be32 r.sum.size) ≡ 4 = refl in
-    let c : length (be64 r.sum.offset) ≡ 8 = refl in
-    omega (arith, a, b, c, h, length-append (be32 r.file) (chunk_sum_text r.sum), length-append (be32 r.sum.size ++ be64 r.sum.offset) r.sum.hash, length-append (be32 r.sum.size) (be64 r.sum.offset))
+file_text f = length-file_row_text (file_row f) (length-sha256 _)
 
 -- ---- files by name and number of chunks
 
@@ -86,7 +63,7 @@ rows_count n (f ∷ fs) = omega (arith, own_count n f, rows_count (suc n) fs, le
 
 all_text : (rs : List ChunkRow) → AllByRecursion (λ r. length r.sum.hash ≡ 32) rs → length (flat_map chunk_row_text rs) ≡ 48 * length rs
 all_text [] h = refl
-all_text (r ∷ rs) h = omega (arith, chunk_text r h.0, all_text rs h.1, length-append (chunk_row_text r) (flat_map chunk_row_text rs))
+all_text (r ∷ rs) h = omega (arith, length-chunk_row_text r h.0, all_text rs h.1, length-append (chunk_row_text r) (flat_map chunk_row_text rs))
 
 abbrev Long : ChunkRow → Type 0
 Long r = length r.sum.hash ≡ 32
@@ -127,17 +104,6 @@ counted fs hashed =
 
 -- ---- the files of a state
 
-hashes_long : (xs : List Bytes) → Are32 (map chunk_hash xs)
-unfolding chunk_hash
-hashes_long [] = tt
-hashes_long (x ∷ xs) = (length-sha256 _, hashes_long xs)
-
-hashes_count : (b : Bytes) → length (chunk_hashes b) ≡ part_count CHUNK_SIZE (length b)
-hashes_count b = length-map (parts CHUNK_SIZE b) chunk_hash ∙ length-parts CHUNK_SIZE b
-
-heads : (x y : ℕ) (xs ys : List ℕ) → x ∷ xs ≡ y ∷ ys → (x ≡ y) × (xs ≡ ys)
-heads x y xs ys e = (cc, cc)
-
 record Totals (fs : List FileSums) (ms : List (Bytes × ℕ)) (size : ℕ) : Type 0 where
   count : length fs ≡ length ms + 1
   rows : rows_total fs ≡ rows_size ms + 47
@@ -147,19 +113,19 @@ record Totals (fs : List FileSums) (ms : List (Bytes × ℕ)) (size : ℕ) : Typ
 totals : (ms : List (Bytes × ℕ)) (bs : List Bytes) (text : Bytes) → map (λ (b : Bytes). length b) bs ≡ map (λ (m : Bytes × ℕ). m.1 * PAGE_SIZE) ms
     → Totals (memory_sums ms (map chunk_hashes bs) ++ record { name = system_name; size = length text; hashes = chunk_hashes text } ∷ []) ms (length text)
 totals [] [] text e =
-    let one : length (chunk_hashes text) ≡ part_count CHUNK_SIZE (length text) = hashes_count text in
-    record { count = refl; rows = refl; chunks = omega (arith, one); hashed = (hashes_long (parts CHUNK_SIZE text), tt) }
+    let one : length (chunk_hashes text) ≡ part_count CHUNK_SIZE (length text) = length-chunk_hashes text in
+    record { count = refl; rows = refl; chunks = omega (arith, one); hashed = (chunks_32 (parts CHUNK_SIZE text), tt) }
 totals [] (b ∷ bs) text e = absurd cc
 totals (m ∷ ms) [] text e = absurd cc
 totals (m ∷ ms) (b ∷ bs) text e =
     let h = heads (length b) (m.1 * PAGE_SIZE) (map (λ (x : Bytes). length x) bs) (map (λ (x : Bytes × ℕ). x.1 * PAGE_SIZE) ms) e in
     let t = totals ms bs text h.1 in
-    let own : length (chunk_hashes b) ≡ part_count CHUNK_SIZE (m.1 * PAGE_SIZE) = hashes_count b ∙ ap (part_count CHUNK_SIZE) h.0 in
+    let own : length (chunk_hashes b) ≡ part_count CHUNK_SIZE (m.1 * PAGE_SIZE) = length-chunk_hashes b ∙ ap (part_count CHUNK_SIZE) h.0 in
     record {
       count = omega (arith, t.count);
       rows = omega (arith, t.rows);
       chunks = omega (arith, t.chunks, own);
-      hashed = (hashes_long (parts CHUNK_SIZE b), t.hashed);
+      hashed = (chunks_32 (parts CHUNK_SIZE b), t.hashed);
     }
 
 pub state_counted : (p : SystemPart) (s : State) (text : Bytes) → text ≡ system_text p → s.version ≡ 1 → system_of s ≡ p → FitMemories p (memory_bytes s)
@@ -187,7 +153,7 @@ both_names : (id : Bytes) → length (heap_name id) + length (stable_name id) �
 both_names id =
     let four : length (codes "heap") ≡ 4 = refl in
     let six : length (codes "stable") ≡ 6 = refl in
-    omega (arith, name_length id (codes "heap"), name_length id (codes "stable"), four, six)
+    omega (arith, length-file_name id (codes "heap"), length-file_name id (codes "stable"), four, six)
 
 sizes_push : (cs : List (Bytes × CanisterRecord)) (c : Bytes × CanisterRecord)
     → (length (named (cs ++ c ∷ [])) ≡ length (named cs) + 2)
@@ -259,7 +225,7 @@ by_state s sys one kept fit =
     let files_are : length (memories_in p) + 1 ≡ length m.files = sym all.files_are in
     let chunks_are : chunks ≡ length m.chunks = sym all.chunks_are in
     let bytes_are : bytes ≡ length (manifest_text m) = sym all.bytes_are in
-    let pieces_are : part_count PIECE_SIZE bytes ≡ length (pieces_of m) = ap (part_count PIECE_SIZE) bytes_are ∙ sym (length-parts PIECE_SIZE (manifest_text m)) in
+    let pieces_are : part_count PIECE_SIZE bytes ≡ length (pieces_of m) = ap (part_count PIECE_SIZE) bytes_are ∙ sym (parts_length PIECE_SIZE (manifest_text m)) in
     λ i. four_counts (files_are i) (chunks_are i) (pieces_are i) (bytes_are i)
 
 -- as the code has it

@@ -4,6 +4,7 @@ use Rattle.std.specs.List.{range_with_len}
 use Rattle.std.proofs.lemmas.Bool.{cases_lt}
 use Rattle.std.proofs.lemmas.List.{append-nil, length-map, length-append, length-drop, drop-drop, take_at, drop_at, take_all, drop_all, nil_from_length}
 use Rattle.format_spec.specs.Bytes.{Bytes, parts, part_count}
+use Rattle.format_spec.proofs.Parts.{parts_length}
 
 -- one part more where there is a byte more
 abbrev pub CountsFirst : ℕ → Type 0
@@ -69,17 +70,9 @@ module _ (hash : Bytes → Bytes) (n : ℕ) where
 
 -- ---- how many parts
 
-count_of : {X : Type 0} (f : ℕ → X) (k a : ℕ) → length (map f (range_with_len a k)) ≡ k
-count_of f zero a = refl
-count_of f (suc k) a = ap suc (count_of f k (a + 1))
-
-pub length-parts : (n : ℕ) (s : Bytes) → length (parts n s) ≡ part_count n (length s)
-unfolding parts
-length-parts n s = count_of (λ i. take n (drop (i * n) s)) (part_count n (length s)) 0
-
 -- a text of so many rows has few pieces
 pub few_pieces : (hash : Bytes → Bytes) (text : Bytes) (files chunks : ℕ) → length text ≤ 16 + 296 * files + 48 * chunks → files < 2 ^ 32 → chunks < 2 ^ 32
     → length (map hash (parts 4096 text)) < 2 ^ 32
 few_pieces hash text files chunks size f c =
-    let count : length (map hash (parts 4096 text)) ≡ part_count 4096 (length text) = length-map (parts 4096 text) hash ∙ length-parts 4096 text in
+    let count : length (map hash (parts 4096 text)) ≡ part_count 4096 (length text) = length-map (parts 4096 text) hash ∙ parts_length 4096 text in
     rw count (omega arith)

@@ -1,19 +1,19 @@
 -- Single fields.
-use Rattle.std.proofs.Common.{◌≡◌, ℕ, ◌+◌, ◌-◌, ◌*◌, ◌/◌, min, inl, inr, ◌<◌, ◌≤◌, ◌&&◌, Bool, true, false, cond, length, take, drop, Option, Some, None, Result, Ok, Err, refl, sym, ap, ◌∙◌, arith}
-use Rattle.std.specs.Prelude.{nat_lt}
-use Rattle.std.proofs.lemmas.Bool.{ltb-false, cases_lt}
-use Rattle.std.proofs.lemmas.List.{length-take, length-drop, take_all, drop_all}
+use Rattle.std.proofs.Common.{◌≡◌, ◌-◌, ◌*◌, ◌/◌, min, inl, inr, ◌<◌, ◌&&◌, Bool, true, false, cond, length, take, drop, Option, Some, None, Result, Ok, Err, refl, sym, ap, ◌∙◌, arith}
+use Rattle.std.proofs.lemmas.Bool.{cases_lt}
+use Rattle.std.proofs.lemmas.List.{length-drop, take_all, drop_all}
 use Rattle.hex.specs.Hex.{decode_of}
 use Rattle.hex.proofs.HexLemmas.{decode_of-ok}
 use Rattle.hex.specs.declared.error.FromHexError.{FromHexError}
 use Rattle.format_spec.specs.Bytes.{Bytes, same_bytes, bytes_cmp, is_after}
-use Rattle.format_spec.specs.Fields.{Cursor, Form, field, reading_by_rule, block, string8, any}
+use Rattle.format_spec.specs.Fields.{Cursor, field, string8, any}
 use Rattle.state_spec.specs.State.{is_id}
 use Rattle.state_spec.specs.Files.{heap_name}
 use Rattle.state_spec.specs.ManifestText.{id_of_hex, id_in, is_next_heap}
 use Rattle.manifest.specs.Reading.{only_id}
 use Rattle.format_spec.proofs.Readings.{same_bytes_is}
 use Rattle.byte_codec.proofs.Judged.{field_keeps}
+use Rattle.std.proofs.lemmas.Option.{same_Some}
 
 -- ---- names
 
@@ -25,16 +25,13 @@ name_is rule c name wanted d e same good =
 
 -- ---- ids in names
 
-some_is : (x y : Bytes) → Some x ≡ Some y → x ≡ y
-some_is x y e = cc
-
 -- the rule of a heap's name, where the id in it is one
 pub heap_rule : (last : Option Bytes) (name id : Bytes) (o : Option Bytes) → only_id o ≡ Some id → is_next_heap last o name ≡ same_bytes name (heap_name id) && is_after bytes_cmp last id
 heap_rule last name id None e = absurd cc
 heap_rule last name id (Some i) e = go (is_id i) refl e
   where
     go : (b : Bool) → is_id i ≡ b → cond b (Some i) None ≡ Some id → is_next_heap last (Some i) name ≡ same_bytes name (heap_name id) && is_after bytes_cmp last id
-    go true is h = let same = some_is i id h in rw (is, same) refl
+    go true is h = let same = same_Some i id h in rw (is, same) refl
     go false is h = absurd cc
 
 -- as the code judges it

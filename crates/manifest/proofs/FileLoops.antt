@@ -1,9 +1,8 @@
 -- The file rows of a text, read two by two.
-use Rattle.std.proofs.Common.{◌≡◌, ℕ, ◌+◌, ◌-◌, ◌*◌, ◌/◌, ◌%◌, ◌^◌, ◌<◌, ◌≤◌, Bool, false, List, [], ◌∷◌, ◌++◌, length, map, Option, Some, None, Result, Ok, refl, sym, ap, subst, ◌∙◌, eq-eqb, ne_eqb, arith}
-use Rattle.std.specs.Prelude.{◌==◌, if◌then◌else◌, option_and_then}
-use Rattle.std.specs.List.{AllByRecursion, last_or}
-use Rattle.std.proofs.lemmas.List.{length-append, map_push}
-use Rattle.std.proofs.lemmas.List.Sums.{sum_by-append}
+use Rattle.std.proofs.Common.{◌≡◌, ℕ, ◌+◌, ◌-◌, ◌*◌, ◌/◌, ◌%◌, ◌^◌, ◌<◌, ◌≤◌, Bool, false, List, [], ◌∷◌, ◌++◌, length, Option, Some, Result, Ok, refl, sym, ap, subst, ◌∙◌, eq-eqb, ne_eqb, arith}
+use Rattle.std.specs.Prelude.{◌==◌, if◌then◌else◌}
+use Rattle.std.specs.List.{AllByRecursion}
+use Rattle.std.proofs.lemmas.List.{length-append}
 use Rattle.format_spec.specs.Bytes.{Bytes, same_bytes}
 use Rattle.format_spec.specs.Fields.{Reading, Cursor, each}
 use Rattle.format_spec.proofs.Each.{each_more, each_ends}
@@ -15,6 +14,7 @@ use Rattle.byte_codec.specs.declared.error.FieldError.{FieldError}
 use Rattle.byte_codec.specs.Gives.{Fails}
 use Rattle.byte_codec.proofs.Stops.{stops}
 use Rattle.manifest.specs.Reading.{file_with, heap_row, stable_row, system_row}
+use Rattle.state_spec.proofs.ManifestNames.{last_id-push, all_sizes-push}
 
 -- ---- which row comes next
 
@@ -48,20 +48,6 @@ unfolding system_row
 at_system n before end = by_tests n before ∙ ap (λ (b : Bool). row_by b (length before % 2 == 0) before) (eq-eqb (length before + 1) n end)
 
 -- ---- what is known of one row more
-
-last_push : (o : Option Bytes) (ks : List Bytes) (k : Bytes) → last_or o (ks ++ k ∷ []) ≡ Some k
-last_push o [] k = refl
-last_push o (j ∷ ks) k = last_push (Some j) ks k
-
-pub last_more : (before : List FileRow) (r : FileRow) → last_id (before ++ r ∷ []) ≡ id_in r.name
-last_more before r =
-    ap (λ (ks : List Bytes). option_and_then id_in (last_or None ks)) (map_push (λ (x : FileRow). x.name) before r)
-    ∙ ap (option_and_then id_in) (last_push None (map (λ (x : FileRow). x.name) before) r.name)
-
-pub sizes_more : (before : List FileRow) (r : FileRow) → all_sizes (before ++ r ∷ []) ≡ all_sizes before + r.size
-sizes_more before r =
-    let one : 0 + r.size ≡ r.size = omega arith in
-    sum_by-append (λ (x : FileRow). x.size) before (r ∷ []) ∙ ap (λ (n : ℕ). all_sizes before + n) one
 
 abbrev pub Short : FileRow → Type 0
 Short row = length row.name < 256
@@ -102,8 +88,8 @@ module _ (count pairs : ℕ) (files : List FileRow) (last : Option Bytes) (total
     stable_next r e =
         let len = read.length_is in
         let longer = length-append files (heap ∷ []) in
-        ap (λ (m : Reading FileRow). m mid) (at_stable count (files ++ heap ∷ []) id (omega arith) (omega arith) (last_more files heap ∙ named))
-        ∙ ap (λ (t : ℕ). stable_row id t mid) (sizes_more files heap ∙ ap (λ (t : ℕ). t + heap.size) (sym read.total_is)) ∙ e
+        ap (λ (m : Reading FileRow). m mid) (at_stable count (files ++ heap ∷ []) id (omega arith) (omega arith) (last_id-push files heap ∙ named))
+        ∙ ap (λ (t : ℕ). stable_row id t mid) (all_sizes-push files heap ∙ ap (λ (t : ℕ). t + heap.size) (sym read.total_is)) ∙ e
 
     pub stable_stops : (e : FieldError) → Fails e (stable_row id (total + heap.size) mid) → Fails e (each (file_after 1 count) count [] start)
     stable_stops e failed =
@@ -122,8 +108,8 @@ module _ (count pairs : ℕ) (files : List FileRow) (last : Option Bytes) (total
               ∙ sym (each_more (file_after 1 count) count (2 * pairs + 1) (files ++ heap ∷ []) mid stable end (omega arith) (stable_next (Ok (stable, end)) second))
               ∙ half_read;
           length_is = omega (arith, length-append (files ++ heap ∷ []) (stable ∷ []), longer);
-          last_is = sym (last_more (files ++ heap ∷ []) stable ∙ again);
-          total_is = sym (sizes_more (files ++ heap ∷ []) stable ∙ ap (λ (t : ℕ). t + stable.size) (sizes_more files heap ∙ ap (λ (t : ℕ). t + heap.size) (sym read.total_is)));
+          last_is = sym (last_id-push (files ++ heap ∷ []) stable ∙ again);
+          total_is = sym (all_sizes-push (files ++ heap ∷ []) stable ∙ ap (λ (t : ℕ). t + stable.size) (all_sizes-push files heap ∙ ap (λ (t : ℕ). t + heap.size) (sym read.total_is)));
           small = fits;
           short = all_push Short (files ++ heap ∷ []) stable (all_push Short files heap read.short short_heap) short_stable;
         }

@@ -1,9 +1,8 @@
 -- The memories of a state's canisters, added to a manifest one canister after another.
-use Rattle.std.proofs.Common.{◌≡◌, ℕ, zero, suc, ◌+◌, ◌*◌, ◌<◌, ◌≤◌, List, [], ◌∷◌, ◌++◌, length, map, drop, get_or, Some, refl, sym, ap, ◌∙◌, append_assoc, arith}
+use Rattle.std.proofs.Common.{◌≡◌, ℕ, zero, suc, ◌+◌, ◌*◌, ◌<◌, List, [], ◌∷◌, ◌++◌, length, map, drop, get_or, Some, refl, sym, ap, ◌∙◌, append_assoc, arith}
 use Rattle.std.specs.Prelude.{slice_get}
 use Rattle.std.specs.List.{flat_map}
-use Rattle.std.proofs.lemmas.List.{append-nil, length-map, length-append, length-drop, drop-drop, drop_all, drop_more}
-use Rattle.std.proofs.lemmas.Option.{slice_get_within, get_or_from_slice_get}
+use Rattle.std.proofs.lemmas.List.{length-map, length-append, length-drop, drop-drop}
 use Rattle.format_spec.specs.Bytes.{Bytes, part_count}
 use Rattle.format_spec.specs.declared.limits.TheConstants.{CHUNK_SIZE, PAGE_SIZE}
 use Rattle.format_spec.proofs.Cuts.{heads}
@@ -14,6 +13,7 @@ use Rattle.sys_state.specs.declared.record.CanisterRecord.{CanisterRecord}
 use Rattle.sys_state.specs.System.{part_of_record}
 use Rattle.manifest.specs.Adding.{Adds, canister_sums}
 use Rattle.manifest.proofs.Growing.{added}
+use Rattle.format_spec.proofs.Lists.{drop_found}
 
 -- ---- a canister's memories
 
@@ -46,9 +46,6 @@ pub record Half (m : Manifest) (cs : List (Bytes × CanisterRecord)) (ls : List 
   pub count : length done ≡ 2 * i
   pub whole : done ++ memory_sums (named (drop i cs)) (drop (2 * i) ls) ≡ memory_sums (named cs) ls
   pub fit : lengths (drop (2 * i) ls) ≡ counts (named (drop i cs))
-
-pub drop_get : {X : Type 0} (xs : List X) (i : ℕ) (x : X) → slice_get xs i ≡ Some x → drop i xs ≡ x ∷ drop (i + 1) xs
-drop_get {X = X} xs i x e = drop_more xs i x (slice_get_within xs i x e) ∙ ap (λ (y : X). y ∷ drop (i + 1) xs) (get_or_from_slice_get xs i x x e)
 
 -- the two lists of a canister, and those behind them
 pub record TwoLists (ls : List (List Bytes)) (i p q : ℕ) (counted : List ℕ) : Type 0 where
@@ -86,7 +83,7 @@ module _ (m : Manifest) (cs : List (Bytes × CanisterRecord)) (ls : List (List B
   pub lists_here : TwoLists ls i (part_count CHUNK_SIZE (c.heap * PAGE_SIZE)) (part_count CHUNK_SIZE (c.stable * PAGE_SIZE)) (counts (named (drop (i + 1) cs)))
   lists_here =
       two_lists ls i (part_count CHUNK_SIZE (c.heap * PAGE_SIZE)) (part_count CHUNK_SIZE (c.stable * PAGE_SIZE)) (counts (named (drop (i + 1) cs)))
-      (half.fit ∙ ap (λ (x : List (Bytes × CanisterRecord)). counts (named x)) (drop_get cs i (id, c) there))
+      (half.fit ∙ ap (λ (x : List (Bytes × CanisterRecord)). counts (named x)) (drop_found cs i (id, c) there))
 
   -- both lists are there
   pub lists_room : 2 * i + 1 < length ls
@@ -105,7 +102,7 @@ module _ (m : Manifest) (cs : List (Bytes × CanisterRecord)) (ls : List (List B
         m_is = adds half.done half.m_is;
         count = let n = half.count in omega (arith, length-append half.done here);
         whole = append_assoc half.done here (memory_sums (named (drop (i + 1) cs)) (drop (2 * (i + 1)) ls))
-            ∙ ap (λ (x : List (Bytes × CanisterRecord)). half.done ++ memory_sums (named x) (two.heap ∷ two.stable ∷ drop (2 * (i + 1)) ls)) (sym (drop_get cs i (id, c) there))
+            ∙ ap (λ (x : List (Bytes × CanisterRecord)). half.done ++ memory_sums (named x) (two.heap ∷ two.stable ∷ drop (2 * (i + 1)) ls)) (sym (drop_found cs i (id, c) there))
             ∙ ap (λ (x : List (List Bytes)). half.done ++ memory_sums (named (drop i cs)) x) (sym two.rest_is)
             ∙ half.whole;
         fit = two.behind;

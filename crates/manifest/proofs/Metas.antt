@@ -1,12 +1,12 @@
 -- Which texts are those of meta-manifests.
-use Rattle.std.proofs.Common.{◌≡◌, ℕ, zero, suc, ◌+◌, ◌*◌, ◌<◌, ◌≤◌, Bool, true, false, ◌&&◌, List, [], ◌∷◌, ◌++◌, length, take, drop, Option, Some, None, Result, Ok, Err, refl, sym, ap, ◌∙◌, arith}
+use Rattle.std.proofs.Common.{◌≡◌, ℕ, zero, suc, ◌+◌, ◌*◌, ◌<◌, ◌≤◌, Bool, true, false, ◌&&◌, List, [], ◌∷◌, ◌++◌, length, take, drop, None, Result, Ok, Err, refl, sym, ap, ◌∙◌, arith}
 use Rattle.std.specs.Prelude.{◌==◌, nat_lt, nat_le, if◌then◌else◌}
 use Rattle.std.specs.Option.{is_some}
 use Rattle.std.specs.Int.{w32}
 use Rattle.std.proofs.lemmas.Bool.{ltb-true, ltb-false, eqb-true, eqb-false}
 use Rattle.std.proofs.lemmas.List.{length-drop}
 use Rattle.format_spec.specs.Bytes.{Bytes}
-use Rattle.format_spec.specs.Fields.{Cursor, Reading, gives, value_at_end, and_then, ◌>>=◌, field, number, block, any, each}
+use Rattle.format_spec.specs.Fields.{Cursor, Reading, gives, value_at_end, and_then, ◌>>=◌, field, number, each}
 use Rattle.format_spec.specs.declared.limits.TheConstants.{MAX_PIECES}
 use Rattle.format_spec.proofs.Readings.{read_ok}
 use Rattle.state_spec.specs.Root.{MetaManifest, as_option, read_meta, meta_fields}
@@ -14,9 +14,7 @@ use Rattle.byte_codec.specs.declared.error.FieldError.{FieldError}
 use Rattle.byte_codec.specs.declared.error.FieldError.TheVariants.{Bad, Memory}
 use Rattle.byte_codec.specs.Gives.{Fails, NeedsNoMemory}
 use Rattle.manifest.specs.Reading.{piece_count}
-
-abbrev next_hash : List Bytes → Reading Bytes
-next_hash before = field (block 32) any
+use Rattle.format_spec.proofs.Cuts.{next_hash}
 
 abbrev read_end : ℕ → List Bytes → Reading MetaManifest
 read_end version pieces = gives (record { version = version; pieces = pieces })

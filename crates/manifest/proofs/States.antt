@@ -3,7 +3,6 @@ use Rattle.std.proofs.Common.{◌≡◌, ℕ, ◌*◌, ◌^◌, ◌<◌, ◌≤�
 use Rattle.std.specs.List.{flat_map}
 use Rattle.std.proofs.lemmas.List.{length-map, take_all}
 use Rattle.format_spec.specs.Bytes.{Bytes, part_count, parts}
-use Rattle.format_spec.specs.Hashes.{chunk_hash}
 use Rattle.format_spec.specs.declared.limits.TheConstants.{CHUNK_SIZE, PAGE_SIZE}
 use Rattle.state_spec.specs.State.{State, Canister, CanisterPart, SystemPart, IsSystem, Memory, pages_of, system_of, memory_bytes}
 use Rattle.state_spec.specs.State as State
@@ -14,9 +13,10 @@ use Rattle.sys_state.specs.declared.record.CanisterRecord.{CanisterRecord}
 use Rattle.sys_state.specs.System.{kept_of, part_of, record_of, part_of_record}
 use Rattle.manifest.specs.Fits.{FitSums, FitMemories}
 use Rattle.manifest.specs.Adding.{Adds, all_memory_sums}
-use Rattle.manifest.proofs.Cutting.{length-parts}
 use Rattle.manifest.proofs.Growing.{added}
 use Rattle.manifest.proofs.Bounds.{few_memories, few_system_chunks}
+use Rattle.format_spec.proofs.Cuts.{heads}
+use Rattle.state_spec.proofs.RowSizes.{length-chunk_hashes}
 
 -- ---- the system text behind the memories
 
@@ -48,9 +48,6 @@ few_hashes s text own good is texted =
 pub fit_hashes : (s : SystemPart) (memories : List Bytes) → FitMemories s memories → FitSums s (map chunk_hashes memories)
 fit_hashes s memories fit = go memories (memories_in s) fit
   where
-    heads : (x y : ℕ) (xs ys : List ℕ) → x ∷ xs ≡ y ∷ ys → (x ≡ y) × (xs ≡ ys)
-    heads x y xs ys e = (cc, cc)
-
     go : (bs : List Bytes) (ms : List (Bytes × ℕ)) → map (λ (b : Bytes). length b) bs ≡ map (λ (m : Bytes × ℕ). m.1 * PAGE_SIZE) ms
         → map (λ (l : List Bytes). length l) (map chunk_hashes bs) ≡ map (λ (m : Bytes × ℕ). part_count CHUNK_SIZE (m.1 * PAGE_SIZE)) ms
     go [] [] e = refl
@@ -58,8 +55,7 @@ fit_hashes s memories fit = go memories (memories_in s) fit
     go (b ∷ bs) [] e = absurd cc
     go (b ∷ bs) (m ∷ ms) e =
         let h = heads (length b) (m.1 * PAGE_SIZE) (map (λ (x : Bytes). length x) bs) (map (λ (x : Bytes × ℕ). x.1 * PAGE_SIZE) ms) e in
-        let count : length (chunk_hashes b) ≡ part_count CHUNK_SIZE (m.1 * PAGE_SIZE) =
-        length-map (parts CHUNK_SIZE b) chunk_hash ∙ length-parts CHUNK_SIZE b ∙ ap (part_count CHUNK_SIZE) h.0 in
+        let count : length (chunk_hashes b) ≡ part_count CHUNK_SIZE (m.1 * PAGE_SIZE) = length-chunk_hashes b ∙ ap (part_count CHUNK_SIZE) h.0 in
         let rest = go bs ms h.1 in
         λ i. count i ∷ rest i
 
@@ -70,9 +66,6 @@ named cs = flat_map (λ (c : Bytes × CanisterPart). (heap_name c.0, c.1.heap) �
 
 abbrev bytes_in : List (Bytes × Canister) → List Bytes
 bytes_in cs = flat_map (λ (c : Bytes × Canister). c.1.heap.bytes ∷ c.1.stable.bytes ∷ []) cs
-
-heads : (x y : ℕ) (xs ys : List ℕ) → x ∷ xs ≡ y ∷ ys → (x ≡ y) × (xs ≡ ys)
-heads x y xs ys e = (cc, cc)
 
 sized : (name : Bytes) (m : Memory) → length m.bytes ≡ pages_of m * PAGE_SIZE → sums_of (name, m.bytes) ≡ record { name = name; size = pages_of m * PAGE_SIZE; hashes = chunk_hashes m.bytes }
 sized name m whole = λ i. record { name = name; size = whole i; hashes = chunk_hashes m.bytes }

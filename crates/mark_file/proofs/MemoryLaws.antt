@@ -1,20 +1,23 @@
 -- What is read of memories is what a mark may say of them, in its one spelling.
 use Rattle.std.proofs.Common.{◌≡◌, ◌≢◌, ℕ, ◌*◌, ◌^◌, ◌<◌, ◌≤◌, Bool, true, false, not, List, [], ◌∷◌, ◌++◌, length, map, get_or, Option, Some, None, refl, sym, ap, subst, ◌∙◌, append_assoc, arith, eq-eqb}
-use Rattle.std.specs.Prelude.{◌==◌, nat_le, slice_get, if◌then◌else◌, AllPairs}
+use Rattle.std.specs.Prelude.{◌==◌, nat_le, slice_get, AllPairs, if◌then◌else◌}
 use Rattle.std.specs.List.{flat_map, AllByRecursion, AllZip, list_any}
 use Rattle.std.specs.Int.{w32, w64}
-use Rattle.std.proofs.lemmas.Bool.{leb-true, le-leb, eqb-true, eqb-false, ne_eqb}
+use Rattle.std.proofs.lemmas.Bool.{leb-true, le-leb, eqb-true, eqb-false, ne_eqb, not-true, false≢true}
 use Rattle.std.proofs.lemmas.List.{append-nil, length-append, length-map, nil_from_length, get_or_append_left}
 use Rattle.std.proofs.lemmas.List.Folds.{list_any_at, list_any_none}
 use Rattle.std.proofs.lemmas.List.Quantifiers.{all_pairs_push}
 use Rattle.std.proofs.Math.Seq.{get_or-append_seam}
 use Rattle.format_spec.specs.Bytes.{Bytes, be32, be64, part_count}
-use Rattle.format_spec.specs.Fields.{Reading, gives, ◌>>=◌, field, number, block, any, each}
+use Rattle.format_spec.specs.Fields.{Reading, gives, ◌>>=◌, field, number, each}
 use Rattle.format_spec.specs.declared.limits.TheConstants.{CHUNK_PAGES, CHUNK_SIZE, PAGE_SIZE, MAX_LAYERS}
-use Rattle.format_spec.proofs.Forms.{number_law, wide32, wide64, block_law}
+use Rattle.format_spec.proofs.Forms.{number_law, wide32, wide64}
 use Rattle.format_spec.proofs.Readings.{IsReading, field_law, then_law, gives_law, reading_when, each_law, FitInTurn}
 use Rattle.store_spec.specs.Mark.{MarkMemory, mark_memory_text, hashes_text, FitsMemory}
 use Rattle.mark_file.specs.Reading.{most_layers, is_new, layer_after, hash_after, memory_of, memory_at, memory_after}
+use Rattle.format_spec.proofs.Lists.{regroup_three}
+use Rattle.format_spec.proofs.Cuts.{Are32, hashes_law}
+use Rattle.store_spec.proofs.Marks.{same_memory}
 
 -- ---- layers that are all different
 
@@ -27,12 +30,8 @@ Different xs = AllPairs (λ a b. a ≢ b) xs
 none_before : Different []
 none_before i j d lt within = absurd (omega (arith, within))
 
-is_not : (b : Bool) → not b ≡ true → b ≡ true → ⊥
-is_not true e h = absurd cc
-is_not false e h = absurd cc
-
 new_differs : (before : List ℕ) (x : ℕ) → is_new before x ≡ true → (k d : ℕ) → k < length before → get_or before k d ≢ x
-new_differs before x new k d lt same = is_not (list_any (λ m. m == x) before) new (list_any_at (λ m. m == x) before k d lt (eq-eqb (get_or before k d) x same))
+new_differs before x new k d lt same = false≢true (sym (not-true (list_any (λ m. m == x) before) new) ∙ list_any_at (λ m. m == x) before k d lt (eq-eqb (get_or before k d) x same))
 
 in_turn_different : (xs before : List ℕ) → Different before → FitInTurn LayerFits before xs → Different (before ++ xs)
 in_turn_different [] before so_far h = subst Different (sym (append-nil before)) so_far
@@ -59,24 +58,10 @@ different_in_turn (x ∷ xs) before all small =
 
 -- ---- hashes
 
-abbrev HashFits : List Bytes → Bytes → Type 0
-HashFits before hash = (length hash ≡ 32) × (any hash ≡ true)
-
-each_hash : (hs before : List Bytes) → FitInTurn HashFits before hs → AllByRecursion (λ hash. length hash ≡ 32) hs
-each_hash [] before h = tt
-each_hash (x ∷ hs) before h = (h.0.0, each_hash hs (before ++ x ∷ []) h.1)
-
-hash_each : (hs before : List Bytes) → AllByRecursion (λ hash. length hash ≡ 32) hs → FitInTurn HashFits before hs
-hash_each [] before h = tt
-hash_each (x ∷ hs) before h = ((h.0, refl), hash_each hs (before ++ x ∷ []) h.1)
-
 -- ---- one memory
 
 abbrev pub FitsPages : ℕ → MarkMemory → Type 0
 FitsPages pages m = FitsMemory m ([], pages)
-
-same_memory : (m n : MarkMemory) → m.layers ≡ n.layers → m.sums ≡ n.sums → m ≡ n
-same_memory m n p q = λ i. record { layers = p i; sums = q i }
 
 module _ (pages : ℕ) where
   abbrev read_end : List ℕ → List Bytes → Reading MarkMemory
@@ -98,13 +83,13 @@ module _ (pages : ℕ) where
       (λ m h. (ap (λ (x : MarkMemory). x.sums) h, ap (λ (x : MarkMemory). x.layers) h)) (λ m h. same_memory m all h.1 h.0) (gives_law all)
 
   abbrev SumsFit : List Bytes → Type 0
-  SumsFit hs = (length hs ≡ part_count CHUNK_PAGES pages) × FitInTurn HashFits [] hs
+  SumsFit hs = (length hs ≡ part_count CHUNK_PAGES pages) × Are32 hs
 
   sums_law : (layers : List ℕ) → IsReading (read_sums layers) (λ m. hashes_text m.sums ++ []) (λ m. (m.layers ≡ layers) × SumsFit m.sums)
   sums_law layers = reading_when (read_sums layers) (λ m. hashes_text m.sums ++ []) (λ m. hashes_text m.sums ++ []) (λ m. SumsFit m.sums × (m.layers ≡ layers)) (λ m. (m.layers ≡ layers) × SumsFit m.sums) (λ m. refl)
       (λ m h. (h.1, h.0)) (λ m h. (h.1, h.0))
       (then_law (each hash_after (part_count CHUNK_PAGES pages) []) (read_end layers) (λ m. m.sums) hashes_text SumsFit (λ m. []) (λ m. m.layers ≡ layers)
-      (each_law hash_after (λ hash. hash) HashFits (λ before. field_law (block 32) (λ s. s) (λ s. length s ≡ 32) any (block_law 32)) (part_count CHUNK_PAGES pages)) (end_law layers))
+      (hashes_law (part_count CHUNK_PAGES pages)) (end_law layers))
 
   abbrev LayersFit : List ℕ → Type 0
   LayersFit ls = FitInTurn LayerFits [] ls
@@ -145,21 +130,18 @@ module _ (pages : ℕ) where
         numbers = in_turn_small m.layers [] h.1.0;
         none_if_empty = λ none. nil_from_length m.layers (few_layers.1 none);
         each_chunk = h.1.1.0;
-        hashes = each_hash m.sums [] h.1.1.1;
+        hashes = h.1.1.1;
       }
 
   in_turn : (m : MarkMemory) → FitsPages pages m → InTurn m
   in_turn m f =
       let le : length m.layers ≤ MAX_LAYERS = f.few in
-      ((omega (arith, le), are_few (length m.layers) le (λ none. ap length (f.none_if_empty none))), (different_in_turn m.layers [] f.different f.numbers, (f.each_chunk, hash_each m.sums [] f.hashes)))
-
-  regroup : (a b c : Bytes) → a ++ (b ++ (c ++ [])) ≡ (a ++ b) ++ c
-  regroup a b c = simp (append_assoc, append-nil)
+      ((omega (arith, le), are_few (length m.layers) le (λ none. ap length (f.none_if_empty none))), (different_in_turn m.layers [] f.different f.numbers, (f.each_chunk, f.hashes)))
 
   pub memory_law : IsReading (memory_of pages) mark_memory_text (FitsPages pages)
   unfolding memory_of
   memory_law = reading_when (memory_of pages) (λ m. be32 (length m.layers) ++ (flat_map be64 m.layers ++ (hashes_text m.sums ++ []))) mark_memory_text InTurn (FitsPages pages)
-      (λ m. regroup (be32 (length m.layers)) (flat_map be64 m.layers) (hashes_text m.sums)) fits in_turn
+      (λ m. regroup_three (be32 (length m.layers)) (flat_map be64 m.layers) (hashes_text m.sums)) fits in_turn
       (then_law (field (number w32) few) read_layers (λ m. length m.layers) be32 CountFits (λ m. flat_map be64 m.layers ++ (hashes_text m.sums ++ [])) (λ m. LayersFit m.layers × SumsFit m.sums)
       (field_law (number w32) be32 (λ n. n < 2 ^ 32) few (number_law w32 (2 ^ 32) wide32)) layers_law)
 

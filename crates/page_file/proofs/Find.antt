@@ -1,66 +1,18 @@
 -- Where a page stands among the pages of ranges.
-use Rattle.std.proofs.Common.{◌≡◌, ℕ, zero, suc, ◌+◌, ◌-◌, ◌<◌, ◌≤◌, Bool, true, false, ◌==◌, nat_lt, List, [], ◌∷◌, ◌++◌, length, get_or, Option, Some, None, refl, sym, ◌∙◌, ap, subst, arith, cond, inl, inr}
-use Rattle.std.specs.List.{range_with_len, AllByRecursion, position, position_or_len}
-use Rattle.std.specs.Option.{option_map}
-use Rattle.std.proofs.lemmas.Bool.{lt-ltb, le-ltb, eq-eqb, ne_eqb, cases_lt, cases_eq}
+use Rattle.std.proofs.Common.{◌≡◌, ℕ, zero, suc, ◌+◌, ◌-◌, ◌<◌, ◌≤◌, nat_lt, List, [], ◌∷◌, length, get_or, Option, Some, None, refl, sym, ◌∙◌, ap, subst, arith, cond, inl, inr}
+use Rattle.std.specs.List.{position}
+use Rattle.std.proofs.lemmas.Bool.{lt-ltb, le-ltb, cases_lt}
 use Rattle.std.proofs.lemmas.List.{get_or_default}
 use Rattle.page_file.specs.declared.range.Range.{Range}
 use Rattle.page_file.specs.Ranges.{numbers_in, AreRanges}
 use Rattle.page_file.proofs.Runs.{numbers_from}
-
-abbrev pub plus : ℕ → Option ℕ → Option ℕ
-plus k o = option_map (λ i. k + i) o
-
-found : (n m : ℕ) → n < m → cond (nat_lt n m) (Some n) None ≡ Some n
-found n m lt = rw (lt-ltb n m lt) refl
-
-position_here : (p : ℕ → Bool) (x : ℕ) (xs : List ℕ) → p x ≡ true → position p (x ∷ xs) ≡ Some 0
-position_here p x xs h = rw h (found 0 (suc (length xs)) (omega arith))
-
-counted : (n m : ℕ) → cond (nat_lt (1 + n) (suc m)) (Some (1 + n)) None ≡ plus 1 (cond (nat_lt n m) (Some n) None)
-counted n m = elim (cases_lt n m) [
-  | inl below ↦ rw (lt-ltb n m below, lt-ltb (1 + n) (suc m) (omega arith)) refl
-  | inr past ↦ rw (le-ltb n m past, le-ltb (1 + n) (suc m) (omega arith)) refl
-]
-
-position_later : (p : ℕ → Bool) (x : ℕ) (xs : List ℕ) → p x ≡ false → position p (x ∷ xs) ≡ plus 1 (position p xs)
-position_later p x xs h = rw h (counted (position_or_len p xs) (length xs))
-
-plus_plus : (a b : ℕ) (o : Option ℕ) → plus a (plus b o) ≡ plus (a + b) o
-plus_plus a b None = refl
-plus_plus a b (Some n) = let e : a + (b + n) ≡ a + b + n = omega arith in ap Some e
-
-plus_zero : (o : Option ℕ) → plus 0 o ≡ o
-plus_zero None = refl
-plus_zero (Some n) = let e : 0 + n ≡ n = omega arith in ap Some e
+use Rattle.page_spec.proofs.Positions.{in_range, is, not_there, past_range, plus, plus_plus, plus_zero}
 
 module _ (page : ℕ) where
-  abbrev is : ℕ → Bool
-  is x = x == page
-
-  not_there : (l : ℕ) (ns : List ℕ) → AllByRecursion (λ n. l ≤ n) ns → page < l → position is ns ≡ None
-  not_there l [] from lt = refl
-  not_there l (n ∷ ns) from lt = position_later is n ns (ne_eqb n page (λ e. omega (arith, e, from.0))) ∙ ap (plus 1) (not_there l ns from.1 lt)
-
-  past_range : (a n : ℕ) (ns : List ℕ) → a + n ≤ page → position is (range_with_len a n ++ ns) ≡ plus n (position is ns)
-  past_range a zero ns le = sym (plus_zero (position is ns))
-  past_range a (suc n) ns le =
-      let e : 1 + n ≡ suc n = omega arith in
-      position_later is a (range_with_len (a + 1) n ++ ns) (ne_eqb a page (λ same. omega (arith, same)))
-      ∙ ap (plus 1) (past_range (a + 1) n ns (omega arith)) ∙ plus_plus 1 n (position is ns) ∙ ap (λ (k : ℕ). plus k (position is ns)) e
-
-  in_range : (a n : ℕ) (ns : List ℕ) → a ≤ page → page < a + n → position is (range_with_len a n ++ ns) ≡ Some (page - a)
-  in_range a zero ns le lt = absurd (omega arith)
-  in_range a (suc n) ns le lt = elim (cases_eq a page) [
-    | inl same ↦ let e : 0 ≡ page - a = omega (arith, same) in position_here is a (range_with_len (a + 1) n ++ ns) (eq-eqb a page same) ∙ ap Some e
-    | inr apart ↦ let e : 1 + (page - (a + 1)) ≡ page - a = omega (arith, apart) in
-        position_later is a (range_with_len (a + 1) n ++ ns) (ne_eqb a page apart) ∙ ap (plus 1) (in_range (a + 1) n ns (omega (arith, apart)) (omega arith)) ∙ ap Some e
-  ]
-
   -- no range begins at this page or before it
-  pub none_before : (m l p : ℕ) (rs : List Range) → AreRanges m l p rs → ((d : Range) → 0 < length rs → page < (get_or rs 0 d).first) → position is (numbers_in rs) ≡ None
+  pub none_before : (m l p : ℕ) (rs : List Range) → AreRanges m l p rs → ((d : Range) → 0 < length rs → page < (get_or rs 0 d).first) → position (is page) (numbers_in rs) ≡ None
   none_before m l p [] h above = refl
-  none_before m l p (r ∷ rs) h above = not_there r.first (numbers_in (r ∷ rs)) (numbers_from m r.first p (r ∷ rs) (omega arith, h.1, h.2, h.3, h.4)) (above r (omega arith))
+  none_before m l p (r ∷ rs) h above = not_there page r.first (numbers_in (r ∷ rs)) (numbers_from m r.first p (r ∷ rs) (omega arith, h.1, h.2, h.3, h.4)) (above r (omega arith))
 
   begins_after : (m l p : ℕ) (rs : List Range) (k : ℕ) (d : Range) → AreRanges m l p rs → k < length rs → l ≤ (get_or rs k d).first
   begins_after m l p [] k d h lt = absurd (omega arith)
@@ -78,17 +30,17 @@ module _ (page : ℕ) where
 
   -- the range at k begins no later than the page, and the next one after it
   pub found_at : (m l p : ℕ) (rs : List Range) (k : ℕ) (d : Range) → AreRanges m l p rs → k < length rs → (get_or rs k d).first ≤ page
-      → (k + 1 < length rs → page < (get_or rs (k + 1) d).first) → plus p (position is (numbers_in rs)) ≡ found_in (get_or rs k d)
+      → (k + 1 < length rs → page < (get_or rs (k + 1) d).first) → plus p (position (is page) (numbers_in rs)) ≡ found_in (get_or rs k d)
   found_at m l p [] k d h lt le above = absurd (omega arith)
   found_at m l p (r ∷ rs) zero d h lt le above = elim (cases_lt (page - r.first) r.length) [
-    | inl within ↦ rw (lt-ltb (page - r.first) r.length within) (ap (plus p) (in_range r.first r.length (numbers_in rs) le (omega (arith, within, le))) ∙ ap (λ (k : ℕ). Some (k + (page - r.first))) (sym h.3))
-    | inr past ↦ rw (le-ltb (page - r.first) r.length past) (ap (plus p) (past_range r.first r.length (numbers_in rs) (omega (arith, past, le)) ∙ ap (plus r.length) rest))
+    | inl within ↦ rw (lt-ltb (page - r.first) r.length within) (ap (plus p) (in_range page r.first r.length (numbers_in rs) le (omega (arith, within, le))) ∙ ap (λ (k : ℕ). Some (k + (page - r.first))) (sym h.3))
+    | inr past ↦ rw (le-ltb (page - r.first) r.length past) (ap (plus p) (past_range page r.first r.length (numbers_in rs) (omega (arith, past, le)) ∙ ap (plus r.length) rest))
   ]
     where
-      rest : position is (numbers_in rs) ≡ None
+      rest : position (is page) (numbers_in rs) ≡ None
       rest = none_before m (r.first + r.length + 1) (p + r.length) rs h.4 (λ e more. subst (λ x. page < x) (ap (λ (x : Range). x.first) (get_or_default rs 0 d e more)) (above (omega (arith, more))))
   found_at m l p (r ∷ rs) (suc k) d h lt le above =
-      ap (plus p) (past_range r.first r.length (numbers_in rs) (past rs h.4 k (omega arith) le)) ∙ plus_plus p r.length (position is (numbers_in rs))
+      ap (plus p) (past_range page r.first r.length (numbers_in rs) (past rs h.4 k (omega arith) le)) ∙ plus_plus p r.length (position (is page) (numbers_in rs))
       ∙ found_at m (r.first + r.length + 1) (p + r.length) rs k d h.4 (omega arith) le
       (λ more. let at : suc k + 1 ≡ suc (k + 1) = omega arith in subst (λ (j : ℕ). page < (get_or (r ∷ rs) j d).first) at (above (omega (arith, more))))
     where
@@ -97,10 +49,10 @@ module _ (page : ℕ) where
 
   -- so many ranges begin by this page, and r is the last of them
   pub found_by : (m : ℕ) (rs : List Range) (n : ℕ) (r d : Range) → AreRanges m 0 0 rs → n ≤ length rs → ((k : ℕ) (d : Range) → k < n → (get_or rs k d).first ≤ page) → ((k : ℕ) (d : Range) → n ≤ k → k < length rs → page < (get_or rs k d).first)
-      → (n ≡ 0 → ⊥) → r ≡ get_or rs (n - 1) d → position is (numbers_in rs) ≡ found_in r
+      → (n ≡ 0 → ⊥) → r ≡ get_or rs (n - 1) d → position (is page) (numbers_in rs) ≡ found_in r
   found_by m rs n r d h le begun later some at =
       let next : n - 1 + 1 ≡ n = omega (arith, some) in
-      sym (plus_zero (position is (numbers_in rs))) ∙ found_at m 0 0 rs (n - 1) d h (omega (arith, some, le)) (begun (n - 1) d (omega (arith, some))) (λ more. later (n - 1 + 1) d (omega arith) more) ∙ ap found_in (sym at)
+      sym (plus_zero (position (is page) (numbers_in rs))) ∙ found_at m 0 0 rs (n - 1) d h (omega (arith, some, le)) (begun (n - 1) d (omega (arith, some))) (λ more. later (n - 1 + 1) d (omega arith) more) ∙ ap found_in (sym at)
 
 pub firsts_ascend : (m l p : ℕ) (rs : List Range) → AreRanges m l p rs → (i j : ℕ) (d : Range) → i ≤ j → j < length rs → (get_or rs i d).first ≤ (get_or rs j d).first
 firsts_ascend m l p [] h i j d le lt = absurd (omega arith)

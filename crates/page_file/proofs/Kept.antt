@@ -7,9 +7,10 @@ use Rattle.page_file.specs.declared.index.FileIndex.TheInside.{Inside}
 use Rattle.page_file.specs.Ranges.{AreRanges, text_of}
 use Rattle.page_file.specs.Index.{index_of, IsFileIndex, header_text}
 use Rattle.page_file.proofs.Runs.{runs_of_numbers, numbers_within, numbers_ascend, ranges_le_numbers, numbers_le_memory}
-use Rattle.page_file.proofs.Placed.{placed, length_placed, placed_are, numbers_placed, from_zero}
+use Rattle.page_file.proofs.Placed.{placed, length_placed, placed_are, numbers_placed}
 use Rattle.page_file.proofs.Steps.{behind}
 use Rattle.page_file.proofs.Texts.{text_is, index_is, length-runs_in}
+use Rattle.format_spec.proofs.Lists.{every}
 
 pub counts : (a : Inside) → IsFileIndex a → (length a.ranges.items ≤ a.count) × (a.count ≤ a.memory) × (a.memory ≤ 65536)
 counts a h = (
@@ -41,7 +42,7 @@ text_written a i n old mid new h is count header ranges = subst (λ (i : PageInd
 
 -- the ranges of an index
 pub ranges_are : (i : PageIndex) → IsIndex i → AreRanges i.memory 0 0 (placed 0 (runs_of i.numbers))
-ranges_are i is = placed_are i.memory i.numbers is.ascends is.within 0 0 (from_zero i.numbers)
+ranges_are i is = placed_are i.memory i.numbers is.ascends is.within 0 0 (every (λ n. 0 ≤ n) (λ n. omega arith) i.numbers)
 
 pub pages_fit : (i : PageIndex) → IsIndex i → (length (runs_of i.numbers) ≤ length i.numbers) × (length i.numbers ≤ i.memory)
 pages_fit i is =

@@ -14,7 +14,8 @@ use Rattle.page_file.specs.declared.format.Header.{Header}
 use Rattle.page_file.specs.Index.{IsHeader, HasRanges, ReadsHeader, ReadsIndex, header_text, are_counts}
 use Rattle.page_file.specs.Files.{NumberedFile, HasPages, IsAsKnown, HasHeader, FindsHeader, FindsIndex}
 use Rattle.page_file.proofs.Kept.{pages_fit, some_run}
-use Rattle.page_file.proofs.Texts.{header_reads, length-index_text, index_is, length-header_text, length-ranges_text}
+use Rattle.page_file.proofs.Texts.{header_reads, index_is, length-header_text}
+use Rattle.page_spec.proofs.PageFiles.{length-index_text, length-ranges_text}
 
 -- ---- pages
 

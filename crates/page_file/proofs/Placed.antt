@@ -66,7 +66,3 @@ numbers_front n p (r ∷ rs) = elim (cases_Bool (r.0 == n + 1)) [
 pub numbers_placed : (p : ℕ) (ns : List ℕ) → numbers_in (placed p (runs_of ns)) ≡ ns
 numbers_placed p [] = refl
 numbers_placed p (n ∷ ns) = numbers_front n p (runs_of ns) ∙ ap (λ (l : List ℕ). n ∷ l) (numbers_placed (p + 1) ns)
-
-pub from_zero : (ns : List ℕ) → AllByRecursion (λ n. 0 ≤ n) ns
-from_zero [] = tt
-from_zero (n ∷ ns) = (omega arith, from_zero ns)

@@ -1,12 +1,12 @@
 -- The texts of ranges and of an index.
-use Rattle.std.proofs.Common.{◌≡◌, ℕ, suc, ◌+◌, ◌*◌, ◌≤◌, List, [], ◌∷◌, ◌++◌, length, take, drop, refl, sym, ◌∙◌, ap, subst, arith, length-append, Bool, true, false, ◌&&◌, bytes_eq, codes, ◌==◌, if◌then◌else◌}
+use Rattle.std.proofs.Common.{◌≡◌, ℕ, suc, ◌+◌, ◌*◌, ◌≤◌, List, [], ◌∷◌, ◌++◌, length, take, drop, refl, sym, ◌∙◌, ap, subst, arith, Bool, true, false, ◌&&◌, bytes_eq, codes, ◌==◌, if◌then◌else◌}
 use Rattle.std.specs.Int.{w32, from_be_bytes}
 use Rattle.std.proofs.lemmas.Nat.{from_be_bytes-to_be_bytes_4}
 use Rattle.std.proofs.lemmas.Bool.{and_from, eq-eqb, false≢true}
 use Rattle.std.proofs.lemmas.Bool.Decides.{nat_tests}
 use Rattle.std.proofs.lemmas.Slice.Eq.{bytes_eq-Decides}
 use Rattle.format_spec.specs.Bytes.{Bytes, be32, be64}
-use Rattle.page_spec.specs.PageFile.{PageIndex, ranges_text, runs_of, index_text, index_length}
+use Rattle.page_spec.specs.PageFile.{PageIndex, ranges_text, runs_of, index_text}
 use Rattle.page_file.specs.declared.range.Range.{Range}
 use Rattle.page_file.specs.Ranges.{runs_in, AreRanges, text_of}
 use Rattle.page_file.specs.Index.{header_text, length_of, are_counts, IsHeader}
@@ -22,10 +22,6 @@ text_is m l p (r ∷ rs) h =
 pub placed_text : (p : ℕ) (rs : List (ℕ × ℕ)) → text_of (placed p rs) ≡ ranges_text p rs
 placed_text p [] = refl
 placed_text p (r ∷ rs) = ap (λ (l : Bytes). be32 r.0 ++ be32 r.1 ++ be32 p ++ l) (placed_text (p + r.1) rs)
-
-pub length-ranges_text : (p : ℕ) (rs : List (ℕ × ℕ)) → length (ranges_text p rs) ≡ 12 * length rs
-length-ranges_text p [] = refl
-length-ranges_text p (r ∷ rs) = omega (arith, length-ranges_text (p + r.1) rs)
 
 pub length-text_of : (rs : List Range) → length (text_of rs) ≡ 12 * length rs
 length-text_of [] = refl
@@ -50,9 +46,6 @@ header_ranges m r p = refl
 pub header_pages : (m r p : ℕ) → take 4 (drop 20 (header_text m r p)) ≡ be32 p
 unfolding header_text
 header_pages m r p = refl
-
-pub length-index_text : (i : PageIndex) → length (index_text i) ≡ index_length i
-length-index_text i = ap length (index_is i) ∙ omega (arith, length-append (header_text i.memory (length (runs_of i.numbers)) (length i.numbers)) (ranges_text 0 (runs_of i.numbers)), length-header_text i.memory (length (runs_of i.numbers)) (length i.numbers), length-ranges_text 0 (runs_of i.numbers))
 
 pub header_written : (old a b c d e f g : Bytes) (kind m r p n : ℕ) → a ≡ old ++ codes "ICPF" → b ≡ a ++ be32 1 → c ≡ b ++ be32 kind → d ≡ c ++ be32 m → e ≡ d ++ be32 r → f ≡ e ++ be32 p → g ≡ f ++ be64 n
     → kind ≡ (if p == m then 1 else 0) → n ≡ length_of r p → g ≡ old ++ header_text m r p

@@ -12,7 +12,7 @@ use Rattle.disk_model.specs.View.{DiskView, Done, Does}
 use Rattle.disk_model.specs.Laws.{IsSound, appended_loose, sealed_firm, same_name_refl}
 use Rattle.disk_model.specs.Frame.{TouchesOnly, touches_call}
 use Rattle.page_file.specs.Files.{NumberedFile, UnfinishedFile, IsWriting, IsFinished, text_written, text_added, length_added}
-use Rattle.page_file.proofs.Texts.{length-index_text}
+use Rattle.page_spec.proofs.PageFiles.{length-index_text}
 
 -- a call on one page file touches that file alone
 pub touches_page : {T : Type 0} (call : Call) (result : Result T DiskError) (old new : DiskView) (n m : ℕ) → n ≡ m → ((q : _) → same_name (Page n) q ≡ false → is_given call q ≡ false) → IsSound old.state → Does call result old new → TouchesOnly (same_name (Page m)) old new

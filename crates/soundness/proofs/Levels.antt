@@ -1,13 +1,12 @@
 -- Levels of a tree with parts cut off, against the same level of a whole tree: what a level tells of a label.
 use Rattle.std.proofs.Common.{◌≡◌, ◌⊎◌, Bool, true, false, ◌&&◌, cond, List, [], ◌∷◌, ◌++◌, map, Option, Some, None, refl, sym, ap, ◌∙◌, subst, inl, inr, is_lt, is_eq, Ordering, Less, Equal, Greater}
 use Rattle.std.specs.List.{filter_map, list_all}
-use Rattle.std.specs.Cmp.{alike_right}
+use Rattle.std.specs.Cmp.{alike_right, Equal-is}
 use Rattle.std.specs.Ordering.{ordering_reverse}
 use Rattle.std.specs.Cmp.Lexicographic.{nat_list_cmp_total}
 use Rattle.std.proofs.lemmas.Bool.{and_parts, and_from, or_cases, or_left, or_right}
 use Rattle.format_spec.specs.Bytes.{Bytes, bytes_cmp, bytes_below, same_bytes, ascending}
-use Rattle.format_spec.proofs.Ascending.{below_trans, less_is}
-use Rattle.format_spec.proofs.Follow.{above_too}
+use Rattle.format_spec.proofs.Follow.{above_too, bytes_below-trans}
 use Rattle.tree_spec.specs.Tree.{Tree, empty, fork, labeled, leaf, pruned, flatten, label_of}
 use Rattle.tree_spec.specs.Lookup.{below_label, is_below, is_above, has_gap_at, last_entry, is_outside}
 use Rattle.soundness.proofs.Like.{Like, like_cut, like_empty, like_fork, like_labeled, like_leaf}
@@ -24,23 +23,15 @@ turned Less h = refl
 turned Equal h = absurd cc
 turned Greater h = refl
 
-equal_is : (o : Ordering) → is_eq o ≡ true → o ≡ Equal
-equal_is Less h = absurd cc
-equal_is Equal h = refl
-equal_is Greater h = absurd cc
-
 below_apart : (k l : Bytes) → bytes_below k l ≡ true → same_bytes k l ≡ false
 below_apart k l h = not_same (bytes_cmp k l) h
 
 above_apart : (k l : Bytes) → bytes_below l k ≡ true → same_bytes k l ≡ false
 above_apart k l h = turned (bytes_cmp k l) (sym (ap is_lt (nat_list_cmp_total.antisymm l k)) ∙ h)
 
-between : (k j l : Bytes) → bytes_below k j ≡ true → bytes_below j l ≡ true → bytes_below k l ≡ true
-between k j l p q = below_trans bytes_cmp nat_list_cmp_total k j l (less_is (bytes_cmp k j) p) q
-
 -- below what is the same
 below_same : (k j l : Bytes) → bytes_below k j ≡ true → same_bytes j l ≡ true → bytes_below k l ≡ true
-below_same k j l p q = ap is_lt (sym (alike_right nat_list_cmp_total j l k (equal_is (bytes_cmp j l) q))) ∙ p
+below_same k j l p q = ap is_lt (sym (alike_right nat_list_cmp_total j l k ((Equal-is (bytes_cmp j l)).0 q))) ∙ p
 
 -- ---- what stands at a level
 
@@ -182,7 +173,7 @@ has_above k l (empty ∷ us) a (inl h) = absurd cc
 has_above k l (empty ∷ us) a (inr h) = has_above k l us a h
 has_above k l (fork c d ∷ us) a (inl h) = absurd cc
 has_above k l (fork c d ∷ us) a (inr h) = has_above k l us a h
-has_above k l (labeled j b ∷ us) a (inl h) = between k j l (and_parts (is_lt (bytes_cmp k j)) (list_all (λ i. is_lt (bytes_cmp k i)) (labels_in us)) a).0 h
+has_above k l (labeled j b ∷ us) a (inl h) = bytes_below-trans k j l (and_parts (is_lt (bytes_cmp k j)) (list_all (λ i. is_lt (bytes_cmp k i)) (labels_in us)) a).0 h
 has_above k l (labeled j b ∷ us) a (inr h) = has_above k l us (and_parts (is_lt (bytes_cmp k j)) (list_all (λ i. is_lt (bytes_cmp k i)) (labels_in us)) a).1 h
 has_above k l (leaf b ∷ us) a (inl h) = absurd cc
 has_above k l (leaf b ∷ us) a (inr h) = has_above k l us a h
@@ -199,7 +190,7 @@ none_behind l (labeled k b) us a h e =
 none_behind l (leaf b) us a h e = e
 none_behind l (pruned x) us a h e = e
 
--- two entries with l between them
+-- two entries with l bytes_below-trans them
 between_none : (l : Bytes) (u v : Tree) (us : List Tree) → Ascends (u ∷ v ∷ us) → is_below (label_of u) l ≡ true → is_above (label_of v) l ≡ true → below_label l (u ∷ v ∷ us) ≡ None
 between_none l empty v us a p q = absurd cc
 between_none l (fork c d) v us a p q = absurd cc

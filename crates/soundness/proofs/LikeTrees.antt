@@ -8,16 +8,10 @@ use Rattle.tree_spec.specs.Whole.{HasHashes}
 use Rattle.tree_spec.specs.Cbor.{HasSizes}
 use Rattle.soundness.proofs.Like.{Like, like_cut, like_empty, like_fork, like_labeled, like_leaf}
 use Rattle.soundness.proofs.Levels.{Refines, none, cut_end, cut_more, same_label, same_leaf, like_levels, Ascends, Above, labels_in, tail_ascends}
-
-depth_one : (t : Tree) → 1 ≤ depth t
-depth_one empty = omega arith
-depth_one (fork a b) = omega arith
-depth_one (labeled l a) = omega arith
-depth_one (leaf b) = omega arith
-depth_one (pruned h) = omega arith
+use Rattle.tree_spec.proofs.CborTrees.{depth_pos}
 
 pub like_depth : {t u : Tree} → Like t u → depth t ≤ depth u
-like_depth (like_cut h u) = depth_one u
+like_depth (like_cut h u) = depth_pos u
 like_depth like_empty = omega arith
 like_depth (like_fork a b c d p q) = omega (arith, like_depth p, like_depth q)
 like_depth (like_labeled l a b p) = omega (arith, like_depth p)

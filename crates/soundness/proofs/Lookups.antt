@@ -3,11 +3,12 @@ use Rattle.std.proofs.Common.{◌≡◌, ◌⊎◌, Bool, true, false, not, ◌&
 use Rattle.std.proofs.lemmas.Bool.{and_parts, or_cases, or_left, or_right}
 use Rattle.format_spec.specs.Bytes.{Bytes, bytes_cmp, same_bytes, ascending}
 use Rattle.tree_spec.specs.Tree.{Tree, empty, fork, labeled, leaf, pruned, flatten, label_of, labels, is_leaf, reconstruct, hashed_strings, is_good_inside, is_well_formed}
-use Rattle.tree_spec.specs.Lookup.{lookup, at_end, below_label, has_gap_at, is_outside, is_one_leaf, missing, Looked, absent, error, unknown}
+use Rattle.tree_spec.specs.Lookup.{lookup, at_end, below_label, has_gap_at, is_outside, is_one_leaf, missing, absent, error, unknown}
 use Rattle.tree_spec.specs.Whole.{IsWhole, HasHashes}
 use Rattle.soundness.proofs.Like.{Like, like_cut, like_empty, like_fork, like_labeled, like_leaf, like_or_meet}
 use Rattle.soundness.proofs.Levels.{Refines, none, cut_end, cut_more, same_label, same_leaf, like_levels, Ascends, found_too, gap_too, gap_none, starts_none}
 use Rattle.soundness.proofs.Strings.{Meet}
+use Rattle.tree_spec.proofs.Labels.{lookup_some, lookup_none}
 
 abbrev pub Ordered : Tree → Type 0
 Ordered u = Ascends (flatten u) × (is_good_inside u ≡ true)
@@ -86,14 +87,6 @@ end_too like_empty = inr refl
 end_too (like_fork a b c d p q) = inr refl
 end_too (like_labeled l a b p) = inr refl
 end_too (like_leaf b) = inr refl
-
-pub lookup_some : (l : Bytes) (path : List Bytes) (t x : Tree) → below_label l (flatten t) ≡ Some x → lookup (l ∷ path) t ≡ lookup path x
-unfolding lookup
-lookup_some l path t x p = ap (λ (o : Option Tree). elim o as (λ z. Looked) [ Some below ↦ lookup path below | None ↦ missing l (flatten t) ]) p
-
-pub lookup_none : (l : Bytes) (path : List Bytes) (t : Tree) → below_label l (flatten t) ≡ None → lookup (l ∷ path) t ≡ missing l (flatten t)
-unfolding lookup
-lookup_none l path t p = ap (λ (o : Option Tree). elim o as (λ z. Looked) [ Some below ↦ lookup path below | None ↦ missing l (flatten t) ]) p
 
 module _ (l : Bytes) (path : List Bytes) (t u : Tree) where
   some_case : (x y : Tree) → below_label l (flatten t) ≡ Some x → below_label l (flatten u) ≡ Some y → (lookup path x ≡ unknown) ⊎ (lookup path x ≡ lookup path y) → (lookup (l ∷ path) t ≡ unknown) ⊎ (lookup (l ∷ path) t ≡ lookup (l ∷ path) u)

@@ -1,5 +1,5 @@
 -- States with one root are equal up to history, or two strings clash.
-use Rattle.std.proofs.Common.{◌≡◌, ◌⊎◌, ℕ, ◌*◌, ◌^◌, ◌<◌, ◌≤◌, List, [], ◌∷◌, ◌++◌, length, map, codes, Contains, Option, Ok, Result, refl, sym, ap, ◌∙◌, subst, inl, inr, arith, length-append}
+use Rattle.std.proofs.Common.{◌≡◌, ◌⊎◌, ℕ, ◌*◌, ◌^◌, ◌<◌, ◌≤◌, List, [], ◌∷◌, ◌++◌, length, map, codes, Contains, Option, refl, sym, ap, ◌∙◌, subst, inl, inr, arith, length-append}
 use Rattle.std.specs.List.{flat_map, AllByRecursion}
 use Rattle.std.proofs.lemmas.List.{append_cancel_left, map-append, length-map, same_from_push, append-nil}
 use Rattle.std.proofs.lemmas.List.Concat.{flat_map-append}
@@ -21,6 +21,7 @@ use Rattle.soundness.proofs.Strings.{Meet, one_or_meet, first_of_list, meet_with
 use Rattle.format_spec.proofs.Parts.{joined, joined_parts}
 use Rattle.soundness.proofs.Joins.{each_or_meet, joined_same, lengths_same, AreShort}
 use Rattle.soundness.proofs.Texts.{File, chunks_in, contents, same_files, joined_chunks}
+use Rattle.format_spec.proofs.Readings.{ok_is}
 
 -- ---- the lists of strings
 
@@ -237,9 +238,6 @@ unfolding state_from plain
 whole s t v e m =
     let p = parts_same s t e in
     state_same s.version t.version s.time t.time (map plain s.canisters) (map plain t.canisters) s.entries t.entries v p.0 (canisters_same s.canisters t.canisters p.1 m) p.2
-
-ok_is : (a b : SystemPart) → ◌≡◌ {A = Result SystemPart ℕ} (Ok a) (Ok b) → a ≡ b
-ok_is a b e = cc
 
 system_same : (s t : State) → IsState s → IsState t → system_text (system_of s) ≡ system_text (system_of t) → system_of s ≡ system_of t
 system_same s t hs ht e =

@@ -22,19 +22,16 @@ data Place : Bytes → Bytes → Type 0 where
   is_low : (k l : Bytes) → bytes_below k l ≡ true → bytes_below l k ≡ false → Place k l
   is_high : (k l : Bytes) → bytes_below k l ≡ false → bytes_below l k ≡ true → Place k l
 
-turned : (k l : Bytes) → bytes_cmp l k ≡ ordering_reverse (bytes_cmp k l)
-turned k l = nat_list_cmp_total.antisymm l k
-
 place_of : (k l : Bytes) → same_bytes k l ≡ false → Place k l
 place_of k l e = by (bytes_cmp k l) refl
   where
     by : (o : Ordering) → bytes_cmp k l ≡ o → Place k l
-    by Less o = is_low k l (ap is_lt o) (ap is_lt (turned k l ∙ ap ordering_reverse o))
+    by Less o = is_low k l (ap is_lt o) (ap is_lt (nat_list_cmp_total.antisymm l k ∙ ap ordering_reverse o))
     by Equal o = absurd (let same : same_bytes k l ≡ true = ap is_eq o in cc)
-    by Greater o = is_high k l (ap is_lt o) (ap is_lt (turned k l ∙ ap ordering_reverse o))
+    by Greater o = is_high k l (ap is_lt o) (ap is_lt (nat_list_cmp_total.antisymm l k ∙ ap ordering_reverse o))
 
 same_turned : (k l : Bytes) → same_bytes k l ≡ false → same_bytes l k ≡ false
-same_turned k l e = ap is_eq (turned k l) ∙ by (bytes_cmp k l) e
+same_turned k l e = ap is_eq (nat_list_cmp_total.antisymm l k) ∙ by (bytes_cmp k l) e
   where
     by : (o : Ordering) → is_eq o ≡ false → is_eq (ordering_reverse o) ≡ false
     by Less h = refl
@@ -58,7 +55,7 @@ none_below l j (k ∷ ks) lt h =
     ap (λ (b : Bool). cond b (k ∷ filter (λ i. bytes_below i l) ks) (filter (λ i. bytes_below i l) ks)) low ∙ none_below l j ks lt p.1
   where
     not_below : (k : Bytes) → bytes_below l k ≡ true → bytes_below k l ≡ false
-    not_below k lt = ap is_lt (turned l k) ∙ by (bytes_cmp l k) lt
+    not_below k lt = ap is_lt (nat_list_cmp_total.antisymm k l) ∙ by (bytes_cmp l k) lt
       where
         by : (o : Ordering) → is_lt o ≡ true → is_lt (ordering_reverse o) ≡ false
         by Less h = refl

@@ -1,7 +1,5 @@
 -- Labels at one level of a witness: one that a path begins with is found there, or is absent between its neighbours.
-use Rattle.std.proofs.Common.{◌≡◌, ◌||◌, Bool, true, false, cond, List, [], ◌∷◌, Option, Some, None, refl, sym, ap, ◌∙◌, subst, is_eq}
-use Rattle.std.specs.Cmp.{tied_itself}
-use Rattle.std.specs.Cmp.Lexicographic.{nat_list_cmp_total, same_text, texts_ties}
+use Rattle.std.proofs.Common.{◌≡◌, ◌||◌, Bool, true, false, cond, List, [], ◌∷◌, Option, Some, None, refl, sym, ap, ◌∙◌, subst}
 use Rattle.std.proofs.lemmas.Bool.{or_left, or_right}
 use Rattle.format_spec.specs.Bytes.{Bytes, same_bytes}
 use Rattle.tree_spec.specs.Tree.{Tree, empty, fork, labeled, leaf, pruned, reconstruct}
@@ -9,6 +7,7 @@ use Rattle.tree_spec.specs.Lookup.{below_label}
 use Rattle.tree_spec.specs.Labelled.{Children, none, leaf_at, node_at, tree_of}
 use Rattle.tree_spec.specs.Witness.{Kept, kept_closed, kept_children, under_forks, begins_some, rests, going_on, is_neighbour, child_labels}
 use Rattle.soundness.proofs.Shown.{Shows, shows_none, shows_kept, cut_last, cut_more, NamedOrNone, AllNamed}
+use Rattle.format_spec.proofs.Readings.{same_bytes_is, bytes_same}
 
 -- ---- what is kept of a child
 
@@ -119,13 +118,7 @@ other_child k l (Some (pruned h)) ts n e = absurd n
 
 -- a child with this label
 this_child : (l : Bytes) (o : Option Tree) (a : Tree) (ts : List Tree) → o ≡ Some (labeled l a) → below_label l (with_kept o ts) ≡ Some a
-this_child l o a ts e = ap (λ (x : Option Tree). below_label l (with_kept x ts)) e ∙ ap (λ (b : Bool). cond b (Some a) (below_label l ts)) (itself l)
-  where
-    itself : (l : Bytes) → same_bytes l l ≡ true
-    itself l = ap is_eq (tied_itself nat_list_cmp_total l)
-
-same_is : (k l : Bytes) → same_bytes k l ≡ true → k ≡ l
-same_is k l e = same_text k l (sym (texts_ties k l ∙ e))
+this_child l o a ts e = ap (λ (x : Option Tree). below_label l (with_kept x ts)) e ∙ ap (λ (b : Bool). cond b (Some a) (below_label l ts)) (bytes_same l)
 
 leaf_shown : (ls : List Bytes) (ps : List (List Bytes)) (l v : Bytes) → begins_some l ps ≡ true → leaf_kept ls ps l v ≡ Some (labeled l (leaf v))
 leaf_shown ls ps l v h = ap (λ (b : Bool). elim b as (λ x. Option Tree) [ true ↦ Some (labeled l (leaf v)) | false ↦ kept_closed l (leaf v) (is_neighbour ls ps l) ]) h
@@ -151,7 +144,7 @@ kept_below ls ps l (leaf_at k v rest) h = by (same_bytes k l) refl (kept_below l
         → below_label l (with_kept (leaf_kept ls ps k v) (kept_trees (kept_children ls ps rest))) ≡ shown_at ps l (cond b (a_leaf v) (child_at l rest))
     by true e more =
         let ts : List Tree = kept_trees (kept_children ls ps rest) in
-        subst (λ (x : Bytes). below_label l (with_kept (leaf_kept ls ps x v) ts) ≡ Some (leaf v)) (sym (same_is k l e)) (this_child l (leaf_kept ls ps l v) (leaf v) ts (leaf_shown ls ps l v h))
+        subst (λ (x : Bytes). below_label l (with_kept (leaf_kept ls ps x v) ts) ≡ Some (leaf v)) (sym (same_bytes_is k l e)) (this_child l (leaf_kept ls ps l v) (leaf v) ts (leaf_shown ls ps l v h))
     by false e more = other_child k l (leaf_kept ls ps k v) (kept_trees (kept_children ls ps rest)) (leaf_named ls ps k v) e ∙ more
 kept_below ls ps l (node_at k below rest) h = by (same_bytes k l) refl (kept_below ls ps l rest h)
   where
@@ -159,7 +152,7 @@ kept_below ls ps l (node_at k below rest) h = by (same_bytes k l) refl (kept_bel
         → below_label l (with_kept (node_kept ls ps k below) (kept_trees (kept_children ls ps rest))) ≡ shown_at ps l (cond b (a_node below) (child_at l rest))
     by true e more =
         let ts : List Tree = kept_trees (kept_children ls ps rest) in
-        subst (λ (x : Bytes). below_label l (with_kept (node_kept ls ps x below) ts) ≡ shown_at ps l (a_node below)) (sym (same_is k l e)) (node_shown ls ps l below ts h)
+        subst (λ (x : Bytes). below_label l (with_kept (node_kept ls ps x below) ts) ≡ shown_at ps l (a_node below)) (sym (same_bytes_is k l e)) (node_shown ls ps l below ts h)
     by false e more = other_child k l (node_kept ls ps k below) (kept_trees (kept_children ls ps rest)) (node_named ls ps k below) e ∙ more
 
 pub label_shown : (ls : List Bytes) (ps : List (List Bytes)) (l : Bytes) (c : Children) (ts : List Tree) → Shows (kept_children ls ps c) ts → begins_some l ps ≡ true → below_label l ts ≡ shown_at ps l (child_at l c)

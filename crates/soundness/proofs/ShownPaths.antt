@@ -11,11 +11,12 @@ use Rattle.tree_spec.specs.Lookup.{lookup, below_label, has_gap_at, is_outside, 
 use Rattle.tree_spec.specs.Labelled.{Children, none, leaf_at, node_at, tree_of}
 use Rattle.tree_spec.specs.Witness.{Kept, kept_children, none_kept, begins_some, is_it, first_label, rest_behind, rests, is_some_path, going_on, child_labels, node_below, ends_at_node, goes_on_behind, is_hidden}
 use Rattle.soundness.proofs.Levels.{entries}
-use Rattle.soundness.proofs.Lookups.{absent_from, lookup_some, lookup_none}
+use Rattle.soundness.proofs.Lookups.{absent_from}
 use Rattle.soundness.proofs.StateTrees.{InOrder}
 use Rattle.soundness.proofs.Shown.{Shows, shows_forks, none_is_pruned, open_end}
 use Rattle.soundness.proofs.ShownLabels.{open_node, children_named, At, no_child, a_leaf, a_node, child_at, shown_at, label_shown}
 use Rattle.soundness.proofs.ShownGaps.{HasChild, Asked, asked_near, gap_shown}
+use Rattle.tree_spec.proofs.Labels.{lookup_some, lookup_none}
 
 -- ---- nodes with children
 

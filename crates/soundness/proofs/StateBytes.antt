@@ -15,10 +15,10 @@ use Rattle.state_spec.specs.ManifestText.{manifest_text, file_row_text, chunk_ro
 use Rattle.state_spec.specs.Root.{meta_of, pieces_of, hashed_strings}
 use Rattle.soundness.proofs.Texts.{File}
 use Rattle.state_spec.proofs.SystemSizes.{id_size, label_size}
-use Rattle.soundness.proofs.StatePieces.{name_length}
 use Rattle.soundness.proofs.StateManifests.{named, numbered, sum_at}
 use Rattle.format_spec.proofs.ByteStrings.{by_test, one_byte, join_bytes, named_bytes, short_bytes, flat_bytes, parts_bytes, high_bytes, be32_bytes, sha_bytes, strings_join}
 use Rattle.format_spec.proofs.Lists.{all_join}
+use Rattle.state_spec.proofs.RowSizes.{length-file_name}
 
 -- ---- names
 
@@ -105,8 +105,8 @@ memory_files_bytes v (c ∷ cs) b f =
     let id = id_size c.0 f.0.id in
     let four : length (codes "heap") ≡ 4 = refl in
     let six : length (codes "stable") ≡ 6 = refl in (
-      record { name = name_bytes c.0 (codes "heap") (by_test (codes "heap") refl); short = omega (arith, name_length c.0 (codes "heap"), id, four); bytes = b.0.heap },
-      (record { name = name_bytes c.0 (codes "stable") (by_test (codes "stable") refl); short = omega (arith, name_length c.0 (codes "stable"), id, six); bytes = b.0.stable }, memory_files_bytes v cs b.1 f.1),
+      record { name = name_bytes c.0 (codes "heap") (by_test (codes "heap") refl); short = omega (arith, length-file_name c.0 (codes "heap"), id, four); bytes = b.0.heap },
+      (record { name = name_bytes c.0 (codes "stable") (by_test (codes "stable") refl); short = omega (arith, length-file_name c.0 (codes "stable"), id, six); bytes = b.0.stable }, memory_files_bytes v cs b.1 f.1),
     )
 
 files_bytes : (s : State) → IsState s → AllByRecursion ByteFile (files s)

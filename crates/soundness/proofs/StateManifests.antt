@@ -8,7 +8,7 @@ use Rattle.std.proofs.lemmas.List.{map-append, length-map, take_at, drop_at}
 use Rattle.std.proofs.lemmas.List.Elements.{filter-append}
 use Rattle.std.proofs.lemmas.List.FromFn.{length-range_with_len}
 use Rattle.std.proofs.lemmas.List.Sums.{sum_by-cons}
-use Rattle.format_spec.proofs.Cuts.{Are32}
+use Rattle.format_spec.proofs.Cuts.{Are32, chunks_32}
 use Rattle.format_spec.specs.Bytes.{Bytes, are_bytes, bytes_cmp, ascending, parts, part_count}
 use Rattle.format_spec.specs.Hashes.{ChunkSum, chunk_hash, file_hash}
 use Rattle.format_spec.specs.declared.limits.TheConstants.{CHUNK_SIZE, PAGE_SIZE, MAX_MEMORY_PAGES, MAX_STATE_PAGES, MAX_SYSTEM}
@@ -19,7 +19,7 @@ use Rattle.state_spec.specs.SystemText.{system_text}
 use Rattle.state_spec.specs.Files.{files, memory_files, heap_name, stable_name, system_name}
 use Rattle.state_spec.specs.Manifest.{FileRow, ChunkRow, FileSums, chunk_sums, file_row, chunk_rows, sums_of, manifest_from, manifest_of, sums_in, chunk_size_at, chunk_offset}
 use Rattle.state_spec.specs.ManifestText.{IsManifest, HaveTrueHashes, Slot, slots, slot_of, file_names, all_sizes}
-use Rattle.soundness.proofs.Texts.{File, chunks_in, hashes_in, row_hashes, chunks_32, rows_32}
+use Rattle.soundness.proofs.Texts.{File, chunks_in, hashes_in, row_hashes, rows_32}
 use Rattle.state_spec.proofs.SystemSizes.{system_size}
 
 -- ---- the rows of files

@@ -6,46 +6,30 @@ use Rattle.std.proofs.lemmas.Grind.{div_ceil_times}
 use Rattle.std.proofs.lemmas.List.{length-map}
 use Rattle.std.proofs.lemmas.List.Concat.{flat_map-append}
 use Rattle.std.proofs.lemmas.List.Sums.{sum_by-cons, sum_by_push}
-use Rattle.hex.specs.Hex.{encode_lower, lower_digits}
-use Rattle.hex.proofs.HexLemmas.{length-encode_with}
 use Rattle.sha2.proofs.Facts256.{length-sha256}
-use Rattle.format_spec.proofs.Cuts.{Are32}
-use Rattle.format_spec.specs.Bytes.{Bytes, be32, be64, short_string, parts}
+use Rattle.format_spec.proofs.Cuts.{Are32, chunks_32}
+use Rattle.format_spec.specs.Bytes.{Bytes, be32, parts}
 use Rattle.format_spec.specs.Hashes.{chunk_hash, file_hash, piece_hash}
 use Rattle.format_spec.specs.declared.limits.TheConstants.{CHUNK_SIZE, PIECE_SIZE, MAX_ID}
 use Rattle.std.proofs.lemmas.Bool.{and_parts, leb-true}
 use Rattle.std.proofs.Common.{nat_lt, nat_le}
 use Rattle.state_spec.specs.State.{State, Canister, IsState, FitsCanister, system_of, all_pages}
 use Rattle.state_spec.specs.SystemText.{system_text}
-use Rattle.state_spec.specs.Files.{files, file_name, heap_name, stable_name, system_name}
+use Rattle.state_spec.specs.Files.{files, heap_name, stable_name, system_name}
 use Rattle.state_spec.specs.Manifest.{FileRow, ChunkRow, file_row, chunk_rows, sums_of, manifest_from, manifest_of}
 use Rattle.state_spec.specs.ManifestText.{manifest_text, file_row_text, chunk_row_text, all_sizes}
 use Rattle.state_spec.specs.Root.{IsMeta, meta_of}
 use Rattle.format_spec.proofs.Parts.{parts_length}
-use Rattle.soundness.proofs.Texts.{File, chunks_in, hashes_in, row_hashes, row_length, chunks_32}
+use Rattle.soundness.proofs.Texts.{File, chunks_in, hashes_in, row_hashes}
 use Rattle.state_spec.proofs.SystemSizes.{system_size}
 use Rattle.soundness.proofs.StateManifests.{rows_of, memory_rows, system_row, rows_are, row_count, rows_sum, ids_of, named}
+use Rattle.state_spec.proofs.RowSizes.{length-file_name, length-file_row_text, length-chunk_row_text}
 
 -- ---- rows of files
 
-pub name_length : (id memory : Bytes) → length (file_name id memory) ≡ 10 + 2 * length id + length memory
-name_length id memory =
-    let a = length-append (codes "canister/" ++ encode_lower id ++ codes "/") memory in
-    let b = length-append (codes "canister/" ++ encode_lower id) (codes "/") in
-    let c = length-append (codes "canister/") (encode_lower id) in
-    let d = length-encode_with lower_digits id in
-    let slash : length (codes "/") ≡ 1 = refl in
-    let front : length (codes "canister/") ≡ 9 = refl in
-    omega (arith, a, b, c, d, slash, front)
-
-row_text : (r : FileRow) → length r.hash ≡ 32 → length (file_row_text r) ≡ 41 + length r.name
-row_text r h =
-    let eight : length (be64 r.size) ≡ 8 = refl in
-    omega (arith, h, eight, length-append (short_string r.name ++ be64 r.size) r.hash, length-append (short_string r.name) (be64 r.size))
-
 file_text : (f : File) → length (file_row_text (file_row (sums_of f))) ≡ 41 + length f.0
 unfolding file_hash
-file_text f = row_text (file_row (sums_of f)) (length-sha256 _)
+file_text f = length-file_row_text (file_row (sums_of f)) (length-sha256 _)
 
 rows_text : (v : ℕ) (cs : List (Bytes × Canister)) → AllByRecursion (FitsCanister v) (map named cs) → length (flat_map file_row_text (memory_rows cs)) ≤ 228 * length cs
 rows_text v [] h = omega arith
@@ -61,7 +45,7 @@ rows_text v (c ∷ cs) h =
     let whole : length (flat_map file_row_text (memory_rows (c ∷ cs))) ≡ length a + (length b + length rest) = length-append a (b ++ rest) ∙ ap (λ (n : ℕ). length a + n) (length-append b rest) in
     let la : length a ≡ 41 + length (heap_name c.0) = file_text heap in
     let lb : length b ≡ 41 + length (stable_name c.0) = file_text stable in
-    step (length a) (length b) (length rest) (length (heap_name c.0)) (length (stable_name c.0)) (length c.0) (length cs) (length (flat_map file_row_text (memory_rows (c ∷ cs)))) la lb (name_length c.0 (codes "heap")) (name_length c.0 (codes "stable")) id whole (rows_text v cs h.1)
+    step (length a) (length b) (length rest) (length (heap_name c.0)) (length (stable_name c.0)) (length c.0) (length cs) (length (flat_map file_row_text (memory_rows (c ∷ cs)))) la lb (length-file_name c.0 (codes "heap")) (length-file_name c.0 (codes "stable")) id whole (rows_text v cs h.1)
   where
     step : (a b r h k i n w : ℕ) → a ≡ 41 + h → b ≡ 41 + k → h ≡ 10 + 2 * i + 4 → k ≡ 10 + 2 * i + 6 → i ≤ 29 → w ≡ a + (b + r) → r ≤ 228 * n → w ≤ 228 * suc n
     step a b r h k i n w p q s t u v x = omega arith
@@ -70,7 +54,7 @@ rows_text v (c ∷ cs) h =
 
 chunks_text : (rs : List ChunkRow) → Are32 (hashes_in rs) → length (flat_map chunk_row_text rs) ≡ 48 * length rs
 chunks_text [] h = refl
-chunks_text (r ∷ rs) h = omega (arith, row_length r h.0, chunks_text rs h.1, length-append (chunk_row_text r) (flat_map chunk_row_text rs))
+chunks_text (r ∷ rs) h = omega (arith, length-chunk_row_text r h.0, chunks_text rs h.1, length-append (chunk_row_text r) (flat_map chunk_row_text rs))
 
 chunks_bound : (fs : List File) → length (chunks_in fs) * CHUNK_SIZE ≤ all_sizes (rows_of fs) + length fs * CHUNK_SIZE
 chunks_bound [] = omega arith

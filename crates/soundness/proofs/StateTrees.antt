@@ -1,10 +1,10 @@
 -- The tree of a state is whole and well-formed.
-use Rattle.std.proofs.Common.{◌≡◌, ℕ, zero, suc, ◌≤◌, ◌<◌, true, not, ◌&&◌, List, [], ◌∷◌, ◌++◌, length, take, drop, fold, codes, Option, Some, None, refl, sym, ap, ◌∙◌, subst, arith, is_lt, is_eq, Ordering, Less, Equal, Greater, take-append-drop}
+use Rattle.std.proofs.Common.{◌≡◌, ℕ, zero, suc, ◌≤◌, true, not, ◌&&◌, List, [], ◌∷◌, ◌++◌, length, take, drop, fold, codes, Option, Some, None, refl, sym, ap, ◌∙◌, subst, arith, is_lt, Ordering, Less, Equal, Greater, take-append-drop}
 use Rattle.std.specs.List.{list_all}
 use Rattle.std.specs.FinMap.{is_sorted}
 use Rattle.std.specs.FinMap.Entries.{below_all}
 use Rattle.std.specs.Ordering.{ordering_reverse}
-use Rattle.std.specs.Cmp.Lexicographic.{nat_list_cmp_total, texts_ties, same_text}
+use Rattle.std.specs.Cmp.Lexicographic.{nat_list_cmp_total}
 use Rattle.std.proofs.lemmas.Bool.{and_parts, and_from}
 use Rattle.std.proofs.lemmas.List.{length-take, length-drop}
 use Rattle.format_spec.specs.Bytes.{Bytes, bytes_cmp, ascending, leb}
@@ -15,6 +15,8 @@ use Rattle.tree_spec.specs.Labelled.{Children, none, leaf_at, node_at, put_leaf,
 use Rattle.tree_spec.specs.Witness.{child_labels}
 use Rattle.tree_spec.specs.Whole.{IsWhole}
 use Rattle.soundness.proofs.Levels.{labels_in}
+use Rattle.tree_spec.proofs.Forks.{half_some}
+use Rattle.std.proofs.lemmas.Map.Lookups.{exact_bytes}
 
 -- ---- root_children trees under forks
 
@@ -61,9 +63,6 @@ two_good l r ts us vs p q e = record {
   no_leaf = refl;
 }
 
-half_some : (t u : Tree) (ts : List Tree) → (0 < half (t ∷ u ∷ ts)) × (half (t ∷ u ∷ ts) < length (t ∷ u ∷ ts))
-half_some t u ts = (omega arith, omega arith)
-
 forks_good : (n : ℕ) (xs : List Tree) → length xs ≤ n → AllChild xs → Good (forks_within n xs) xs
 forks_good n [] p h = record { level = refl; whole = tt; inside = refl; no_leaf = refl }
 forks_good n (t ∷ []) p h = one_good t h.0
@@ -92,7 +91,7 @@ InOrder none = Unit {0}
 InOrder (leaf_at l v rest) = AboveAll l rest × InOrder rest
 InOrder (node_at l below rest) = AboveAll l rest × InOrder below × InOrder rest
 
-labels_ascend : (c : Children) → InOrder c → ascending bytes_cmp (child_labels c) ≡ true
+pub labels_ascend : (c : Children) → InOrder c → ascending bytes_cmp (child_labels c) ≡ true
 labels_ascend none h = refl
 labels_ascend (leaf_at l v rest) h = and_from (list_all (λ j. is_lt (bytes_cmp l j)) (child_labels rest)) (ascending bytes_cmp (child_labels rest)) h.0 (labels_ascend rest h.1)
 labels_ascend (node_at l below rest) h = and_from (list_all (λ j. is_lt (bytes_cmp l j)) (child_labels rest)) (ascending bytes_cmp (child_labels rest)) h.0 (labels_ascend rest h.2)
@@ -121,9 +120,6 @@ tree_good c h =
     (g.whole, and_from (ascending bytes_cmp (labels t)) (is_good_inside t) (level_ascends t c g h) g.inside)
 
 -- ---- what is put in keeps the order
-
-equal_same : (a b : Bytes) → bytes_cmp a b ≡ Equal → a ≡ b
-equal_same a b e = same_text a b (sym (texts_ties a b ∙ ap is_eq e))
 
 less_turned : (a b : Bytes) → bytes_cmp a b ≡ Greater → is_lt (bytes_cmp b a) ≡ true
 less_turned a b e = ap is_lt (nat_list_cmp_total.antisymm b a ∙ ap ordering_reverse e)
@@ -158,13 +154,13 @@ leaf_in_order l v (leaf_at k w rest) h = by (bytes_cmp l k) refl (leaf_in_order 
   where
     by : (o : Ordering) → bytes_cmp l k ≡ o → InOrder (put_leaf l v rest) → InOrder (elim o as (λ x. Children) [ Less ↦ leaf_at l v (leaf_at k w rest) | Equal ↦ leaf_at l v rest | Greater ↦ leaf_at k w (put_leaf l v rest) ])
     by Less e r = (above_more l k rest e h.0, h)
-    by Equal e r = (subst (λ (x : Bytes). AboveAll x rest) (sym (equal_same l k e)) h.0, h.1)
+    by Equal e r = (subst (λ (x : Bytes). AboveAll x rest) (sym (exact_bytes l k e)) h.0, h.1)
     by Greater e r = (leaf_above k l v rest (less_turned l k e) h.0, r)
 leaf_in_order l v (node_at k below rest) h = by (bytes_cmp l k) refl (leaf_in_order l v rest h.2)
   where
     by : (o : Ordering) → bytes_cmp l k ≡ o → InOrder (put_leaf l v rest) → InOrder (elim o as (λ x. Children) [ Less ↦ leaf_at l v (node_at k below rest) | Equal ↦ leaf_at l v rest | Greater ↦ node_at k below (put_leaf l v rest) ])
     by Less e r = (above_more l k rest e h.0, h)
-    by Equal e r = (subst (λ (x : Bytes). AboveAll x rest) (sym (equal_same l k e)) h.0, h.2)
+    by Equal e r = (subst (λ (x : Bytes). AboveAll x rest) (sym (exact_bytes l k e)) h.0, h.2)
     by Greater e r = (leaf_above k l v rest (less_turned l k e) h.0, h.1, r)
 
 module _ (f : Children → Children) where
@@ -193,13 +189,13 @@ module _ (f : Children → Children) where
     where
       by : (o : Ordering) → bytes_cmp l k ≡ o → InOrder (put_node l f rest) → InOrder (elim o as (λ x. Children) [ Less ↦ node_at l (f none) (leaf_at k w rest) | Equal ↦ node_at l (f none) rest | Greater ↦ leaf_at k w (put_node l f rest) ])
       by Less e r = (above_more l k rest e h.0, keeps none tt, h)
-      by Equal e r = (subst (λ (x : Bytes). AboveAll x rest) (sym (equal_same l k e)) h.0, keeps none tt, h.1)
+      by Equal e r = (subst (λ (x : Bytes). AboveAll x rest) (sym (exact_bytes l k e)) h.0, keeps none tt, h.1)
       by Greater e r = (node_above k l rest (less_turned l k e) h.0, r)
   node_in_order keeps l (node_at k below rest) h = by (bytes_cmp l k) refl (node_in_order keeps l rest h.2)
     where
       by : (o : Ordering) → bytes_cmp l k ≡ o → InOrder (put_node l f rest) → InOrder (elim o as (λ x. Children) [ Less ↦ node_at l (f none) (node_at k below rest) | Equal ↦ node_at l (f below) rest | Greater ↦ node_at k below (put_node l f rest) ])
       by Less e r = (above_more l k rest e h.0, keeps none tt, h)
-      by Equal e r = (subst (λ (x : Bytes). AboveAll x rest) (sym (equal_same l k e)) h.0, keeps below h.1, h.2)
+      by Equal e r = (subst (λ (x : Bytes). AboveAll x rest) (sym (exact_bytes l k e)) h.0, keeps below h.1, h.2)
       by Greater e r = (node_above k l rest (less_turned l k e) h.0, h.1, r)
 
 path_in_order : (p : List Bytes) (v : Bytes) (c : Children) → InOrder c → InOrder (put_path p v c)

@@ -4,7 +4,7 @@ use Rattle.std.specs.List.{flat_map, AllByRecursion, enumerate_from}
 use Rattle.std.proofs.lemmas.List.{append_cancel_left, map-append, length-map}
 use Rattle.std.proofs.lemmas.List.Concat.{flat_map-append}
 use Rattle.sha2.proofs.Facts256.{length-sha256}
-use Rattle.format_spec.proofs.Cuts.{cut_front, cons_same, Are32, be32_same}
+use Rattle.format_spec.proofs.Cuts.{cut_front, cons_same, Are32, be32_same, chunks_32}
 use Rattle.format_spec.specs.Bytes.{Bytes, parts, be32, be64, short_string}
 use Rattle.format_spec.specs.Hashes.{ChunkSum, chunk_sum_text, chunk_hash, file_hash}
 use Rattle.format_spec.specs.declared.limits.TheConstants.{CHUNK_SIZE}
@@ -12,24 +12,17 @@ use Rattle.state_spec.specs.Manifest.{Manifest, FileRow, ChunkRow, chunk_sums, f
 use Rattle.state_spec.specs.ManifestText.{manifest_text, file_row_text, chunk_row_text}
 use Rattle.format_spec.proofs.Parts.{joined, joined_parts}
 use Rattle.soundness.proofs.Joins.{name_cut}
-
-four : (n : ℕ) → length (be32 n) ≡ 4
-four n = refl
-
-eight : (n : ℕ) → length (be64 n) ≡ 8
-eight n = refl
+use Rattle.format_spec.proofs.Lists.{apart_four, apart_five}
+use Rattle.state_spec.proofs.RowSizes.{length-chunk_row_text}
 
 -- ---- rows of files
 
 one_row : (n m z y h g a b : Bytes) → length z ≡ length y → length h ≡ length g → ((short_string n ++ z) ++ h) ++ a ≡ ((short_string m ++ y) ++ g) ++ b → (z ≡ y) × (a ≡ b)
 one_row n m z y h g a b lz lh e =
-    let left : ((short_string n ++ z) ++ h) ++ a ≡ short_string n ++ (z ++ (h ++ a)) = regroup (short_string n) z h a in
-    let right : ((short_string m ++ y) ++ g) ++ b ≡ short_string m ++ (y ++ (g ++ b)) = regroup (short_string m) y g b in
+    let left : ((short_string n ++ z) ++ h) ++ a ≡ short_string n ++ (z ++ (h ++ a)) = apart_four (short_string n) z h a in
+    let right : ((short_string m ++ y) ++ g) ++ b ≡ short_string m ++ (y ++ (g ++ b)) = apart_four (short_string m) y g b in
     let c = cut_front z (h ++ a) y (g ++ b) lz (name_cut n m (z ++ (h ++ a)) (y ++ (g ++ b)) (sym left ∙ e ∙ right)) in
     (c.0, (cut_front h a g b lh c.1).1)
-  where
-    regroup : (p q r s : Bytes) → ((p ++ q) ++ r) ++ s ≡ p ++ (q ++ (r ++ s))
-    regroup p q r s = simp append_assoc
 
 abbrev HashesOf : List FileRow → Type 0
 HashesOf rs = AllByRecursion (λ r. length r.hash ≡ 32) rs
@@ -49,10 +42,6 @@ rows_cut (r ∷ rs) (s ∷ qs) a b n p q e =
 abbrev pub hashes_in : List ChunkRow → List Bytes
 hashes_in rs = map (λ r. r.sum.hash) rs
 
-pub row_length : (r : ChunkRow) → length r.sum.hash ≡ 32 → length (chunk_row_text r) ≡ 48
-row_length r h =
-    omega (arith, four r.file, four r.sum.size, eight r.sum.offset, length-append (be32 r.file) (chunk_sum_text r.sum), length-append (be32 r.sum.size ++ be64 r.sum.offset) r.sum.hash, length-append (be32 r.sum.size) (be64 r.sum.offset), h)
-
 one_chunk : (r q : ChunkRow) → length r.sum.hash ≡ 32 → length q.sum.hash ≡ 32 → chunk_row_text r ≡ chunk_row_text q → r.sum.hash ≡ q.sum.hash
 one_chunk r q h g e =
     let c = cut_front (be32 r.file) (chunk_sum_text r.sum) (be32 q.file) (chunk_sum_text q.sum) refl e in
@@ -60,19 +49,16 @@ one_chunk r q h g e =
 
 chunks_cut : (rs qs : List ChunkRow) → Are32 (hashes_in rs) → Are32 (hashes_in qs) → flat_map chunk_row_text rs ≡ flat_map chunk_row_text qs → hashes_in rs ≡ hashes_in qs
 chunks_cut [] [] p q e = refl
-chunks_cut [] (s ∷ qs) p q e = absurd (omega (arith, ap length e, length-append (chunk_row_text s) (flat_map chunk_row_text qs), row_length s q.0))
-chunks_cut (r ∷ rs) [] p q e = absurd (omega (arith, ap length e, length-append (chunk_row_text r) (flat_map chunk_row_text rs), row_length r p.0))
+chunks_cut [] (s ∷ qs) p q e = absurd (omega (arith, ap length e, length-append (chunk_row_text s) (flat_map chunk_row_text qs), length-chunk_row_text s q.0))
+chunks_cut (r ∷ rs) [] p q e = absurd (omega (arith, ap length e, length-append (chunk_row_text r) (flat_map chunk_row_text rs), length-chunk_row_text r p.0))
 chunks_cut (r ∷ rs) (s ∷ qs) p q e =
-    let c = cut_front (chunk_row_text r) (flat_map chunk_row_text rs) (chunk_row_text s) (flat_map chunk_row_text qs) (row_length r p.0 ∙ sym (row_length s q.0)) e in
+    let c = cut_front (chunk_row_text r) (flat_map chunk_row_text rs) (chunk_row_text s) (flat_map chunk_row_text qs) (length-chunk_row_text r p.0 ∙ sym (length-chunk_row_text s q.0)) e in
     cons_same r.sum.hash s.sum.hash (hashes_in rs) (hashes_in qs) (one_chunk r s p.0 q.0 c.0) (chunks_cut rs qs p.1 q.1 c.1)
 
 -- ---- the whole text
 
 texts_cut : (h v n m f g k l c d : Bytes) → ((((h ++ v) ++ n) ++ f) ++ k) ++ c ≡ ((((h ++ v) ++ m) ++ g) ++ l) ++ d → n ++ (f ++ (k ++ c)) ≡ m ++ (g ++ (l ++ d))
-texts_cut h v n m f g k l c d e = append_cancel_left (h ++ v) (n ++ (f ++ (k ++ c))) (m ++ (g ++ (l ++ d))) (sym (regroup (h ++ v) n f k c) ∙ e ∙ regroup (h ++ v) m g l d)
-  where
-    regroup : (p q r s t : Bytes) → (((p ++ q) ++ r) ++ s) ++ t ≡ p ++ (q ++ (r ++ (s ++ t)))
-    regroup p q r s t = simp append_assoc
+texts_cut h v n m f g k l c d e = append_cancel_left (h ++ v) (n ++ (f ++ (k ++ c))) (m ++ (g ++ (l ++ d))) (sym (apart_five (h ++ v) n f k c) ∙ e ∙ apart_five (h ++ v) m g l d)
 
 pub record SameSums (m n : Manifest) : Type 0 where
   pub sizes : map (λ r. be64 r.size) m.files ≡ map (λ r. be64 r.size) n.files
@@ -117,11 +103,6 @@ row_hashes n (f ∷ fs) =
     ∙ ap (λ (x : List Bytes). x ++ hashes_in (chunk_rows (suc n) (map sums_of fs))) (numbered n (chunk_sums (sums_of f)) ∙ sum_hashes (length f.1) 0 (map chunk_hash (parts CHUNK_SIZE f.1)))
     ∙ ap (λ (x : List Bytes). map chunk_hash (parts CHUNK_SIZE f.1) ++ x) (row_hashes (suc n) fs)
     ∙ sym (map-append chunk_hash (parts CHUNK_SIZE f.1) (chunks_in fs))
-
-pub chunks_32 : (xs : List Bytes) → Are32 (map chunk_hash xs)
-unfolding chunk_hash
-chunks_32 [] = tt
-chunks_32 (x ∷ xs) = (length-sha256 _, chunks_32 xs)
 
 pub rows_32 : (fs : List File) → HashesOf (map file_row (map sums_of fs))
 unfolding file_hash

@@ -1,5 +1,5 @@
 -- Files open at one list of heights only, up to births and rounds.
-use Rattle.std.proofs.Common.{◌≡◌, ◌≢◌, ◌⊎◌, ℕ, ◌<◌, ◌≤◌, ◌||◌, Bool, true, false, List, [], ◌∷◌, map, zip, Some, nat_eq, refl, sym, ap, ◌∙◌, subst, inl, inr, arith, ne_eqb, eq-eqb, is_lt, Less}
+use Rattle.std.proofs.Common.{◌≡◌, ◌≢◌, ◌⊎◌, ℕ, ◌<◌, ◌≤◌, ◌||◌, Bool, true, false, List, [], ◌∷◌, map, zip, nat_eq, refl, sym, ap, ◌∙◌, subst, inl, inr, arith, ne_eqb, eq-eqb, is_lt, Less}
 use Rattle.std.specs.List.{AllByRecursion, AllZip, list_any}
 use Rattle.std.specs.List.Sorted.{IsStrictlySortedBy}
 use Rattle.std.specs.Ordering.{nat_cmp}
@@ -19,6 +19,7 @@ use Rattle.store_spec.specs.Image.{Published, IsLayerOf, AreLayersOf, memories_f
 use Rattle.page_spec.specs.Layers.{Layer}
 use Rattle.page_spec.proofs.PageFiles.{below_is, page_file_once}
 use Rattle.store_spec.proofs.Marks.{mark_once}
+use Rattle.std.proofs.lemmas.Option.{same_Some}
 
 -- ---- ascending numbers, by which numbers are among them
 
@@ -76,16 +77,13 @@ listing_once kind files xs ys p q = same_numbers xs ys (sorted_from_strictly_inc
 
 -- ---- layers
 
-some_is : (a b : Bytes) → Some a ≡ Some b → a ≡ b
-some_is a b e = cc
-
 same_layer : (l k : Layer) → l.index ≡ k.index → l.pages ≡ k.pages → l ≡ k
 same_layer l k p q = λ i. record { index = p i; pages = q i }
 
 module _ (files : Files) where
   layer_once : (n number : ℕ) (l k : Layer) → IsLayerOf files n number l → IsLayerOf files n number k → l ≡ k
   layer_once n number l k p q =
-      let text : p.text ≡ q.text = some_is p.text q.text (sym p.there ∙ q.there) in
+      let text : p.text ≡ q.text = same_Some p.text q.text (sym p.there ∙ q.there) in
       let same = page_file_once q.text l.index k.index l.pages k.pages (subst (λ (s : Bytes). IsPageFile s l.index l.pages) text p.good) q.good in
       same_layer l k same.0 same.1
 
@@ -109,7 +107,7 @@ module _ (files : Files) where
 
   height_once : (p q : Published) → p.height ≡ q.height → GivesHeight files p → GivesHeight files q → SamePublished p q
   height_once p q same g h =
-      let text : g.text ≡ h.text = some_is g.text h.text (sym g.there ∙ ap (λ (n : ℕ). files (name.Mark n)) same ∙ h.there) in
+      let text : g.text ≡ h.text = same_Some g.text h.text (sym g.there ∙ ap (λ (n : ℕ). files (name.Mark n)) same ∙ h.there) in
       let mark = mark_once p.height q.height h.text g.mark h.mark g.system h.system (subst (λ (s : Bytes). IsMarkText p.height s g.mark g.system) text g.spelled) h.spelled in
       let layers : g.layers ≡ h.layers =
       all_layers_once (zip h.mark.memories (memories_in h.system)) g.layers h.layers

@@ -8,7 +8,7 @@ use Rattle.sha2.proofs.Facts256.{length-sha256}
 use Rattle.format_spec.specs.Bytes.{Bytes, be32, be64, part_count, parts}
 use Rattle.format_spec.specs.Hashes.{chunk_hash, root_hash}
 use Rattle.format_spec.specs.declared.limits.TheConstants.{CHUNK_SIZE}
-use Rattle.format_spec.proofs.Cuts.{Are32}
+use Rattle.format_spec.proofs.Cuts.{Are32, chunks_32}
 use Rattle.format_spec.proofs.Parts.{parts_length}
 use Rattle.state_spec.specs.State.{SystemPart, CanisterPart, all_pages}
 use Rattle.state_spec.specs.Files.{memories_in, heap_name, stable_name}
@@ -41,11 +41,6 @@ memories_length (m ∷ ms) (f ∷ fs) fit = omega (
   length-append (mark_memory_text m) (flat_map mark_memory_text ms),
   sum_by-cons counted (memory_counts m) (map memory_counts ms),
 )
-
-chunks_32 : (xs : List Bytes) → Are32 (map chunk_hash xs)
-unfolding chunk_hash
-chunks_32 [] = tt
-chunks_32 (x ∷ xs) = (length-sha256 _, chunks_32 xs)
 
 root_32 : (version : ℕ) (pieces : List Bytes) → length (root_hash version pieces) ≡ 32
 unfolding root_hash

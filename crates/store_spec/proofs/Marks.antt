@@ -1,5 +1,5 @@
 -- A text is at most one mark, of at most one state's parts.
-use Rattle.std.proofs.Common.{◌≡◌, ℕ, ◌*◌, ◌^◌, ◌<◌, List, [], ◌∷◌, ◌++◌, length, map, codes, Ok, Result, refl, sym, ap, ◌∙◌, subst, arith, length-append, append_assoc}
+use Rattle.std.proofs.Common.{◌≡◌, ℕ, ◌*◌, ◌^◌, ◌<◌, List, [], ◌∷◌, ◌++◌, length, map, codes, refl, sym, ap, ◌∙◌, subst, arith, length-append, append_assoc}
 use Rattle.std.specs.List.{flat_map, AllByRecursion, AllZip}
 use Rattle.sha2.specs.Sha256.{sha256}
 use Rattle.sha2.proofs.Facts256.{length-sha256}
@@ -14,6 +14,8 @@ use Rattle.state_spec.specs.Root.{root_of_meta, meta_of}
 use Rattle.state_spec.proofs.BothWays.{system_again}
 use Rattle.state_spec.proofs.SystemSizes.{system_size}
 use Rattle.store_spec.specs.Mark.{Mark, MarkMemory, hashes_text, mark_memory_text, mark_body, mark_text, FitsMemory, IsMark, IsMarkText}
+use Rattle.format_spec.proofs.Lists.{apart_four, apart_five}
+use Rattle.format_spec.proofs.Readings.{ok_is}
 
 -- ---- a memory
 
@@ -33,11 +35,8 @@ pub sums_length : (hs : List Bytes) → Are32 hs → length (joined hs) ≡ 32 *
 sums_length [] h = refl
 sums_length (x ∷ hs) h = omega (arith, h.0, sums_length hs h.1, length-append x (joined hs))
 
-same_memory : (m n : MarkMemory) → m.layers ≡ n.layers → m.sums ≡ n.sums → m ≡ n
+pub same_memory : (m n : MarkMemory) → m.layers ≡ n.layers → m.sums ≡ n.sums → m ≡ n
 same_memory m n p q = λ i. record { layers = p i; sums = q i }
-
-three : (a b c d : Bytes) → ((a ++ b) ++ c) ++ d ≡ a ++ (b ++ (c ++ d))
-three a b c d = simp append_assoc
 
 memory_cut : (f : Bytes × ℕ) (m n : MarkMemory) (a b : Bytes) → FitsMemory m f → FitsMemory n f → mark_memory_text m ++ a ≡ mark_memory_text n ++ b → (m ≡ n) × (a ≡ b)
 memory_cut f m n a b p q e =
@@ -45,7 +44,7 @@ memory_cut f m n a b p q e =
     let ln : Bytes = flat_map be64 n.layers in
     let sm : Bytes = joined m.sums in
     let sn : Bytes = joined n.sums in
-    let c1 = cut_front (be32 (length m.layers)) (lm ++ (sm ++ a)) (be32 (length n.layers)) (ln ++ (sn ++ b)) refl (sym (three (be32 (length m.layers)) lm sm a) ∙ e ∙ three (be32 (length n.layers)) ln sn b) in
+    let c1 = cut_front (be32 (length m.layers)) (lm ++ (sm ++ a)) (be32 (length n.layers)) (ln ++ (sn ++ b)) refl (sym (apart_four (be32 (length m.layers)) lm sm a) ∙ e ∙ apart_four (be32 (length n.layers)) ln sn b) in
     let count : length m.layers ≡ length n.layers = be32_same (length m.layers) (length n.layers) (omega (arith, p.few)) (omega (arith, q.few)) c1.0 in
     let c2 = cut_front lm (sm ++ a) ln (sn ++ b) (numbers_length m.layers ∙ ap (λ (k : ℕ). 8 * k) count ∙ sym (numbers_length n.layers)) c1.1 in
     let sums : length m.sums ≡ length n.sums = p.each_chunk ∙ sym q.each_chunk in
@@ -65,12 +64,6 @@ memories_cut (f ∷ fs) (m ∷ ms) (n ∷ ns) a b p q e =
     (cons_same m n ms ns c.0 more.0, more.1)
 
 -- ---- the whole
-
-four : (a b c d e : Bytes) → (((a ++ b) ++ c) ++ d) ++ e ≡ a ++ (b ++ (c ++ (d ++ e)))
-four a b c d e = simp append_assoc
-
-ok_is : (a b : SystemPart) → ◌≡◌ {A = Result SystemPart ℕ} (Ok a) (Ok b) → a ≡ b
-ok_is a b e = cc
 
 same_system : (s t : SystemPart) → IsSystem 1 s → IsSystem 1 t → system_text s ≡ system_text t → s ≡ t
 same_system s t p q e = ok_is s t (sym (system_again 1 s p) ∙ ap (read_system 1) e ∙ system_again 1 t q)
@@ -101,7 +94,7 @@ module _ (m n : Mark) (s t : SystemPart) (p : IsMark m s) (q : IsMark n t) (e : 
   parts =
       let am : Bytes = codes "ICMK" ++ be32 m.version ++ be64 m.height ++ be32 (length m.system) in
       let an : Bytes = codes "ICMK" ++ be32 n.version ++ be64 n.height ++ be32 (length n.system) in
-      let all = sym (four am m.system (flat_map mark_memory_text m.memories) (hashes_text m.system_sums) m.root) ∙ bodies ∙ four an n.system (flat_map mark_memory_text n.memories) (hashes_text n.system_sums) n.root in
+      let all = sym (apart_five am m.system (flat_map mark_memory_text m.memories) (hashes_text m.system_sums) m.root) ∙ bodies ∙ apart_five an n.system (flat_map mark_memory_text n.memories) (hashes_text n.system_sums) n.root in
       let c1 = cut_front (codes "ICMK" ++ be32 m.version) (be64 m.height ++ (be32 (length m.system) ++ (m.system ++ rest m))) (codes "ICMK" ++ be32 n.version) (be64 n.height ++ (be32 (length n.system) ++ (n.system ++ rest n))) refl all in
       let c2 = cut_front (be64 m.height) (be32 (length m.system) ++ (m.system ++ rest m)) (be64 n.height) (be32 (length n.system) ++ (n.system ++ rest n)) refl c1.1 in
       let c3 = cut_front (be32 (length m.system)) (m.system ++ rest m) (be32 (length n.system)) (n.system ++ rest n) refl c2.1 in

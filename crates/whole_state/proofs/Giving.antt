@@ -1,7 +1,7 @@
 -- Numbers that are given to page files, and what stays of the others.
-use Rattle.std.proofs.Common.{◌≡◌, ℕ, zero, suc, length, take, map, sum_by, get_or, ◌+◌, ◌≤◌, ◌<◌, ◌==◌, Bool, true, false, ◌&&◌, ◌||◌, not, nat_eq, nat_lt, List, [], ◌∷◌, ◌++◌, is_some, Some, None, inl, inr, refl, sym, ap, subst, ◌∙◌, arith}
+use Rattle.std.proofs.Common.{◌≡◌, ℕ, zero, suc, length, take, map, sum_by, get_or, ◌+◌, ◌≤◌, ◌<◌, ◌==◌, Bool, true, false, ◌&&◌, ◌||◌, not, nat_eq, nat_lt, List, [], ◌∷◌, ◌++◌, is_some, inl, inr, refl, sym, ap, subst, ◌∙◌, arith}
 use Rattle.std.specs.List.{list_any, AllByRecursion, AllZip}
-use Rattle.std.proofs.lemmas.Bool.{cases_Bool, false≢true}
+use Rattle.std.proofs.lemmas.Bool.{cases_Bool, false≢true, or_from}
 use Rattle.std.proofs.lemmas.Bool.Decides.{nat_tests}
 use Rattle.format_spec.specs.Bytes.{Bytes}
 use Rattle.disk_model.specs.declared.name.Kind.TheVariants as kind
@@ -11,7 +11,7 @@ use Rattle.disk_model.specs.Files.{Files, IsListing, same_name}
 use Rattle.disk_model.specs.State.{IsSettled}
 use Rattle.disk_model.specs.View.{DiskView}
 use Rattle.disk_model.specs.Laws.{same_name_eq}
-use Rattle.disk_model.specs.Frame.{TouchesOnly, touches_then, touches_none, touches_wider}
+use Rattle.disk_model.specs.Frame.{TouchesOnly, touches_then, touches_wider}
 use Rattle.disk_model.specs.Spending.{Spends, spends_none, spends_then}
 use Rattle.page_file.specs.Files.{NumberedFile, IsAsKnown, IsFinished}
 use Rattle.height_store.specs.Store.{Store, StoredHeight, IsNextFree, heights_in, is_used}
@@ -21,6 +21,7 @@ use Rattle.std.proofs.lemmas.List.{take_more, map_push}
 use Rattle.std.proofs.lemmas.List.Sums.{sum_by_push}
 use Rattle.store_spec.specs.Whole.{file_bytes}
 use Rattle.whole_state.specs.Written.{GivesNumbers, IsWholeStack, is_given_since, AreFinished, AreUsed}
+use Rattle.format_spec.proofs.Lists.{all_push, all_weaker, none_or_some}
 
 -- ---- tests
 
@@ -102,13 +103,8 @@ touches_next old new number before after free is touches = touches_wider (same_n
     used : is_used new number ≡ true
     used = or_right (list_any (nat_eq number) new.named) (nat_lt number new.next) (subst (λ (n : ℕ). nat_lt number n ≡ true) (sym (ap (λ (s : Store). s.next) is)) (lt_next number))
 
-    or_none : (a b : Bool) → a ≡ false → b ≡ false → (a || b) ≡ false
-    or_none false false h k = refl
-    or_none true b h k = absurd (false≢true (sym h))
-    or_none false true h k = absurd (false≢true (sym k))
-
     unused : is_used old number ≡ false
-    unused = or_none (list_any (nat_eq number) old.named) (nat_lt number old.next) free.free (not_below number old.next free.not_before)
+    unused = or_from (list_any (nat_eq number) old.named) (nat_lt number old.next) free.free (not_below number old.next free.not_before)
 
     within : (q : Name) → is_given_since old new q ≡ false → same_name (name.Page number) q ≡ false
     within q apart = elim (cases_Bool (same_name (name.Page number) q)) [
@@ -118,13 +114,10 @@ touches_next old new number before after free is touches = touches_wider (same_n
 
 -- ---- the store and its files
 
-none_some : (f : Files) (q : Name) (text : Bytes) → f q ≡ Some text → f q ≡ None → ⊥
-none_some f q text there none = absurd cc
-
 pub kept_used : (store : Store) (f : Files) (file : NumberedFile) → HasRoom store f → IsAsKnown f file → is_used store file.number ≡ true
 kept_used store f file room kept = elim (cases_Bool (is_used store file.number)) [
   | inl used ↦ used
-  | inr unused ↦ absurd (none_some f (name.Page file.number) kept.1.text kept.1.there (room file.number unused))
+  | inr unused ↦ absurd (none_or_some kept.1.text (f (name.Page file.number)) (room file.number unused) kept.1.there)
 ]
 
 module _ (most : ℕ) (old new : Store) (f g : Files) (gives : GivesNumbers most old new) (same : (q : Name) → is_given_since old new q ≡ false → g q ≡ f q) (room : HasRoom old f) where
@@ -132,28 +125,12 @@ module _ (most : ℕ) (old new : Store) (f g : Files) (gives : GivesNumbers most
   kept_here file kept =
       (kept.0, record { text = kept.1.text; there = same (name.Page file.number) (apart_from_used old new file.number (kept_used old f file room kept)) ∙ kept.1.there; good = kept.1.good })
 
-  stack_here : (stack : List NumberedFile) → AllByRecursion (IsAsKnown f) stack → AllByRecursion (IsAsKnown g) stack
-  stack_here [] kept = tt
-  stack_here (file ∷ stack) kept = (kept_here file kept.0, stack_here stack kept.1)
-
-  stacks_here : (stacks : List (List NumberedFile)) → AllByRecursion (AllByRecursion (IsAsKnown f)) stacks → AllByRecursion (AllByRecursion (IsAsKnown g)) stacks
-  stacks_here [] kept = tt
-  stacks_here (stack ∷ stacks) kept = (stack_here stack kept.0, stacks_here stacks kept.1)
-
-  marks_here : (hs : List StoredHeight) → AllByRecursion (HasMark f) hs → AllByRecursion (HasMark g) hs
-  marks_here [] marks = tt
-  marks_here (h ∷ hs) marks = (same (name.Mark h.mark.height) refl ∙ marks.0, marks_here hs marks.1)
-
-  heights_here : (hs : List StoredHeight) → AllByRecursion (HasStacks f) hs → AllByRecursion (HasStacks g) hs
-  heights_here [] stacks = tt
-  heights_here (h ∷ hs) stacks = (stacks_here h.stacks stacks.0, heights_here hs stacks.1)
-
   -- what a store needs stays as page files of given numbers are written
   pub readable_kept : IsReadable old.heights f → IsReadable new.heights g
   readable_kept readable = record {
     listed = subst (λ (hs : List StoredHeight). IsListing kind.Mark g (heights_in hs)) (sym gives.heights) (listing_apart f g (heights_in old.heights) (λ n. same (name.Mark n) refl) readable.listed);
-    marks = subst (AllByRecursion (HasMark g)) (sym gives.heights) (marks_here old.heights readable.marks);
-    stacks = subst (AllByRecursion (HasStacks g)) (sym gives.heights) (heights_here old.heights readable.stacks);
+    marks = subst (AllByRecursion (HasMark g)) (sym gives.heights) (all_weaker (HasMark f) (HasMark g) (λ h mark. same (name.Mark h.mark.height) refl ∙ mark) old.heights readable.marks);
+    stacks = subst (AllByRecursion (HasStacks g)) (sym gives.heights) (all_weaker (HasStacks f) (HasStacks g) (λ h stacks. all_weaker (AllByRecursion (IsAsKnown f)) (AllByRecursion (IsAsKnown g)) (all_weaker (IsAsKnown f) (IsAsKnown g) kept_here) h.stacks stacks) old.heights readable.stacks);
   }
 
   pub room_kept : HasRoom new g
@@ -201,10 +178,6 @@ zip_push R [] [] x y all last = (last, tt)
 zip_push R [] (b ∷ ys) x y all last = absurd all
 zip_push R (a ∷ xs) [] x y all last = absurd all
 zip_push R (a ∷ xs) (b ∷ ys) x y all last = (all.0, zip_push R xs ys x y all.1 last)
-
-pub all_push : {A : Type 0} (P : A → Type 0) (xs : List A) (x : A) → AllByRecursion P xs → P x → AllByRecursion P (xs ++ x ∷ [])
-all_push P [] x all last = (last, tt)
-all_push P (a ∷ xs) x all last = (all.0, all_push P xs x all.1 last)
 
 used_stays : (most : ℕ) (old new : Store) (stack : List NumberedFile) → GivesNumbers most old new → AreUsed old stack → AreUsed new stack
 used_stays most old new [] gives used = tt

@@ -1,42 +1,15 @@
 -- A page file with all pages of a memory gives the bytes of the memory.
-use Rattle.std.proofs.Common.{◌≡◌, ℕ, zero, suc, ◌+◌, ◌-◌, ◌*◌, ◌<◌, ◌≤◌, Bool, true, false, ◌==◌, nat_lt, List, [], ◌∷◌, ◌++◌, length, map, drop, replicate, Option, Some, None, refl, sym, ◌∙◌, ap, arith, cond, inl, inr}
-use Rattle.std.specs.List.{range_with_len, flat_map, position, position_or_len}
+use Rattle.std.proofs.Common.{◌≡◌, ℕ, zero, suc, ◌+◌, ◌-◌, ◌*◌, ◌<◌, ◌==◌, List, [], ◌∷◌, ◌++◌, length, map, drop, replicate, Option, Some, refl, sym, ◌∙◌, ap, arith, inl, inr}
+use Rattle.std.specs.List.{range_with_len, flat_map, position}
 use Rattle.std.specs.Option.{option_map}
-use Rattle.std.proofs.lemmas.Bool.{cases_Bool, lt-ltb, le-ltb, eq-eqb, ne_eqb, eqb-true, cases_lt, cases_eq}
-use Rattle.std.proofs.lemmas.List.{drop-drop, take-append-drop, drop_all, nil_from_length}
+use Rattle.std.proofs.lemmas.Bool.{cases_Bool, eqb-true}
+use Rattle.std.proofs.lemmas.List.{drop-drop, take-append-drop, drop_all, nil_from_length, append-nil}
 use Rattle.format_spec.specs.Bytes.{Bytes, page_at}
 use Rattle.page_spec.specs.Layers.{Layer, or_else, page_from, memory_from}
 use Rattle.store_spec.specs.Image.{whole_layer}
 use Rattle.page_file.specs.Files.{NumberedFile}
 use Rattle.whole_state.specs.Written.{whole_index, whole_stack}
-
--- ---- where a page stands
-
-abbrev more : Option ℕ → Option ℕ
-more o = option_map (λ i. 1 + i) o
-
-found : (n m : ℕ) → n < m → cond (nat_lt n m) (Some n) None ≡ Some n
-found n m lt = rw (lt-ltb n m lt) refl
-
-counted : (n m : ℕ) → cond (nat_lt (1 + n) (suc m)) (Some (1 + n)) None ≡ more (cond (nat_lt n m) (Some n) None)
-counted n m = elim (cases_lt n m) [
-  | inl below ↦ rw (lt-ltb n m below, lt-ltb (1 + n) (suc m) (omega arith)) refl
-  | inr past ↦ rw (le-ltb n m past, le-ltb (1 + n) (suc m) (omega arith)) refl
-]
-
-position_here : (p : ℕ → Bool) (x : ℕ) (xs : List ℕ) → p x ≡ true → position p (x ∷ xs) ≡ Some 0
-position_here p x xs h = rw h (found 0 (suc (length xs)) (omega arith))
-
-position_later : (p : ℕ → Bool) (x : ℕ) (xs : List ℕ) → p x ≡ false → position p (x ∷ xs) ≡ more (position p xs)
-position_later p x xs h = rw h (counted (position_or_len p xs) (length xs))
-
-in_range : (page a n : ℕ) → a ≤ page → page < a + n → position (λ x. x == page) (range_with_len a n) ≡ Some (page - a)
-in_range page a zero le lt = absurd (omega arith)
-in_range page a (suc n) le lt = elim (cases_eq a page) [
-  | inl same ↦ let e : 0 ≡ page - a = omega (arith, same) in position_here (λ x. x == page) a (range_with_len (a + 1) n) (eq-eqb a page same) ∙ ap Some e
-  | inr apart ↦ let e : 1 + (page - (a + 1)) ≡ page - a = omega (arith, apart) in
-      position_later (λ x. x == page) a (range_with_len (a + 1) n) (ne_eqb a page apart) ∙ ap more (in_range page (a + 1) n (omega (arith, apart)) (omega arith)) ∙ ap Some e
-]
+use Rattle.page_spec.proofs.Positions.{in_range, is}
 
 -- ---- the bytes
 
@@ -46,7 +19,7 @@ whole_of n bytes = record { index = whole_index n; pages = bytes }
 page_is : (n page : ℕ) (bytes : Bytes) → page < n → page_from (whole_of n bytes ∷ []) page ≡ page_at bytes page
 page_is n page bytes lt =
     let e : page - 0 ≡ page = omega arith in
-    ap (λ (o : Option ℕ). or_else (option_map (page_at bytes) o) (replicate 4096 0)) (in_range page 0 n (omega arith) (omega arith) ∙ ap Some e)
+    ap (λ (o : Option ℕ). or_else (option_map (page_at bytes) o) (replicate 4096 0)) (ap (position (is page)) (sym (append-nil (range_with_len 0 n))) ∙ in_range page 0 n [] (omega arith) (omega arith) ∙ ap Some e)
 
 pages_from : (n : ℕ) (bytes : Bytes) → length bytes ≡ n * 4096 → (k a : ℕ) → a + k ≡ n → flat_map (page_from (whole_of n bytes ∷ [])) (range_with_len a k) ≡ drop (a * 4096) bytes
 pages_from n bytes size zero a all = sym (drop_all (a * 4096) bytes (omega (arith, size, all)))

@@ -16,12 +16,13 @@ use Rattle.state_spec.specs.Root.{root_of, root_of_meta, meta_of}
 use Rattle.store_spec.specs.Mark.{Mark, MarkMemory, FitsMemory, IsMark}
 use Rattle.sys_state.specs.System.{System, part_of}
 use Rattle.manifest.specs.Fits.{FitMemories}
-use Rattle.manifest.proofs.Cutting.{length-parts}
 use Rattle.manifest.proofs.States.{of_state, kept_parts}
 use Rattle.page_file.specs.Files.{NumberedFile}
 use Rattle.height_store.specs.Store.{numbers_of}
 use Rattle.whole_state.specs.Whole.{HasParts}
 use Rattle.whole_state.specs.Written.{IsWholeStack, whole_stack, pages_in}
+use Rattle.std.proofs.lemmas.Slice.Zip.{AllZip-long}
+use Rattle.state_spec.proofs.RowSizes.{length-chunk_hashes}
 
 -- ---- the chunk rows of the last file
 
@@ -48,9 +49,6 @@ hashes_back k size i (h ∷ hashes) = ap (λ (hs : List Bytes). h ∷ hs) (hashe
 behind : (front rows : List ChunkRow) → drop (length (front ++ rows) - length rows) (front ++ rows) ≡ rows
 behind front rows = let count = length-append front rows in drop_at front rows (length (front ++ rows) - length rows) (omega (arith, count))
 
-pub length-chunk_hashes : (bytes : Bytes) → length (chunk_hashes bytes) ≡ part_count CHUNK_SIZE (length bytes)
-length-chunk_hashes bytes = length-map (parts CHUNK_SIZE bytes) chunk_hash ∙ length-parts CHUNK_SIZE bytes
-
 -- they are the last, and their hashes are those of the system text
 pub system_rows : (m : Manifest) (s : SystemPart) (hashes : List (List Bytes)) (size : ℕ) → m ≡ manifest_from 1 (file_sums s hashes) → size ≡ length (system_text s)
     → (part_count CHUNK_SIZE size ≤ length m.chunks) × (map hash_of (drop (length m.chunks - part_count CHUNK_SIZE size) m.chunks) ≡ chunk_hashes (system_text s))
@@ -71,12 +69,6 @@ system_rows m s hashes size is sized =
     )
 
 -- ---- the memories
-
-pub same_length : {A B : Type 0} (R : A → B → Type 0) (xs : List A) (ys : List B) → AllZip R xs ys → length xs ≡ length ys
-same_length R [] [] all = refl
-same_length R [] (y ∷ ys) all = absurd all
-same_length R (x ∷ xs) [] all = absurd all
-same_length R (x ∷ xs) (y ∷ ys) all = ap suc (same_length R xs ys all.1)
 
 length-chunk_hash : (bytes : Bytes) → length (chunk_hash bytes) ≡ 32
 unfolding chunk_hash
@@ -153,4 +145,4 @@ root_is root system memories s fit parts root_made =
     root_made ∙ ap (λ (m : Manifest). root_of_meta (meta_of m)) (of_state s (part_of system) memories fit parts.version parts_are parts.bytes)
 
 pub counted : {V W : Type 0} (sums : List V) (memories : List W) (stacks : List (List NumberedFile)) (hashes : V → List Bytes) (bytes : W → Bytes) → map hashes sums ≡ map chunk_hashes (map bytes memories) → AllZip IsWholeStack (map bytes memories) stacks → length sums ≡ length stacks
-counted sums memories stacks hashes bytes is whole = sym (length-map sums hashes) ∙ ap length is ∙ length-map (map bytes memories) chunk_hashes ∙ same_length IsWholeStack (map bytes memories) stacks whole
+counted sums memories stacks hashes bytes is whole = sym (length-map sums hashes) ∙ ap length is ∙ length-map (map bytes memories) chunk_hashes ∙ sym (AllZip-long IsWholeStack (map bytes memories) stacks whole)

@@ -1,27 +1,20 @@
 -- How many bytes are appended and read.
-use Rattle.std.proofs.Common.{◌≡◌, ℕ, ◌+◌, ◌*◌, ◌<◌, ◌==◌, if◌then◌else◌, true, false, List, [], ◌∷◌, length, map, sum_by, take, get_or, Option, Some, None, inl, inr, refl, sym, ap, subst, ◌∙◌, arith}
+use Rattle.std.proofs.Common.{◌≡◌, ℕ, ◌+◌, ◌==◌, true, false, List, [], ◌∷◌, length, map, sum_by, inl, inr, refl, sym, ap, ◌∙◌, arith, if◌then◌else◌}
 use Rattle.std.specs.List.{AllByRecursion, AllZip}
-use Rattle.std.specs.Option.{option_map, option_map_or}
 use Rattle.std.proofs.lemmas.Bool.{cases_Bool, eqb-true, eq-eqb, ne_eqb, false≢true}
-use Rattle.std.proofs.lemmas.List.Sums.{sum_by-cons, sum_by_more, sum_by-take-le}
 use Rattle.format_spec.specs.Bytes.{Bytes, part_count}
-use Rattle.format_spec.specs.declared.limits.TheConstants.{PAGE_SIZE, CHUNK_SIZE}
+use Rattle.format_spec.specs.declared.limits.TheConstants.{CHUNK_SIZE}
 use Rattle.format_spec.proofs.Cuts.{heads}
 use Rattle.state_spec.specs.State.{SystemPart}
-use Rattle.state_spec.specs.Files.{memories_in}
 use Rattle.state_spec.specs.SystemText.{system_text}
 use Rattle.state_spec.specs.Manifest.{chunk_hashes}
 use Rattle.store_spec.specs.Mark.{Mark, MarkMemory, IsMark, mark_text, mark_length, memory_counts}
 use Rattle.store_spec.proofs.MarkLengths.{mark_long}
-use Rattle.sys_state.specs.System.{System, part_of}
-use Rattle.disk_model.specs.View.{DiskView}
-use Rattle.disk_model.specs.Looking.{OnlyLooks, looks_then, looks_more}
 use Rattle.page_file.specs.Files.{NumberedFile}
-use Rattle.height_store.specs.Store.{StoredHeight, height_at, numbers_of}
+use Rattle.height_store.specs.Store.{numbers_of}
 use Rattle.store_spec.specs.Whole.{file_bytes, whole_counts, whole_length}
-use Rattle.height_store.specs.Known.{bytes_at, pages_holding}
 use Rattle.whole_state.specs.Written.{IsMemoryBytes, IsWholeStack, whole_stack, pages_in}
-use Rattle.whole_state.proofs.Marked.{length-chunk_hashes}
+use Rattle.state_spec.proofs.RowSizes.{length-chunk_hashes}
 
 -- ---- a mark of memories that are written whole
 

@@ -6,8 +6,7 @@ use Rattle.std.specs.Cmp.Lexicographic.{nat_list_cmp_total}
 use Rattle.std.proofs.lemmas.Bool.{and_parts, and_from}
 use Rattle.std.proofs.lemmas.Cmp.{tied_itself}
 use Rattle.format_spec.specs.Bytes.{Bytes, bytes_cmp, bytes_below, same_bytes, is_after, ascending}
-use Rattle.format_spec.proofs.Ascending.{below_trans, less_is}
-use Rattle.format_spec.proofs.Follow.{above_too}
+use Rattle.format_spec.proofs.Follow.{above_too, bytes_below-trans}
 use Rattle.format_spec.proofs.Readings.{same_bytes_is, bytes_same}
 use Rattle.tree_spec.specs.Witness.{is_it, begins_some, is_next_to, is_neighbour}
 use Rattle.witness.specs.Parts.{is_under, begins_between}
@@ -19,23 +18,17 @@ pub data Side (k l : Bytes) : Type 0 where
   equal : k ≡ l → Side k l
   higher : bytes_below k l ≡ false → bytes_below l k ≡ true → same_bytes k l ≡ false → same_bytes l k ≡ false → Side k l
 
-turned : (k l : Bytes) → bytes_cmp l k ≡ ordering_reverse (bytes_cmp k l)
-turned k l = nat_list_cmp_total.antisymm l k
-
 pub side_of : (k l : Bytes) → Side k l
 side_of k l = by (bytes_cmp k l) refl
   where
     by : (o : Ordering) → bytes_cmp k l ≡ o → Side k l
     by Less e =
-        let t = turned k l ∙ ap ordering_reverse e in
+        let t = nat_list_cmp_total.antisymm l k ∙ ap ordering_reverse e in
         lower (ap is_lt e) (ap is_lt t) (ap is_eq e) (ap is_eq t)
     by Equal e = equal (same_bytes_is k l (ap is_eq e))
     by Greater e =
-        let t = turned k l ∙ ap ordering_reverse e in
+        let t = nat_list_cmp_total.antisymm l k ∙ ap ordering_reverse e in
         higher (ap is_lt e) (ap is_lt t) (ap is_eq e) (ap is_eq t)
-
-pub trans : (k j l : Bytes) → bytes_below k j ≡ true → bytes_below j l ≡ true → bytes_below k l ≡ true
-trans k j l p q = below_trans bytes_cmp nat_list_cmp_total k j l (less_is (bytes_cmp k j) p) q
 
 not_itself : (l : Bytes) → bytes_below l l ≡ false
 not_itself l = ap is_lt (tied_itself nat_list_cmp_total l)
@@ -45,17 +38,17 @@ pub below_says : (k l : Bytes) → bytes_below k l ≡ true → (bytes_below l k
 below_says k l h = by (bytes_cmp k l) refl h
   where
     by : (o : Ordering) → bytes_cmp k l ≡ o → is_lt o ≡ true → (bytes_below l k ≡ false) × (same_bytes k l ≡ false) × (same_bytes l k ≡ false)
-    by Less e h = let t = turned k l ∙ ap ordering_reverse e in (ap is_lt t, ap is_eq e, ap is_eq t)
+    by Less e h = let t = nat_list_cmp_total.antisymm l k ∙ ap ordering_reverse e in (ap is_lt t, ap is_eq e, ap is_eq t)
     by Equal e h = absurd cc
     by Greater e h = absurd cc
 
 pub under_too : (a : Option Bytes) (m l : Bytes) → bytes_below m l ≡ true → is_under a l ≡ true → is_under a m ≡ true
 under_too None m l lt h = refl
-under_too (Some k) m l lt h = trans m l k lt h
+under_too (Some k) m l lt h = bytes_below-trans m l k lt h
 
 pub after_too : (b : Option Bytes) (l m : Bytes) → is_after bytes_cmp b l ≡ true → bytes_below l m ≡ true → is_after bytes_cmp b m ≡ true
 after_too None l m h lt = refl
-after_too (Some k) l m h lt = trans k l m h lt
+after_too (Some k) l m h lt = bytes_below-trans k l m h lt
 
 -- ---- labels all above another one
 
@@ -188,7 +181,7 @@ not_lower : (x d m : Bytes) → bytes_below x m ≡ false → bytes_below x d �
 not_lower x d m h lt = by (bytes_below d m) refl
   where
     by : (b : Bool) → bytes_below d m ≡ b → bytes_below d m ≡ false
-    by true e = absurd (let t = trans x d m lt e in cc)
+    by true e = absurd (let t = bytes_below-trans x d m lt e in cc)
     by false e = e
 
 -- what isn't above the first of some isn't above the last
@@ -220,7 +213,7 @@ hides : (l k m : Bytes) (rest : List Bytes) → bytes_below k l ≡ true → All
 hides l k m rest below above (lower lt nlt a b) h =
     let all : AllAbove m (k ∷ rest) = and_from (is_lt (bytes_cmp m k)) (list_all (λ j. is_lt (bytes_cmp m j)) rest) lt (above_too m k rest lt above) in
     let low : filter (λ j. bytes_below j m) (k ∷ rest) ≡ [] = none_lower m (k ∷ rest) all in
-    ap (λ (c : Bool). c || is_next_to (k ∷ rest) l m) (below_says m l (trans m k l lt below)).1
+    ap (λ (c : Bool). c || is_next_to (k ∷ rest) l m) (below_says m l (bytes_below-trans m k l lt below)).1
     ∙ ap (λ (f : List Bytes). not (list_any (same_bytes m) (k ∷ rest)) && (is_it l (last_or None f) || is_it l (find (λ j. bytes_below m j) (k ∷ rest)))) low
     ∙ ap (λ (c : Bool). not (list_any (same_bytes m) (k ∷ rest)) && is_it l (cond c (Some k) (find (λ j. bytes_below m j) rest))) lt
     ∙ ap (λ (c : Bool). not (list_any (same_bytes m) (k ∷ rest)) && c) (below_says k l below).1

@@ -59,6 +59,3 @@ some_paths now (x ∷ xs) h = refl
 -- what was made, where the trees are the same
 pub ok_then : {X E : Type 0} (view : X → Tree) (a b : Tree) (r : Result X E) → a ≡ b → IfOk r (λ t. view t ≡ a) → IfOk r (λ t. view t ≡ b)
 ok_then view a b r e h = subst (λ (t : Tree). IfOk r (λ x. view x ≡ t)) e h
-
-pub both_sides : (a b c d : Tree) → a ≡ c → b ≡ d → fork a b ≡ fork c d
-both_sides a b c d p q = cc

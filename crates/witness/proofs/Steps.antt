@@ -1,17 +1,9 @@
 -- One label of a path.
-use Rattle.std.proofs.Common.{◌≡◌, ℕ, ◌+◌, ◌<◌, ◌≤◌, List, ◌∷◌, drop, length, get_or, Option, Some, None, sym, ap, ◌∙◌}
+use Rattle.std.proofs.Common.{◌≡◌, ℕ, ◌+◌, ◌<◌, ◌≤◌, List, ◌∷◌, drop, length, get_or, sym, ap, ◌∙◌}
 use Rattle.std.proofs.lemmas.List.{at_drop_more, at_drop_all}
 use Rattle.format_spec.specs.Bytes.{Bytes}
-use Rattle.tree_spec.specs.Tree.{Tree, flatten}
-use Rattle.tree_spec.specs.Lookup.{Looked, at_end, below_label, missing, lookup}
-
-pub lookup_below : (l : Bytes) (path : List Bytes) (t below : Tree) → below_label l (flatten t) ≡ Some below → lookup (l ∷ path) t ≡ lookup path below
-unfolding lookup
-lookup_below l path t below e = ap (λ (o : Option Tree). elim o as (λ x. Looked) [ Some b ↦ lookup path b | None ↦ missing l (flatten t) ]) e
-
-pub lookup_missing : (l : Bytes) (path : List Bytes) (t : Tree) → below_label l (flatten t) ≡ None → lookup (l ∷ path) t ≡ missing l (flatten t)
-unfolding lookup
-lookup_missing l path t e = ap (λ (o : Option Tree). elim o as (λ x. Looked) [ Some b ↦ lookup path b | None ↦ missing l (flatten t) ]) e
+use Rattle.tree_spec.specs.Tree.{Tree}
+use Rattle.tree_spec.specs.Lookup.{at_end, lookup}
 
 -- the next label of a path
 pub at_label : (items path : List Bytes) (i : ℕ) (item label : Bytes) (t : Tree) → items ≡ path → i < length items → item ≡ get_or items i item → label ≡ item

@@ -9,11 +9,13 @@ use Rattle.format_spec.specs.Bytes.{Bytes, bytes_cmp, bytes_below, same_bytes, i
 use Rattle.format_spec.proofs.Readings.{same_bytes_is}
 use Rattle.tree_spec.specs.Tree.{Tree, empty, fork, labeled, leaf, pruned, flatten, label_of, labels, half, forks}
 use Rattle.tree_spec.specs.Witness.{Kept, rest_behind, rests, going_on, begins_some, none_kept, all_pruned, under_forks}
-use Rattle.tree_spec.proofs.Forks.{forks_halves}
+use Rattle.tree_spec.proofs.Forks.{forks_halves, half_some, both_forks}
 use Rattle.tree_spec.proofs.KeptForks.{kept_halves, choose_kept, choose_pruned}
 use Rattle.witness.specs.Parts.{is_under, begins_between, first_of, first_in, last_in, reached_bytes, over_leaf, part}
-use Rattle.witness.proofs.Neighbours.{Side, lower, equal, higher, side_of, trans, under_too, after_too, head_of}
+use Rattle.witness.proofs.Neighbours.{Side, lower, equal, higher, side_of, under_too, after_too, head_of}
 use Rattle.witness.proofs.Parts.{part_none, part_fork, part_labeled, is_some_list}
+use Rattle.format_spec.proofs.Follow.{bytes_below-trans}
+use Rattle.std.proofs.Math.Bool.{or-false}
 
 -- ---- paths that begin between two labels
 
@@ -91,7 +93,7 @@ any_paths b a last next lt after under (p ∷ ps) =
     beyond : (m : Bytes) → Side m next → bytes_below m next ≡ false → bytes_below last m ≡ true
     beyond m (lower l n s t) h = absurd (let e : true ≡ false = sym l ∙ h in cc)
     beyond m (equal e) h = ap (bytes_below last) e ∙ lt
-    beyond m (higher n l s t) h = trans last next m lt l
+    beyond m (higher n l s t) h = bytes_below-trans last next m lt l
 
     each : (q : List Bytes) → begins_between b a q ≡ begins_between b (Some next) q || begins_between (Some last) a q
     each [] = refl
@@ -215,12 +217,6 @@ last_at b a ps (x ∷ xs) some h = last_after b a ps x xs h
 abbrev pub whole_of : List Kept → Tree
 whole_of xs = forks (map (λ c. c.whole) xs)
 
-half_some : (c d : Kept) (cs : List Kept) → (0 < half (c ∷ d ∷ cs)) × (half (c ∷ d ∷ cs) < length (c ∷ d ∷ cs))
-half_some c d cs = (omega arith, omega arith)
-
-both_forks : (a b c d : Tree) → a ≡ c → b ≡ d → fork a b ≡ fork c d
-both_forks a b c d p q = cc
-
 whole_halves : (c d : Kept) (cs : List Kept) → let xs = c ∷ d ∷ cs in whole_of xs ≡ fork (whole_of (take (half xs) xs)) (whole_of (drop (half xs) xs))
 whole_halves c d cs =
     let xs : List Kept = c ∷ d ∷ cs in
@@ -338,13 +334,9 @@ walk_one : (b a : Option Bytes) (ps : List (List Bytes)) (x : Kept) → IsChild 
 unfolding forks
 walk_one b a ps x c = record {
   shown = by (filter (begins_between b a) ps) refl;
-  kept = or_none (is_some x.kept) ∙ ap is_some c.kept ∙ some_of (filter (begins_between b a) ps) ∙ some_filter (begins_between b a) ps;
+  kept = or-false (is_some x.kept) ∙ ap is_some c.kept ∙ some_of (filter (begins_between b a) ps) ∙ some_filter (begins_between b a) ps;
 }
   where
-    or_none : (b : Bool) → b || false ≡ b
-    or_none true = refl
-    or_none false = refl
-
     some_of : (qs : List (List Bytes)) → is_some (kept_of ps c.label c.below qs) ≡ is_some_list qs
     some_of [] = refl
     some_of (q ∷ qs) = refl

@@ -1,7 +1,7 @@
 -- The part of a state's tree that the walk makes is the witness of the paths.
-use Rattle.std.proofs.Common.{◌≡◌, ℕ, ◌+◌, ◌<◌, ◌≤◌, take, get_or, Bool, true, false, cond, ◌||◌, not, List, [], ◌∷◌, ◌++◌, length, map, filter, Option, Some, None, Result, Ok, Err, IfOk, refl, sym, ap, ◌∙◌, subst, append_assoc, arith, is_lt}
-use Rattle.std.specs.List.{list_all, cons_option, last_or}
-use Rattle.std.proofs.lemmas.Bool.{and_from}
+use Rattle.std.proofs.Common.{◌≡◌, ℕ, ◌+◌, ◌<◌, ◌≤◌, take, get_or, Bool, true, false, cond, ◌||◌, List, [], ◌∷◌, ◌++◌, length, map, filter, Option, Some, None, refl, sym, ap, ◌∙◌, subst, append_assoc, arith}
+use Rattle.std.specs.List.{cons_option, last_or}
+use Rattle.std.proofs.lemmas.Bool.{not-true}
 use Rattle.format_spec.specs.Bytes.{Bytes, bytes_cmp, same_bytes, is_after, ascending}
 use Rattle.format_spec.proofs.Follow.{Follow, follow_parts, ascend_all}
 use Rattle.state_spec.specs.State.{SystemPart, IsSystem, is_path}
@@ -13,7 +13,7 @@ use Rattle.tree_spec.specs.Cbor.{IsSpellable}
 use Rattle.soundness.proofs.Witnesses.{witness_hash}
 use Rattle.soundness.proofs.Spelled.{witness_spellable}
 use Rattle.soundness.proofs.ShownStates.{path_shown, path_hidden}
-use Rattle.soundness.proofs.StateTrees.{InOrder, all_children, forks_are, state_in_order}
+use Rattle.soundness.proofs.StateTrees.{InOrder, all_children, forks_are, state_in_order, labels_ascend}
 use Rattle.std.proofs.lemmas.List.{map-append, take_more, take_all}
 use Rattle.witness.specs.Shows.{IsWitness}
 use Rattle.witness.specs.Parts.{is_under, begins_between, reached_bytes, over_leaf, part}
@@ -143,11 +143,6 @@ first_kept labels ps (node_at l below rest) = refl
 
 -- ---- all children
 
-labels_ascend : (c : Children) → InOrder c → ascending bytes_cmp (child_labels c) ≡ true
-labels_ascend none h = refl
-labels_ascend (leaf_at l v rest) h = and_from (list_all (λ j. is_lt (bytes_cmp l j)) (child_labels rest)) (ascending bytes_cmp (child_labels rest)) h.0 (labels_ascend rest h.1)
-labels_ascend (node_at l below rest) h = and_from (list_all (λ j. is_lt (bytes_cmp l j)) (child_labels rest)) (ascending bytes_cmp (child_labels rest)) h.0 (labels_ascend rest h.2)
-
 wholes : (labels : List Bytes) (ps : List (List Bytes)) (c : Children) → map (λ k. k.whole) (kept_children labels ps c) ≡ child_trees c
 unfolding tree_of
 wholes labels ps none = refl
@@ -166,16 +161,9 @@ from_level (node_at l below rest) ps some h =
     let w = walk (length xs) None None ps xs (omega arith) (omega arith) h in
     ap (λ ts. part (forks ts) ps) (sym (wholes (child_labels (node_at l below rest)) ps (node_at l below rest))) ∙ ap (part (whole_of xs)) (sym (all_between ps some)) ∙ w.shown
 
-not_leaf : (t : Tree) → not (is_leaf t) ≡ true → is_leaf t ≡ false
-not_leaf t h = by (is_leaf t) h
-  where
-    by : (b : Bool) → not b ≡ true → b ≡ false
-    by true h = absurd cc
-    by false h = refl
-
 no_leaf : (c : Children) → InOrder c → is_leaf (tree_of c) ≡ false
 unfolding tree_of
-no_leaf c h = not_leaf (forks (child_trees c)) (forks_are (child_trees c) (all_children c h)).no_leaf
+no_leaf c h = not-true (is_leaf (forks (child_trees c))) (forks_are (child_trees c) (all_children c h)).no_leaf
 
 level_of : (c : Children) → InOrder c → (ps : List (List Bytes)) (labels done : List Bytes) → labels ≡ done ++ child_labels c → ascending bytes_cmp labels ≡ true → (b : Option Bytes) → b ≡ last_or None done
     → Level b None ps (kept_children labels ps c)
@@ -242,7 +230,3 @@ gathered_more now old new x ps i p h more is lt there good =
 
 pub gathered_all : (rests ps : List (List Bytes)) (i : ℕ) → length ps ≤ i → Gathered rests (take i ps) → (rests ≡ ps) × AllSome ps
 gathered_all rests ps i le h = let all : take i ps ≡ ps = take_all i ps le in (h.same ∙ all, subst AllSome all h.some)
-
-pub ok_map : {X E : Type 0} (P Q : X → Type 0) (r : Result X E) → ((x : X) → P x → Q x) → IfOk r P → IfOk r Q
-ok_map P Q (Ok x) f h = f x h
-ok_map P Q (Err e) f h = tt

@@ -4,8 +4,9 @@ use Rattle.std.specs.Io.KnownBytes.{Appends}
 use Rattle.std.proofs.lemmas.Result.{on_ok_weaker, on_err_weaker}
 use Rattle.io_edge.specs.Faults.{IsProperPrefix}
 use Rattle.io_edge.proofs.Known.{given_twice}
-use Rattle.state_cli.proofs.Prefixes.{prefix_of_two, prefix_in_middle, prefix_behind, on_err}
+use Rattle.state_cli.proofs.Prefixes.{prefix_of_two, prefix_in_middle, prefix_behind}
 use Rattle.state_cli.proofs.program.write_numbered.Goals as goal
+use Rattle.format_spec.proofs.Lists.{on_err}
 
 pub returns-in_err-write_all-clause-prefix : goal.returns-in_err-write_all-clause-prefix
 returns-in_err-write_all-clause-prefix g c =

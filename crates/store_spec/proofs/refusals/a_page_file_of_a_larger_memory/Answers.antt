@@ -1,4 +1,4 @@
-use Rattle.std.proofs.Common.{◌≡◌, ◌++◌, Some, refl, ap, sym, ◌∙◌, subst, lit<, lit≤, arith}
+use Rattle.std.proofs.Common.{◌≡◌, ◌++◌, refl, ap, sym, ◌∙◌, subst, lit<, lit≤, arith}
 use Rattle.format_spec.specs.Bytes.{Bytes}
 use Rattle.store_spec.specs.Computing.{stores_compute}
 use Rattle.page_spec.specs.Example.{first_page}
@@ -6,6 +6,7 @@ use Rattle.page_spec.specs.PageFile.{PageIndex, index_text, IsPageFile}
 use Rattle.store_spec.specs.Example.{larger_index}
 use Rattle.page_spec.proofs.PageFiles.{page_file_once}
 use Rattle.store_spec.proofs.refusals.a_page_file_of_a_larger_memory.Goals as goal
+use Rattle.std.proofs.lemmas.Option.{same_Some}
 
 larger : IsPageFile (index_text larger_index ++ first_page) larger_index first_page
 unfolding stores_compute
@@ -15,12 +16,9 @@ larger = record {
   whole = refl;
 }
 
-some_is : (a b : Bytes) → Some a ≡ Some b → a ≡ b
-some_is a b e = cc
-
 pub returns : goal.returns
 returns c = λ files l there h.
-    let text : h.text ≡ index_text larger_index ++ first_page = some_is h.text (index_text larger_index ++ first_page) (sym h.there ∙ there) in
+    let text : h.text ≡ index_text larger_index ++ first_page = same_Some h.text (index_text larger_index ++ first_page) (sym h.there ∙ there) in
     let same = (page_file_once (index_text larger_index ++ first_page) l.index larger_index l.pages first_page (subst (λ (s : Bytes). IsPageFile s l.index l.pages) text h.good) larger).0 in
     let two = ap (λ (x : PageIndex). x.memory) same in
     absurd (omega (arith, h.fits, two))

@@ -3,8 +3,9 @@ use Rattle.format_spec.specs.Bytes.{Bytes}
 use Rattle.tree_spec.specs.Tree.{flatten}
 use Rattle.tree_spec.specs.Lookup.{missing}
 use Rattle.hash_tree.specs.View.{tree_view}
-use Rattle.witness.proofs.Steps.{lookup_below, lookup_missing, at_label, at_path_end}
+use Rattle.witness.proofs.Steps.{at_label, at_path_end}
 use Rattle.witness.proofs.looking.lookup.Goals as goal
+use Rattle.tree_spec.proofs.Labels.{lookup_some, lookup_none}
 
 pub returns-in-None : goal.returns-in-None
 returns-in-None c =
@@ -15,7 +16,7 @@ returns-in-None c =
     let label = c.bytes.result.now in
     c.missing.ensures
     ∙ ap (λ (l : Bytes). missing l (flatten t)) (c.bytes-in-None.ensures.value ∙ sym c.bytes.ensures.value)
-    ∙ sym (lookup_missing label (drop (i + 1) path) t (sym c.in-None.ensures))
+    ∙ sym (lookup_none label (drop (i + 1) path) t (sym c.in-None.ensures))
     ∙ sym (at_label items path i c.label-item.result label t c.labels-label-items.ensures.value (omega (arith, c.loop-label-test.true)) c.label-item.is c.bytes.ensures.value)
     ∙ c.loop-label.invariant
 
@@ -26,7 +27,7 @@ loop-label-preserved c =
     let i = c.loop-label.label-index in
     let t = tree_view c.loop-label.at.now in
     let label = c.bytes.result.now in
-    sym (lookup_below label (drop (i + 1) path) t (tree_view c.in-Some.below.now) (sym c.in-Some.ensures))
+    sym (lookup_some label (drop (i + 1) path) t (tree_view c.in-Some.below.now) (sym c.in-Some.ensures))
     ∙ sym (at_label items path i c.label-item.result label t c.labels-label-items.ensures.value (omega (arith, c.loop-label-test.true)) c.label-item.is c.bytes.ensures.value)
     ∙ c.loop-label.invariant
 

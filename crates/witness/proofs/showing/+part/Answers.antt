@@ -5,8 +5,9 @@ use Rattle.tree_spec.specs.Witness.{rests, going_on}
 use Rattle.hash_tree.specs.Hashes.{AreHashesOf}
 use Rattle.hash_tree.specs.View.{tree_view}
 use Rattle.witness.specs.Parts.{part, begins_between, first_in, last_in, reached_bytes, over_leaf}
-use Rattle.witness.proofs.Parts.{is_bare, part_bare, part_nothing, part_fork, part_labeled, ok_then, both_sides, some_paths}
+use Rattle.witness.proofs.Parts.{is_bare, part_bare, part_nothing, part_fork, part_labeled, ok_then, some_paths}
 use Rattle.witness.proofs.showing.+part.Goals as goal
+use Rattle.tree_spec.proofs.Forks.{both_forks}
 
 pub returns-then-is_empty : goal.returns-then-is_empty
 returns-then-is_empty t c =
@@ -73,7 +74,7 @@ returns-in_ok-right-in-Fork t c =
     c.in_ok-right-in-Fork.ensures ∙ ap (λ t. part (tree_view t) (map (λ p. p.now) c.deref-in-Fork-5.result.now)) c.deref-in-Fork-4.ensures ∙ ap (part r) behind in
     let whole : tree_view c.args.tree.now ≡ fork l r = ap tree_view c.in-Fork.is in
     ok_then tree_view _ _ c.fork.result
-    (both_sides _ _ _ _ left right
+    (both_forks _ _ _ _ left right
     ∙ sym (part_fork l r ps (some_paths (λ p. p.now) c.args.rests.now c.if-is_empty.ensures))
     ∙ ap (λ t. part t ps) (sym whole))
     c.fork.ensures
