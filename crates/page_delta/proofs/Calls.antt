@@ -65,7 +65,8 @@ module _ (pool mid now : Pool) (slot n : ℕ) (bytes : List ℕ) (room : mid ≡
     ];
   }
 
-  pub sets : (n0 n1 : List (Option Node)) (ids0 ids1 : List (Option Root)) (end : Pool) (id page stamp : ℕ) (entry : Entry) → entry.slot ≡ slot → entry.stamp ≡ stamp → IsHeld n0 pool (λ s. 0) → IsHeld n1 end (λ s. 0) → PutsAt n0 n1 ids0 ids1 id page entry → KeepsBytes now end → Sets pool end (seen n0 ids0) (seen n1 ids1) id page bytes stamp
+  pub sets : (n0 n1 : List (Option Node)) (ids0 ids1 : List (Option Root)) (end : Pool) (id page stamp : ℕ) (entry : Entry) → entry.slot ≡ slot → entry.stamp ≡ stamp
+      → IsHeld n0 pool (λ s. 0) → IsHeld n1 end (λ s. 0) → PutsAt n0 n1 ids0 ids1 id page entry → KeepsBytes now end → Sets pool end (seen n0 ids0) (seen n1 ids1) id page bytes stamp
   sets n0 n1 ids0 ids1 end id page stamp entry is is_stamp h0 h1 p keeps =
       let kept : (k : ℕ) → 0 < count_at pool k → 0 < count_at end k → bytes_at end k ≡ bytes_at pool k = λ k some still. (keeps k still).1 ∙ old-bytes k some in
       let at : find page (pages_in (map_below n1 (root_at ids1 id))) ≡ Some entry = p.found page ∙ rw (eq-eqb page page refl) refl in
@@ -92,7 +93,8 @@ module _ (pool mid now : Pool) (slot n : ℕ) (bytes : List ℕ) (room : mid ≡
             omega arith) at;
       }
 
-pub drops : (n0 n1 : List (Option Node)) (ids0 ids1 : List (Option Root)) (pool end : Pool) (id : ℕ) → IsHeld n1 end (λ s. 0) → root_at ids1 id ≡ None → ((other : ℕ) → other ≢ id → map_below n1 (root_at ids1 other) ≡ map_below n0 (root_at ids0 other)) → KeepsBytes pool end → Drops pool end (seen n0 ids0) (seen n1 ids1) id
+pub drops : (n0 n1 : List (Option Node)) (ids0 ids1 : List (Option Root)) (pool end : Pool) (id : ℕ) → IsHeld n1 end (λ s. 0) → root_at ids1 id ≡ None
+    → ((other : ℕ) → other ≢ id → map_below n1 (root_at ids1 other) ≡ map_below n0 (root_at ids0 other)) → KeepsBytes pool end → Drops pool end (seen n0 ids0) (seen n1 ids1) id
 drops n0 n1 ids0 ids1 pool end id h1 gone others keeps = record {
   dead = map-seen n1 ids1 id ∙ ap (map_below n1) gone;
   others = λ other ne. map-seen n1 ids1 other ∙ others other ne ∙ sym (map-seen n0 ids0 other);

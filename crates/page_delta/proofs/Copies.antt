@@ -12,6 +12,7 @@ use Rattle.page_delta.proofs.Sharing.{some-none, one, one-same, shared-recounted
 use Rattle.page_delta.proofs.Looks.{child-live, look-option, looks-recounted, looks-insert}
 use Rattle.page_delta.proofs.Counting.{once-le, count-recounted}
 use Rattle.page_delta.proofs.Pools.{uses-le, live-of-count}
+use Rattle.page_delta.proofs.Changes.{NodeList, Raises, Puts}
 
 pub names-width : (m : ℕ) (o : Option Node) → ((node : Node) → o ≡ Some node → width node ≡ 32) → names m o ≤ present 32 o
 names-width m None wide = omega arith
@@ -64,16 +65,19 @@ tall-recount (Branch a k js) c b l ks e =
 tall-recount (Leaf a es) c b l ks e = absurd (let no : ⊥ = cc in no)
 
 -- what the places of a node name is counted once more, and then the copy is put at a fresh key
-module _ (xs mid ys : List (Option Node)) (counts counts' hands loose : ℕ → ℕ) (k fresh : ℕ) (node : Node) (s : IsShared xs counts hands loose) (is : node_at xs k ≡ Some node) (each : (m : ℕ) → node_at mid m ≡ node_with_count (node_at xs m) (count_in (node_at xs m) + names m (Some (recount node 1)))) (slots : (slot : ℕ) → counts' slot ≡ counts slot + slots_in slot (Some (recount node 1))) (gone : node_at mid fresh ≡ None) (here : node_at ys fresh ≡ Some (recount node 1)) (rest : (m : ℕ) → m ≢ fresh → node_at ys m ≡ node_at mid m) where
-  abbrev copy_of : Node
-  copy_of = recount node 1
+pub record IsCopied (xs mid ys : NodeList) (counts counts' : ℕ → ℕ) (k fresh : ℕ) (node : Node) : Type 0 where
+  pub is : node_at xs k ≡ Some node
+  pub each : Raises xs mid (λ m. names m (Some (recount node 1)))
+  pub slots : (slot : ℕ) → counts' slot ≡ counts slot + slots_in slot (Some (recount node 1))
+  pub puts : Puts mid ys fresh (recount node 1)
 
+module _ (xs mid ys : NodeList) (counts counts' hands loose : ℕ → ℕ) (k fresh : ℕ) (node : Node) (s : IsShared xs counts hands loose) (p : IsCopied xs mid ys counts counts' k fresh node) where
   raised : IsShared mid counts (λ m. hands m + names m (Some (recount node 1))) loose
-  raised = shared-recounted xs mid counts hands (λ m. hands m + names m (Some (recount node 1))) loose (λ m. count_in (node_at xs m) + names m (Some (recount node 1))) s each (λ m live. omega arith) (λ m none.
+  raised = shared-recounted xs mid counts hands (λ m. hands m + names m (Some (recount node 1))) loose (λ m. count_in (node_at xs m) + names m (Some (recount node 1))) s p.each (λ m live. omega arith) (λ m none.
       let count = s.counted m in
       let zero : count_in (node_at xs m) ≡ 0 = ap count_in none in
       let has = total-has (names m) refl xs k in
-      let same : names m (node_at xs k) ≡ names m (Some (recount node 1)) = ap (names m) is ∙ names-copy m node in
+      let same : names m (node_at xs k) ≡ names m (Some (recount node 1)) = ap (names m) p.is ∙ names-copy m node in
       omega arith) (λ m live. let pos = s.alive m live in omega arith)
     where
       names-copy : (m : ℕ) (n : Node) → names m (Some n) ≡ names m (Some (recount n 1))
@@ -81,32 +85,34 @@ module _ (xs mid ys : List (Option Node)) (counts counts' hands loose : ℕ → 
       names-copy m (Leaf b es) = refl
 
   handed : IsShared mid counts' (λ m. hands m + names m (Some (recount node 1))) (λ slot. loose slot + slots_in slot (Some (recount node 1)))
-  handed = shared-counts mid counts counts' (λ m. hands m + names m (Some (recount node 1))) loose (λ slot. loose slot + slots_in slot (Some (recount node 1))) raised (λ slot. let move = slots slot in omega arith)
+  handed = shared-counts mid counts counts' (λ m. hands m + names m (Some (recount node 1))) loose (λ slot. loose slot + slots_in slot (Some (recount node 1))) raised (λ slot. let move = p.slots slot in omega arith)
 
   child_of : (d c : ℕ) → child_in (Some (recount node 1)) d ≡ Some c → child_in (node_at xs k) d ≡ Some c
-  child_of d c e = ap (λ o. child_in o d) is ∙ sym (child-recounted (Some node) 1 d) ∙ e
+  child_of d c e = ap (λ o. child_in o d) p.is ∙ sym (child-recounted (Some node) 1 d) ∙ e
 
   pub shared-copy : IsShared ys counts' (λ m. hands m + one fresh m) loose
-  shared-copy = shared-insert mid ys counts' hands loose fresh (recount node 1) handed gone here rest (count-recounted (Some node) 1 refl)
-      (λ d c e. level-recounted (Some node) 1 ∙ ap level_in (sym is) ∙ s.steps k d c (child_of d c e) ∙ ap (λ n. n + 1) (sym (ap level_in (each c) ∙ level-recounted (node_at xs c) (count_in (node_at xs c) + names c (Some (recount node 1))))))
-      (λ count level kids e. let old = tall-recount node 1 count level kids e in s.tall k old.0 level kids (is ∙ ap (λ n. Some n) old.1))
-      (width-recount node 1 ∙ s.wide k node is)
-      (let same = level-recounted (Some node) 1 ∙ ap level_in (sym is) in let low = s.flat k in omega arith)
+  shared-copy = shared-insert mid ys counts' hands loose fresh (recount node 1) handed p.puts record {
+    once = count-recounted (Some node) 1 refl;
+    step = λ d c e. level-recounted (Some node) 1 ∙ ap level_in (sym p.is) ∙ s.steps k d c (child_of d c e) ∙ ap (λ n. n + 1) (sym (ap level_in (p.each c) ∙ level-recounted (node_at xs c) (count_in (node_at xs c) + names c (Some (recount node 1)))));
+    high = λ count level kids e. let old = tall-recount node 1 count level kids e in s.tall k old.0 level kids (p.is ∙ ap (λ n. Some n) old.1);
+    wide = width-recount node 1 ∙ s.wide k node p.is;
+    flat = let same = level-recounted (Some node) 1 ∙ ap level_in (sym p.is) in let low = s.flat k in omega arith;
+  }
 
   looks_raised : SameLooks xs mid
-  looks_raised = looks-recounted xs mid (λ m. count_in (node_at xs m) + names m (Some (recount node 1))) each
+  looks_raised = looks-recounted xs mid (λ m. count_in (node_at xs m) + names m (Some (recount node 1))) p.each
 
   pub looks-copy : SameLooks xs ys
   looks-copy level m q live =
-      looks-insert mid ys counts (λ m. hands m + names m (Some (recount node 1))) loose fresh raised gone rest level m q (subst (λ (o : Option Node). IsSome o) (sym (each m)) (alive (node_at xs m) (count_in (node_at xs m) + names m (Some (recount node 1))) live)) ∙ looks_raised level m q live
+      looks-insert mid ys counts (λ m. hands m + names m (Some (recount node 1))) loose fresh raised p.puts.gone p.puts.rest level m q (subst (λ (o : Option Node). IsSome o) (sym (p.each m)) (alive (node_at xs m) (count_in (node_at xs m) + names m (Some (recount node 1))) live)) ∙ looks_raised level m q live
     where
       alive : (o : Option Node) (c : ℕ) → IsSome o → IsSome (node_with_count o c)
       alive None c l = l
       alive (Some n) c l = refl
 
   pub alike-copy : (level q : ℕ) → look level ys (Some fresh) q ≡ look level xs (Some k) q
-  alike-copy zero q = ap (λ o. entry_in o (q % 32)) here ∙ entry-recounted (Some node) 1 (q % 32) ∙ ap (λ o. entry_in o (q % 32)) (sym is)
+  alike-copy zero q = ap (λ o. entry_in o (q % 32)) p.puts.here ∙ entry-recounted (Some node) 1 (q % 32) ∙ ap (λ o. entry_in o (q % 32)) (sym p.is)
   alike-copy (suc level) q =
       let digit = (q / 32 ^ suc level) % 32 in
-      ap (λ (o : Option ℕ). look level ys o q) (ap (λ o. child_in o digit) here ∙ child-recounted (Some node) 1 digit ∙ ap (λ o. child_in o digit) (sym is))
+      ap (λ (o : Option ℕ). look level ys o q) (ap (λ o. child_in o digit) p.puts.here ∙ child-recounted (Some node) 1 digit ∙ ap (λ o. child_in o digit) (sym p.is))
       ∙ look-option level xs ys q (child_in (node_at xs k) digit) (λ t e. looks-copy level t q (child-live xs counts hands loose k digit t s e))

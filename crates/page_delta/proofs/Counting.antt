@@ -8,6 +8,7 @@ use Rattle.page_delta.specs.declared.node.Node.{Node}
 use Rattle.page_delta.specs.declared.node.Node.TheVariants.{Branch, Leaf}
 use Rattle.page_delta.proofs.Sums.{total-same, total-length, total-present, present}
 use Rattle.page_delta.proofs.Sharing.{not-some, one, one-same, one-other}
+use Rattle.page_delta.proofs.Changes.{Recounts, Raises}
 
 pub other-test : (a b : ℕ) → a ≢ b → eqb a b ≡ false
 other-test a b ne = elim (cases_Bool (eqb a b)) [ inl h ↦ absurd (ne (eqb-true a b h)) | inr h ↦ h ]
@@ -58,19 +59,21 @@ present-recounted (Some (Branch b l ks)) c = refl
 present-recounted (Some (Leaf b es)) c = refl
 
 -- one node counted anew, among nodes that were
-pub recounted-at : (xs ys : List (Option Node)) (now : ℕ → ℕ) (key c : ℕ) → ((m : ℕ) → node_at ys m ≡ node_with_count (node_at xs m) (now m)) → IsSome (node_at ys key) → (m : ℕ) → node_at (set ys key (node_with_count (node_at ys key) c)) m ≡ node_with_count (node_at xs m) (cond (eqb m key) c (now m))
+pub recounted-at : (xs ys : List (Option Node)) (now : ℕ → ℕ) (key c : ℕ) → Recounts xs ys now → IsSome (node_at ys key) → Recounts xs (set ys key (node_with_count (node_at ys key) c)) (λ m. cond (eqb m key) c (now m))
 recounted-at xs ys now key c each live m = elim (cases_eq m key) [
   | inl e ↦
-      ap (λ i. node_at (set ys key (node_with_count (node_at ys key) c)) i) e ∙ get_or-set_same ys key (node_with_count (node_at ys key) c) None (live-below ys key live) ∙ ap (λ o. node_with_count o c) (each key) ∙ recounted-again (node_at xs key) (now key) c ∙ ap (λ i. node_with_count (node_at xs i) c) (sym e) ∙ sym (rw (eq-eqb m key e) refl)
+      ap (λ i. node_at (set ys key (node_with_count (node_at ys key) c)) i) e ∙ get_or-set_same ys key (node_with_count (node_at ys key) c) None (live-below ys key live)
+      ∙ ap (λ o. node_with_count o c) (each key) ∙ recounted-again (node_at xs key) (now key) c ∙ ap (λ i. node_with_count (node_at xs i) c) (sym e) ∙ sym (rw (eq-eqb m key e) refl)
   | inr ne ↦ get_or-set_other ys key m (node_with_count (node_at ys key) c) None ne ∙ each m ∙ sym (rw (other-test m key ne) refl)
 ]
 
-pub len-recounted : (xs ys : List (Option Node)) (now : ℕ → ℕ) → ((m : ℕ) → node_at ys m ≡ node_with_count (node_at xs m) (now m)) → count_by is_some ys ≡ count_by is_some xs
+pub len-recounted : (xs ys : List (Option Node)) (now : ℕ → ℕ) → Recounts xs ys now → count_by is_some ys ≡ count_by is_some xs
 len-recounted xs ys now each =
     sym (total-present ys) ∙ total-same (present 1) refl xs ys (λ k. ap (present 1) (each k) ∙ present-recounted (node_at xs k) (now k)) ∙ total-present xs
 
 -- the step of a loop that counts the children of a node
-pub raise-step : (xs ys : List (Option Node)) (kids : List (Option ℕ)) (i child : ℕ) → ((m : ℕ) → node_at ys m ≡ node_with_count (node_at xs m) (count_in (node_at xs m) + total (once m) (take i kids))) → get_or kids i None ≡ Some child → i < length kids → IsSome (node_at xs child) → (m : ℕ) → node_at (set ys child (node_with_count (node_at ys child) (count_in (node_at ys child) + 1))) m ≡ node_with_count (node_at xs m) (count_in (node_at xs m) + total (once m) (take (i + 1) kids))
+pub raise-step : (xs ys : List (Option Node)) (kids : List (Option ℕ)) (i child : ℕ) → Raises xs ys (λ m. total (once m) (take i kids)) → get_or kids i None ≡ Some child
+    → i < length kids → IsSome (node_at xs child) → Raises xs (set ys child (node_with_count (node_at ys child) (count_in (node_at ys child) + 1))) (λ m. total (once m) (take (i + 1) kids))
 raise-step xs ys kids i child each is below live m =
     let more = total-more (once m) kids i below in
     let mine : once m (get_or kids i None) ≡ one child m = ap (once m) is in
@@ -89,13 +92,14 @@ raise-step xs ys kids i child each is below live m =
           omega arith
     ])
 
-pub pass-step : (xs ys : List (Option Node)) (kids : List (Option ℕ)) (i : ℕ) → ((m : ℕ) → node_at ys m ≡ node_with_count (node_at xs m) (count_in (node_at xs m) + total (once m) (take i kids))) → get_or kids i None ≡ None → i < length kids → (m : ℕ) → node_at ys m ≡ node_with_count (node_at xs m) (count_in (node_at xs m) + total (once m) (take (i + 1) kids))
+pub pass-step : (xs ys : List (Option Node)) (kids : List (Option ℕ)) (i : ℕ) → Raises xs ys (λ m. total (once m) (take i kids)) → get_or kids i None ≡ None → i < length kids → Raises xs ys (λ m. total (once m) (take (i + 1) kids))
 pass-step xs ys kids i each is below m =
     let more = total-more (once m) kids i below in
     let mine : once m (get_or kids i None) ≡ 0 = ap (once m) is in
     each m ∙ ap (λ n. node_with_count (node_at xs m) n) (omega arith)
 
-pub raise-room : (xs ys : List (Option Node)) (kids : List (Option ℕ)) (i child : ℕ) → ((m : ℕ) → node_at ys m ≡ node_with_count (node_at xs m) (count_in (node_at xs m) + total (once m) (take i kids))) → i < length kids → IsSome (node_at xs child) → (count_in (node_at xs child) + length kids < 2 ^ 64) → (IsSome (node_at ys child)) × (count_in (node_at ys child) + 1 < 2 ^ 64)
+pub raise-room : (xs ys : List (Option Node)) (kids : List (Option ℕ)) (i child : ℕ) → Raises xs ys (λ m. total (once m) (take i kids)) → i < length kids
+    → IsSome (node_at xs child) → (count_in (node_at xs child) + length kids < 2 ^ 64) → (IsSome (node_at ys child)) × (count_in (node_at ys child) + 1 < 2 ^ 64)
 raise-room xs ys kids i child each below live room =
     let few = total-take-le (once child) kids i (once-le child) (omega arith) in
     let count : count_in (node_at ys child) ≡ count_in (node_at xs child) + total (once child) (take i kids) = ap count_in (each child) ∙ count-recounted (node_at xs child) (count_in (node_at xs child) + total (once child) (take i kids)) live in

@@ -169,7 +169,7 @@ module _ (xs ys : List (Option Node)) (pool : Pool) (key : ℕ) (node : Node) (l
   pub tree-empty : KeepsTree xs ys pool pool (Some key)
   tree-empty = record {
     shared = λ hands loose s. shared-empty xs ys key node level e (count_at pool) hands loose s;
-    stays = stays-but xs xs ys key e.gone (stays-self xs) e.rest;
+    stays = stays-but xs xs ys key e.puts.gone (stays-self xs) e.puts.rest;
     places = places-empty xs ys key node level e;
     few = few;
     counted = counted;
@@ -180,9 +180,9 @@ module _ (xs ys : List (Option Node)) (pool : Pool) (key : ℕ) (node : Node) (l
   fill-start from b above is = record {
     count = 1;
     kids = replicate 32 None;
-    is = e.here ∙ ap (λ (n : Node). Some n) (is ∙ branch level above);
+    is = e.puts.here ∙ ap (λ (n : Node). Some n) (is ∙ branch level above);
     long = refl;
-    fresh = e.gone;
+    fresh = e.puts.gone;
     rest = λ d past. empty-place 32 d;
     none = λ z d. empty-place 32 d;
     looks = λ d q small. absurd (omega arith);
@@ -378,7 +378,7 @@ module _ (xs cur mid new : List (Option Node)) (pool0 pool pool1 : Pool) (from n
             shared-as new (count_at pool1) (λ m. hands m + once m (Some node) + once m (get_or f.kids digit None))
             (λ m. hands m + once m (Some node)) loose loose
             (shared-link mid new (count_at pool1) (λ m. hands m + once m (Some node)) loose node held.0 level digit r.node f.kids same
-            held.1 (hung_is (Some r) e) rest inside (omega arith))
+            record { here = held.1; now = hung_is (Some r) e; rest = rest; below = inside } (omega arith))
             (λ m. let z : once m (get_or f.kids digit None) ≡ 0 = ap (once m) (f.rest digit (omega arith)) in omega arith) (λ slot. refl))
 
 -- all places of a branch have kept trees

@@ -11,6 +11,7 @@ use Rattle.page_delta.specs.declared.node.Node.TheVariants.{Branch, Leaf}
 use Rattle.page_delta.proofs.Sharing.{some-live, shared-entry, not-some, named}
 use Rattle.page_delta.proofs.Places.{places-trans, placed-next, placed-entry}
 use Rattle.page_delta.proofs.Looks.{differs-leaf, differs-above}
+use Rattle.page_delta.proofs.Changes.{SetsEntry}
 
 -- a node on a level above the leaves is there
 pub high-live : (o : Option Node) → 0 < level_in o → IsSome o
@@ -125,6 +126,9 @@ module _ (x0 x1 x2 x3 x4 : List (Option Node)) (root page : ℕ) (entry : Entry)
   in_places : page % 32 < length is_leaf.1
   in_places = let wide = w.shared3.wide w.leaf (Leaf is_leaf.0 is_leaf.1) is_leaf.2 in omega arith
 
+  sets : SetsEntry x3 x4 w.leaf is_leaf.0 (page % 32) entry is_leaf.1
+  sets = record { here = is_leaf.2; now = leaf_now; rest = w.rest; below = in_places }
+
   kids_same : (m d : ℕ) → child_in (node_at x4 m) d ≡ child_in (node_at x3 m) d
   kids_same m d = elim (cases_eq m w.leaf) [
     | inl e ↦ ap (λ o. child_in o d) (ap (λ i. node_at x4 i) e ∙ leaf_now)
@@ -146,7 +150,7 @@ module _ (x0 x1 x2 x3 x4 : List (Option Node)) (root page : ℕ) (entry : Entry)
 
   differs3 : Differs 3 x3 x4 root page entry
   differs3 =
-      let zero_is = differs-leaf x3 x4 w.leaf is_leaf.0 page entry is_leaf.1 is_leaf.2 leaf_now w.rest in_places in
+      let zero_is = differs-leaf x3 x4 w.leaf is_leaf.0 page entry is_leaf.1 sets in
       let one_is = differs-above x3 x4 w.counts3 w.hands w.loose page entry w.shared3 kids_same 0 w.leaf w.lower zero_is w.to_leaf.child_is
       (named-once x3 w.counts3 w.hands w.loose w.lower ((page / 32) % 32) w.leaf w.shared3 w.to_leaf.child_is w.to_leaf.own)
       level_lower3 in
@@ -182,7 +186,7 @@ module _ (x0 x1 x2 x3 x4 : List (Option Node)) (root page : ℕ) (entry : Entry)
 
   pub inserted-placed : IsPlaced x0 → StandsAt x0 entry.slot (page % 32) → IsPlaced x4
   inserted-placed placed at =
-      placed-entry x3 x4 w.leaf is_leaf.0 (page % 32) entry is_leaf.1 is_leaf.2 leaf_now w.rest in_places
+      placed-entry x3 x4 w.leaf is_leaf.0 (page % 32) entry is_leaf.1 sets
       (placed-next x0 x3 placed places3) (places3 entry.slot (page % 32) at)
 
   place_before : get_or is_leaf.1 (page % 32) None ≡ look 3 x0 (Some root) page
@@ -196,6 +200,5 @@ module _ (x0 x1 x2 x3 x4 : List (Option Node)) (root page : ℕ) (entry : Entry)
   pub inserted-shared : (counts' hands' loose' : ℕ → ℕ) → IsShared x3 counts' hands' (λ slot. loose' slot + uses slot (Some entry))
       → IsShared x4 counts' hands' (λ slot. loose' slot + uses slot (look 3 x0 (Some root) page))
   inserted-shared counts' hands' loose' t =
-      let done = shared-entry x3 x4 counts' hands' loose' w.leaf is_leaf.0
-      (page % 32) entry is_leaf.1 t is_leaf.2 leaf_now w.rest in_places in
+      let done = shared-entry x3 x4 counts' hands' loose' w.leaf is_leaf.0 (page % 32) entry is_leaf.1 t sets in
       subst (λ (o : Option Entry). IsShared x4 counts' hands' (λ slot. loose' slot + uses slot o)) place_before done

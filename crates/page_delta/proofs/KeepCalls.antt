@@ -1,5 +1,5 @@
 -- What keeping the entries of a map does to what a contract sees.
-use Rattle.std.proofs.Common.{◌≡◌, inl, inr, ℕ, ◌+◌, ◌^◌, ◌≤◌, List, length, Option, Some, None, Result, Ok, Err, OnErr, is_some, count_by, refl, sym, ap, ◌∙◌, arith}
+use Rattle.std.proofs.Common.{◌≡◌, inl, inr, ℕ, ◌+◌, ◌^◌, ◌≤◌, List, length, Option, Some, None, is_some, count_by, refl, sym, ap, ◌∙◌, arith}
 use Rattle.std.proofs.lemmas.Bool.{cases_lt}
 use Rattle.page_pool.specs.Pool.{Pool, count_at}
 use Rattle.page_delta.specs.Totals.{total}
@@ -118,7 +118,3 @@ module _ (n n' : List (Option Node)) (ids ids' : List (Option Root)) (pool pool'
         reads-same n n' ids ids' pool pool' (λ s. 0) other place (ap (λ (m : Option Pages). find place (pages_in m)) (same other)) held
         (λ e found still. (bytes e.slot still).1);
   }
-
-pub on-err : {T E : Type 0} {P : Type 0} (r : Result T E) → P → OnErr r P
-on-err (Ok x) h = tt
-on-err (Err x) h = h

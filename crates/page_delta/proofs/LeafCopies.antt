@@ -140,8 +140,8 @@ module _ (xs : List (Option Node)) (from b : ℕ) (src leaf : Node) (pages : ℕ
           (λ slot. loose slot + slots_in slot (Some (Leaf 1 n.entries)))
           (shared-as xs (count_at pool) hands (λ m. hands m + names m (Some (Leaf 1 n.entries))) loose loose s (λ m. omega arith)
           (λ slot. refl)) (λ slot. let c = slots slot in omega arith))
-          gone put_leaf rest refl (λ d c e. absurd (some-none c (sym e))) (λ c l kids e. absurd (let no : ⊥ = cc in no)) n.wide
-          (omega arith);
+          record { gone = gone; here = put_leaf; rest = rest }
+          record { once = refl; step = λ d c e. absurd (some-none c (sym e)); high = λ c l kids e. absurd (let no : ⊥ = cc in no); wide = n.wide; flat = omega arith };
       stays = stays-but xs xs ys key gone (stays-self xs) rest;
       places = moved;
       few = few;

@@ -1,5 +1,6 @@
 pub mod Sums
 pub mod Arrays
+pub mod Changes
 pub mod Sharing
 pub mod Looks
 pub mod Counting

@@ -10,6 +10,7 @@ use Rattle.page_delta.specs.declared.node.Node.{Node}
 use Rattle.page_delta.specs.declared.node.Node.TheVariants.{Branch, Leaf}
 use Rattle.page_delta.proofs.Sums.{total-has, total-two}
 use Rattle.page_delta.proofs.Sharing.{some-none, cases-option, some-live, not-some, child-recounted, entry-recounted, named, child-named}
+use Rattle.page_delta.proofs.Changes.{NodeList, SameBut, SetsChild, SetsEntry}
 
 -- both lists have the same places at a key
 abbrev pub SameAt : List (Option Node) → List (Option Node) → ℕ → Type 0
@@ -40,7 +41,7 @@ pub looks-recounted : (xs ys : List (Option Node)) (now : ℕ → ℕ) → ((m :
 looks-recounted xs ys now each level m q live =
     look-agree (λ m. Unit {0}) xs ys (λ m _ d. (ap (λ o. child_in o d) (each m) ∙ child-recounted (node_at xs m) (now m) d, ap (λ o. entry_in o d) (each m) ∙ entry-recounted (node_at xs m) (now m) d)) (λ m d t _ e. tt) level m q tt
 
-pub looks-insert : (xs ys : List (Option Node)) (counts hands loose : ℕ → ℕ) (key : ℕ) → IsShared xs counts hands loose → node_at xs key ≡ None → ((k : ℕ) → k ≢ key → node_at ys k ≡ node_at xs k) → SameLooks xs ys
+pub looks-insert : (xs ys : List (Option Node)) (counts hands loose : ℕ → ℕ) (key : ℕ) → IsShared xs counts hands loose → node_at xs key ≡ None → SameBut key xs ys → SameLooks xs ys
 looks-insert xs ys counts hands loose key s gone rest level m q live =
     look-agree (λ m. IsSome (node_at xs m)) xs ys (λ m here d. let same = rest m (λ e. dead m here e) in (ap (λ o. child_in o d) same, ap (λ o. entry_in o d) same)) (λ m d t here e. child-live xs counts hands loose m d t s e) level m q live
   where
@@ -51,23 +52,23 @@ looks-insert xs ys counts hands loose key s gone rest level m q live =
     ]
 
 -- a branch has another child, whose tree has what the one before had
-module _ (xs ys : List (Option Node)) (key count tall d child : ℕ) (kids : List (Option ℕ)) (here : node_at xs key ≡ Some (Branch count tall kids)) (now : node_at ys key ≡ Some (Branch count tall (set kids d (Some child)))) (rest : (k : ℕ) → k ≢ key → node_at ys k ≡ node_at xs k) (below : d < length kids) (alike : (level q : ℕ) → look level xs (Some child) q ≡ look level xs (get_or kids d None) q) where
+module _ (xs ys : NodeList) (key count tall d child : ℕ) (kids : List (Option ℕ)) (sets : SetsChild xs ys key count tall d child kids) (alike : (level q : ℕ) → look level xs (Some child) q ≡ look level xs (get_or kids d None) q) where
   pub looks-link : (level m q : ℕ) → look level ys (Some m) q ≡ look level xs (Some m) q
   looks-link zero m q = elim (cases_eq m key) [
-    | inl same ↦ ap (λ o. entry_in o (q % 32)) (ap (λ i. node_at ys i) same ∙ now) ∙ sym (ap (λ o. entry_in o (q % 32)) (ap (λ i. node_at xs i) same ∙ here))
-    | inr ne ↦ ap (λ o. entry_in o (q % 32)) (rest m ne)
+    | inl same ↦ ap (λ o. entry_in o (q % 32)) (ap (λ i. node_at ys i) same ∙ sets.now) ∙ sym (ap (λ o. entry_in o (q % 32)) (ap (λ i. node_at xs i) same ∙ sets.here))
+    | inr ne ↦ ap (λ o. entry_in o (q % 32)) (sets.rest m ne)
   ]
   looks-link (suc level) m q =
       let digit = (q / 32 ^ suc level) % 32 in
       elim (cases_eq m key) [
         | inl same ↦
-            let old : child_in (node_at xs m) digit ≡ get_or kids digit None = ap (λ o. child_in o digit) (ap (λ i. node_at xs i) same ∙ here) in
-            let new : child_in (node_at ys m) digit ≡ get_or (set kids d (Some child)) digit None = ap (λ o. child_in o digit) (ap (λ i. node_at ys i) same ∙ now) in
+            let old : child_in (node_at xs m) digit ≡ get_or kids digit None = ap (λ o. child_in o digit) (ap (λ i. node_at xs i) same ∙ sets.here) in
+            let new : child_in (node_at ys m) digit ≡ get_or (set kids d (Some child)) digit None = ap (λ o. child_in o digit) (ap (λ i. node_at ys i) same ∙ sets.now) in
             ap (λ (o : Option ℕ). look level ys o q) new ∙ elim (cases_eq digit d) [
-              | inl at ↦ ap (λ (o : Option ℕ). look level ys o q) (ap (λ i. get_or (set kids d (Some child)) i None) at ∙ get_or-set_same kids d (Some child) None below) ∙ looks-link level child q ∙ alike level q ∙ ap (λ (o : Option ℕ). look level xs o q) (ap (λ i. get_or kids i None) (sym at) ∙ sym old)
+              | inl at ↦ ap (λ (o : Option ℕ). look level ys o q) (ap (λ i. get_or (set kids d (Some child)) i None) at ∙ get_or-set_same kids d (Some child) None sets.below) ∙ looks-link level child q ∙ alike level q ∙ ap (λ (o : Option ℕ). look level xs o q) (ap (λ i. get_or kids i None) (sym at) ∙ sym old)
               | inr far ↦ ap (λ (o : Option ℕ). look level ys o q) (get_or-set_other kids d digit (Some child) None far) ∙ look-option level xs ys q (get_or kids digit None) (λ t e. looks-link level t q) ∙ ap (λ (o : Option ℕ). look level xs o q) (sym old)
             ]
-        | inr ne ↦ ap (λ (o : Option ℕ). look level ys o q) (ap (λ o. child_in o digit) (rest m ne)) ∙ look-option level xs ys q (child_in (node_at xs m) digit) (λ t e. looks-link level t q)
+        | inr ne ↦ ap (λ (o : Option ℕ). look level ys o q) (ap (λ o. child_in o digit) (sets.rest m ne)) ∙ look-option level xs ys q (child_in (node_at xs m) digit) (λ t e. looks-link level t q)
       ]
 
 two-children : (o : Option Node) (n d e : ℕ) → d ≢ e → child_in o d ≡ Some n → child_in o e ≡ Some n → 1 < names n o
@@ -117,11 +118,11 @@ module _ (xs ys : List (Option Node)) (counts hands loose : ℕ → ℕ) (p : �
   }
 
 -- an entry comes to a leaf
-pub differs-leaf : (xs ys : List (Option Node)) (key count p : ℕ) (entry : Entry) (es : List (Option Entry)) → node_at xs key ≡ Some (Leaf count es) → node_at ys key ≡ Some (Leaf count (set es (p % 32) (Some entry))) → ((k : ℕ) → k ≢ key → node_at ys k ≡ node_at xs k) → p % 32 < length es → Differs 0 xs ys key p entry
-differs-leaf xs ys key count p entry es here now rest below = record {
-  there = λ q agrees. ap (λ o. entry_in o (q % 32)) now ∙ ap (λ i. get_or (set es (p % 32) (Some entry)) i None) (sym agrees) ∙ get_or-set_same es (p % 32) (Some entry) None below;
-  apart = λ q no. ap (λ o. entry_in o (q % 32)) now ∙ get_or-set_other es (p % 32) (q % 32) (Some entry) None (λ e. no (sym e)) ∙ sym (ap (λ o. entry_in o (q % 32)) here);
-  others = λ m q deep live ne. ap (λ o. entry_in o (q % 32)) (rest m ne);
+pub differs-leaf : (xs ys : NodeList) (key count p : ℕ) (entry : Entry) (es : List (Option Entry)) → SetsEntry xs ys key count (p % 32) entry es → Differs 0 xs ys key p entry
+differs-leaf xs ys key count p entry es sets = record {
+  there = λ q agrees. ap (λ o. entry_in o (q % 32)) sets.now ∙ ap (λ i. get_or (set es (p % 32) (Some entry)) i None) (sym agrees) ∙ get_or-set_same es (p % 32) (Some entry) None sets.below;
+  apart = λ q no. ap (λ o. entry_in o (q % 32)) sets.now ∙ get_or-set_other es (p % 32) (q % 32) (Some entry) None (λ e. no (sym e)) ∙ sym (ap (λ o. entry_in o (q % 32)) sets.here);
+  others = λ m q deep live ne. ap (λ o. entry_in o (q % 32)) (sets.rest m ne);
 }
 
 -- pages below 2^20 are their four digits

@@ -1,13 +1,11 @@
 -- What a map has at a page, by its tree.
-use Rattle.std.proofs.Common.{◌≡◌, ◌≢◌, ◌⊎◌, inl, inr, ℕ, zero, suc, ◌+◌, ◌^◌, ◌<◌, ◌≤◌, List, [], ◌∷◌, length, Option, Some, None, refl, sym, ap, subst, ◌∙◌, eqb, true, false, arith}
-use Rattle.std.proofs.lemmas.Bool.{eqb-true, eqb-false, eq-eqb, cases_Bool}
+use Rattle.std.proofs.Common.{◌≡◌, ◌≢◌, ◌⊎◌, inl, inr, ℕ, zero, suc, ◌+◌, ◌^◌, ◌<◌, ◌≤◌, List, [], ◌∷◌, length, Option, Some, None, refl, sym, ap, subst, ◌∙◌, arith}
+use Rattle.std.proofs.lemmas.Bool.{eq-eqb}
 use Rattle.page_delta.specs.declared.entry.Entry.{Entry}
 use Rattle.page_delta.specs.declared.node.Node.{Node}
 use Rattle.page_delta.specs.Delta.{Pages, find, RiseFrom}
 use Rattle.page_delta.specs.Nodes.{look, entry_and_rest, pairs_from, pages_below}
-
-pub decided : (a b : ℕ) → ((a ≡ b) × (eqb a b ≡ true)) ⊎ ((a ≢ b) × (eqb a b ≡ false))
-decided a b = elim (cases_Bool (eqb a b)) [ inl h ↦ inl (eqb-true a b h, h) | inr h ↦ inr (eqb-false a b h, h) ]
+use Rattle.format_spec.proofs.Lists.{cases_eqb}
 
 find-here : (page : ℕ) (o : Option Entry) (rest : Pages) → find page rest ≡ None → find page (entry_and_rest page o rest) ≡ o
 find-here page None rest none = none
@@ -15,7 +13,7 @@ find-here page (Some entry) rest none = rw (eq-eqb page page refl) refl
 
 find-there : (page start : ℕ) (o : Option Entry) (rest : Pages) → page ≢ start → find page (entry_and_rest start o rest) ≡ find page rest
 find-there page start None rest other = refl
-find-there page start (Some entry) rest other = elim (decided page start) [ inl h ↦ absurd (other h.0) | inr h ↦ rw h.1 refl ]
+find-there page start (Some entry) rest other = elim (cases_eqb page start) [ inl h ↦ absurd (other h.0) | inr h ↦ rw h.1 refl ]
 
 find-outside : (n start page : ℕ) (at : ℕ → Option Entry) → (page < start) ⊎ (start + n ≤ page) → find page (pairs_from n start at) ≡ None
 unfolding pairs_from
@@ -27,7 +25,7 @@ find-outside (suc n) start page at out =
 find-inside : (n start page : ℕ) (at : ℕ → Option Entry) → start ≤ page → page < start + n → find page (pairs_from n start at) ≡ at page
 unfolding pairs_from
 find-inside zero start page at low high = absurd (omega arith)
-find-inside (suc n) start page at low high = elim (decided page start) [
+find-inside (suc n) start page at low high = elim (cases_eqb page start) [
   | inl h ↦ subst (λ p. find p (entry_and_rest start (at start) (pairs_from n (start + 1) at)) ≡ at p) (sym h.0) (find-here start (at start) (pairs_from n (start + 1) at) (find-outside n (start + 1) start at (inl (omega arith))))
   | inr h ↦ find-there page start (at start) (pairs_from n (start + 1) at) h.0 ∙ find-inside n (start + 1) page at (let ne = h.0 in omega arith) (omega arith)
 ]
@@ -80,7 +78,7 @@ length-pairs zero start p f g low high same = absurd (omega arith)
 length-pairs (suc n) start p f g low high same =
     let a = length-consed start (f start) (pairs_from n (start + 1) f) in
     let b = length-consed start (g start) (pairs_from n (start + 1) g) in
-    elim (decided p start) [
+    elim (cases_eqb p start) [
       | inl h ↦
           let rest : length (pairs_from n (start + 1) f) ≡ length (pairs_from n (start + 1) g) = ap (λ (l : Pages). length l) (pairs-within n (start + 1) f g (λ k l u. same k (omega arith) (omega arith) (λ e. let eq = h.0 in omega arith))) in
           let fp : one_of (f p) ≡ one_of (f start) = ap (λ k. one_of (f k)) h.0 in
@@ -93,7 +91,8 @@ length-pairs (suc n) start p f g low high same =
           omega arith
     ]
 
-pub length-below : (xs ys : List (Option Node)) (root page : ℕ) → page < 2 ^ 20 → ((q : ℕ) → q < 2 ^ 20 → q ≢ page → look 3 ys (Some root) q ≡ look 3 xs (Some root) q) → length (pages_below ys root) + one_of (look 3 xs (Some root) page) ≡ length (pages_below xs root) + one_of (look 3 ys (Some root) page)
+pub length-below : (xs ys : List (Option Node)) (root page : ℕ) → page < 2 ^ 20 → ((q : ℕ) → q < 2 ^ 20 → q ≢ page → look 3 ys (Some root) q ≡ look 3 xs (Some root) q)
+    → length (pages_below ys root) + one_of (look 3 xs (Some root) page) ≡ length (pages_below xs root) + one_of (look 3 ys (Some root) page)
 unfolding pages_below
 length-below xs ys root page low same = length-pairs (2 ^ 20) 0 page (look 3 ys (Some root)) (look 3 xs (Some root)) (omega arith) (omega arith) (λ k l u ne. same k (omega arith) ne)
 

@@ -18,8 +18,9 @@ use Rattle.page_delta.proofs.Inserting.{high-live}
 use Rattle.page_delta.proofs.Lookups.{find-below}
 use Rattle.page_delta.proofs.Places.{once-placed}
 use Rattle.page_delta.proofs.Reached.{within, place-names, place-roots, node-names, node-uses, spell, parent, top, looked}
-use Rattle.page_delta.proofs.Rooted.{kept-live, some-eq}
+use Rattle.page_delta.proofs.Rooted.{kept-live}
 use Rattle.page_delta.proofs.Seen.{seen, map-seen, held-seen}
+use Rattle.std.proofs.lemmas.Option.{same_Some}
 
 -- what counts more than one place does, has another place that counts
 other-place : {X : Type 0} (w : Option X → ℕ) → w None ≡ 0 → (xs : List (Option X)) (key : ℕ) → w (get_or xs key None) < total w xs
@@ -161,12 +162,9 @@ module _ (nodes : List (Option Node)) (ids : List (Option Root)) (pool : Pool) (
     pub d1 : w.d1 ≡ (page / 32) % 32
     pub leaf : w.leaf ≡ way.leaf
 
-  some-same : (a b : ℕ) → Some a ≡ Some b → a ≡ b
-  some-same a b e = cc
-
   same-child : (p q d e a b : ℕ) → child_in (node_at nodes p) d ≡ Some a → child_in (node_at nodes q) e ≡ Some b → p ≡ q → d ≡ e → a ≡ b
   same-child p q d e a b is at same digit =
-      some-same a b (sym is ∙ ap (λ i. child_in (node_at nodes i) d) same ∙ ap (λ i. child_in (node_at nodes q) i) digit ∙ at)
+      same_Some a b (sym is ∙ ap (λ i. child_in (node_at nodes i) d) same ∙ ap (λ i. child_in (node_at nodes q) i) digit ∙ at)
 
   same-way : (w : Way) → level_in (node_at nodes w.top) ≡ 3 → Same w
   unfolding spell
@@ -175,7 +173,7 @@ module _ (nodes : List (Option Node)) (ids : List (Option Root)) (pool : Pool) (
       let from = from-root w r.0 r.1 r.2 r.3 in
       let a = w.low3 in let b = w.low2 in let c = w.low1 in let d = w.low0 in
       let e = from.1 in
-      let mine : r.1 ≡ rooted.0 = some-eq r.1 rooted.0 (sym r.2 ∙ ap (λ i. root_at ids i) from.0 ∙ rooted.1) in
+      let mine : r.1 ≡ rooted.0 = same_Some r.1 rooted.0 (sym r.2 ∙ ap (λ i. root_at ids i) from.0 ∙ rooted.1) in
       let top_is : w.top ≡ root = sym r.3 ∙ ap (λ (i : Root). i.node) mine in
       let e3 : w.d3 ≡ (page / 32768) % 32 = omega arith in
       let e2 : w.d2 ≡ (page / 1024) % 32 = omega arith in

@@ -17,6 +17,7 @@ use Rattle.page_delta.proofs.Sums.{total-has, total-none}
 use Rattle.page_delta.proofs.Sharing.{some-none, entry-recounted, one-same, one-other}
 use Rattle.page_delta.proofs.Copies.{entry-used}
 use Rattle.page_delta.proofs.Pools.{uses-le}
+use Rattle.page_delta.proofs.Changes.{NodeList, SetsEntry}
 
 pub places-trans : (xs ys zs : List (Option Node)) → KeepsPlaces xs ys → KeepsPlaces ys zs → KeepsPlaces xs zs
 places-trans xs ys zs a b slot place at = b slot place (a slot place at)
@@ -53,19 +54,19 @@ places-shrink xs ys shrinks slot place at key digit entry is =
     at key digit entry (sym (shrinks.entry key digit (has-entry (node_at ys key) digit entry is)) ∙ is)
 
 -- an entry comes to a place of a leaf
-module _ (xs ys : List (Option Node)) (key count d : ℕ) (entry : Entry) (es : List (Option Entry)) (here : node_at xs key ≡ Some (Leaf count es)) (now : node_at ys key ≡ Some (Leaf count (set es d (Some entry)))) (rest : (k : ℕ) → k ≢ key → node_at ys k ≡ node_at xs k) (below : d < length es) where
+module _ (xs ys : NodeList) (key count d : ℕ) (entry : Entry) (es : List (Option Entry)) (sets : SetsEntry xs ys key count d entry es) where
   stands-entry : (slot place : ℕ) → StandsAt xs slot place → (slot ≡ entry.slot → d ≡ place) → StandsAt ys slot place
   stands-entry slot place at mine k digit e is same = elim (cases_eq k key) [
     | inl eq ↦
-        let found : get_or (set es d (Some entry)) digit None ≡ Some e = sym (ap (λ o. entry_in o digit) (ap (λ i. node_at ys i) eq ∙ now)) ∙ is in
+        let found : get_or (set es d (Some entry)) digit None ≡ Some e = sym (ap (λ o. entry_in o digit) (ap (λ i. node_at ys i) eq ∙ sets.now)) ∙ is in
         elim (cases_eq digit d) [
           | inl at_d ↦
-              let both : Some entry ≡ Some e = sym (ap (λ i. get_or (set es d (Some entry)) i None) at_d ∙ get_or-set_same es d (Some entry) None below) ∙ found in
+              let both : Some entry ≡ Some e = sym (ap (λ i. get_or (set es d (Some entry)) i None) at_d ∙ get_or-set_same es d (Some entry) None sets.below) ∙ found in
               let eq_entry : entry ≡ e = cc in
               at_d ∙ mine (sym same ∙ sym (ap (λ (i : Entry). i.slot) eq_entry))
-          | inr far ↦ at key digit e (ap (λ o. entry_in o digit) here ∙ sym (get_or-set_other es d digit (Some entry) None far) ∙ found) same
+          | inr far ↦ at key digit e (ap (λ o. entry_in o digit) sets.here ∙ sym (get_or-set_other es d digit (Some entry) None far) ∙ found) same
         ]
-    | inr ne ↦ at k digit e (sym (ap (λ o. entry_in o digit) (rest k ne)) ∙ is) same
+    | inr ne ↦ at k digit e (sym (ap (λ o. entry_in o digit) (sets.rest k ne)) ∙ is) same
   ]
 
   pub placed-entry : IsPlaced xs → StandsAt xs entry.slot d → IsPlaced ys

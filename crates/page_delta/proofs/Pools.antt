@@ -158,7 +158,9 @@ release-live old now es i e r is below enough =
     let before = r.counts k in
     live-of-count now k (omega arith)
 
-pub release-step : (old now new : Pool) (es : List (Option Entry)) (i : ℕ) (e : Entry) → Released old now (take i es) → get_or es i None ≡ Some e → i < length es → IsLive now e.slot → (count_at now e.slot ≡ 1 → new ≡ with_free now e.slot) → (count_at now e.slot ≢ 1 → new ≡ with_count now e.slot (count_at now e.slot - 1)) → Released old new (take (i + 1) es)
+pub release-step : (old now new : Pool) (es : List (Option Entry)) (i : ℕ) (e : Entry) → Released old now (take i es) → get_or es i None ≡ Some e → i < length es
+    → IsLive now e.slot → (count_at now e.slot ≡ 1 → new ≡ with_free now e.slot) → (count_at now e.slot ≢ 1 → new ≡ with_count now e.slot (count_at now e.slot - 1))
+    → Released old new (take (i + 1) es)
 release-step old now new es i e r is below live last shared =
     let next = recounts-release now new e.slot live r.counted last shared in
     record {

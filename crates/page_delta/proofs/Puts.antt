@@ -14,7 +14,8 @@ use Rattle.page_delta.proofs.Sharing.{cases-option, one, one-same}
 use Rattle.page_delta.proofs.Looks.{digits}
 use Rattle.page_delta.proofs.Rooted.{kept-live, pages-same, shared-self, replaced-here, replaced-there, replaced-total, replaced-len}
 use Rattle.page_delta.proofs.RootCopies.{same-root}
-use Rattle.page_delta.proofs.Lookups.{decided, find-below, find-past, length-below, one_of}
+use Rattle.page_delta.proofs.Lookups.{find-below, find-past, length-below, one_of}
+use Rattle.format_spec.proofs.Lists.{cases_eqb}
 
 -- a root that is counted once is the root of one id
 pub alone : (xs : List (Option Node)) (ids : List (Option Root)) (id other : ℕ) (root root' : Root) → AreSound xs ids → root_at ids id ≡ Some root → root_at ids other ≡ Some root' → count_in (node_at xs root.node) ≡ 1 → other ≢ id → root'.node ≢ root.node
@@ -35,7 +36,7 @@ module _ (xs ys : List (Option Node)) (ids : List (Option Root)) (id page : ℕ)
   look_other q small ne = d.apart q (λ agrees. ne (sym (digits page q low small agrees)))
 
   pub put-found : (q : ℕ) → find q (pages_below ys root.node) ≡ cond (eqb q page) (Some entry) (find q (pages_below xs root.node))
-  put-found q = elim (decided q page) [
+  put-found q = elim (cases_eqb q page) [
     | inl h ↦ rw h.1 (ap (λ i. find i (pages_below ys root.node)) h.0 ∙ find-below ys root.node page low ∙ look_page)
     | inr h ↦ rw h.1 (elim (cases_lt q (2 ^ 20)) [
       | inl small ↦ find-below ys root.node q small ∙ look_other q small h.0 ∙ sym (find-below xs root.node q small)

@@ -126,7 +126,8 @@ module _ (nodes : List (Option Node)) (ids : List (Option Root)) (k : AreSound n
     | inr some ↦ rooted key some
   ]
 
-  pub looked : (n0 n1 n2 n3 d0 d1 d2 d3 : ℕ) (e : Entry) → d0 < 32 → d1 < 32 → d2 < 32 → d3 < 32 → entry_in (node_at nodes n0) d0 ≡ Some e → child_in (node_at nodes n1) d1 ≡ Some n0 → child_in (node_at nodes n2) d2 ≡ Some n1 → child_in (node_at nodes n3) d3 ≡ Some n2 → look 3 nodes (Some n3) (spell d3 d2 d1 d0) ≡ Some e
+  pub looked : (n0 n1 n2 n3 d0 d1 d2 d3 : ℕ) (e : Entry) → d0 < 32 → d1 < 32 → d2 < 32 → d3 < 32 → entry_in (node_at nodes n0) d0 ≡ Some e
+      → child_in (node_at nodes n1) d1 ≡ Some n0 → child_in (node_at nodes n2) d2 ≡ Some n1 → child_in (node_at nodes n3) d3 ≡ Some n2 → look 3 nodes (Some n3) (spell d3 d2 d1 d0) ≡ Some e
   unfolding spell
   looked n0 n1 n2 n3 d0 d1 d2 d3 e l0 l1 l2 l3 at c1 c2 c3 =
       let e0 : spell d3 d2 d1 d0 % 32 ≡ d0 = omega arith in

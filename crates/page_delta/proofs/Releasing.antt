@@ -13,6 +13,7 @@ use Rattle.page_delta.proofs.Sharing.{not-some, one-same, one-other, shared-reco
 use Rattle.page_delta.proofs.Looks.{look-agree, child-live}
 use Rattle.page_delta.proofs.Counting.{recounted-at, recounted-same, len-recounted}
 use Rattle.page_delta.proofs.Inserting.{counted-live}
+use Rattle.page_delta.proofs.Changes.{SameBut}
 
 other-test : (a b : ℕ) → a ≢ b → eqb a b ≡ false
 other-test a b ne = elim (cases_Bool (eqb a b)) [ inl h ↦ absurd (ne (eqb-true a b h)) | inr h ↦ h ]
@@ -85,7 +86,9 @@ looks-shrink xs ys counts hands loose a s level m q live =
     look-agree (λ i. IsSome (node_at ys i)) xs ys (λ i here d. (a.child i d here, a.entry i d here)) (λ i d t here e. child-live ys counts hands loose i d t s (a.child i d here ∙ e)) level m q live
 
 -- a node that is counted once is taken away
-pub shared-taken : (xs ys : List (Option Node)) (counts hands loose : ℕ → ℕ) (k : ℕ) (node : Node) → IsShared xs counts (λ m. hands m + once m (Some k)) loose → node_at xs k ≡ Some node → node_at ys k ≡ None → ((m : ℕ) → m ≢ k → node_at ys m ≡ node_at xs m) → count_in (node_at xs k) ≤ 1 → IsShared ys counts (λ m. hands m + names m (Some node)) (λ slot. loose slot + slots_in slot (Some node))
+pub shared-taken : (xs ys : List (Option Node)) (counts hands loose : ℕ → ℕ) (k : ℕ) (node : Node) → IsShared xs counts (λ m. hands m + once m (Some k)) loose
+    → node_at xs k ≡ Some node → node_at ys k ≡ None → SameBut k xs ys → count_in (node_at xs k) ≤ 1
+    → IsShared ys counts (λ m. hands m + names m (Some node)) (λ slot. loose slot + slots_in slot (Some node))
 shared-taken xs ys counts hands loose k node s here gone rest few =
     let pos = (in-hand xs counts hands loose k s).0 in
     let same : count_in (node_at xs k) ≡ count_in (Some node) = ap count_in here in
@@ -106,11 +109,13 @@ total-drop {X} w (x ∷ xs) (suc i) below =
     total-drop w xs i (omega arith) ∙ ap (λ n. w (get_or xs i None) + total w (drop n (x ∷ xs))) (sym e)
 
 -- one child after another is in hand, and released
-pub hand-over : (xs : List (Option Node)) (counts hands loose : ℕ → ℕ) (kids : List (Option ℕ)) (i child : ℕ) → i < length kids → get_or kids i None ≡ Some child → IsShared xs counts (λ m. hands m + total (once m) (drop i kids)) loose → IsShared xs counts (λ m. hands m + total (once m) (drop (i + 1) kids) + once m (Some child)) loose
+pub hand-over : (xs : List (Option Node)) (counts hands loose : ℕ → ℕ) (kids : List (Option ℕ)) (i child : ℕ) → i < length kids → get_or kids i None ≡ Some child
+    → IsShared xs counts (λ m. hands m + total (once m) (drop i kids)) loose → IsShared xs counts (λ m. hands m + total (once m) (drop (i + 1) kids) + once m (Some child)) loose
 hand-over xs counts hands loose kids i child below is s =
     shared-as xs counts (λ m. hands m + total (once m) (drop i kids)) (λ m. hands m + total (once m) (drop (i + 1) kids) + once m (Some child)) loose loose s (λ m. let t = total-drop (once m) kids i below in let o : once m (get_or kids i None) ≡ once m (Some child) = ap (once m) is in omega arith) (λ slot. refl)
 
-pub pass-over : (xs : List (Option Node)) (counts hands loose : ℕ → ℕ) (kids : List (Option ℕ)) (i : ℕ) → i < length kids → get_or kids i None ≡ None → IsShared xs counts (λ m. hands m + total (once m) (drop i kids)) loose → IsShared xs counts (λ m. hands m + total (once m) (drop (i + 1) kids)) loose
+pub pass-over : (xs : List (Option Node)) (counts hands loose : ℕ → ℕ) (kids : List (Option ℕ)) (i : ℕ) → i < length kids → get_or kids i None ≡ None
+    → IsShared xs counts (λ m. hands m + total (once m) (drop i kids)) loose → IsShared xs counts (λ m. hands m + total (once m) (drop (i + 1) kids)) loose
 pass-over xs counts hands loose kids i below is s =
     shared-as xs counts (λ m. hands m + total (once m) (drop i kids)) (λ m. hands m + total (once m) (drop (i + 1) kids)) loose loose s (λ m. let t = total-drop (once m) kids i below in let o : once m (get_or kids i None) ≡ 0 = ap (once m) is in omega arith) (λ slot. refl)
 
@@ -125,6 +130,8 @@ all-over xs counts hands loose kids i past s =
     none-left w (x ∷ xs) (suc i) past = none-left w xs i (omega arith)
 
 -- a child of the node that was taken is one level below it
-pub child-level : (xs now : List (Option Node)) (counts hands loose counts' hands' loose' : ℕ → ℕ) (k c l i child : ℕ) (kids : List (Option ℕ)) → IsShared xs counts hands loose → node_at xs k ≡ Some (Branch c l kids) → get_or kids i None ≡ Some child → Shrinks xs now → IsShared now counts' (λ m. hands' m + once m (Some child)) loose' → level_in (node_at xs k) ≡ level_in (node_at now child) + 1
+pub child-level : (xs now : List (Option Node)) (counts hands loose counts' hands' loose' : ℕ → ℕ) (k c l i child : ℕ) (kids : List (Option ℕ))
+    → IsShared xs counts hands loose → node_at xs k ≡ Some (Branch c l kids) → get_or kids i None ≡ Some child → Shrinks xs now
+    → IsShared now counts' (λ m. hands' m + once m (Some child)) loose' → level_in (node_at xs k) ≡ level_in (node_at now child) + 1
 child-level xs now counts hands loose counts' hands' loose' k c l i child kids s here is shrinks t =
     s.steps k i child (ap (λ o. child_in o i) here ∙ is) ∙ ap (λ n. n + 1) (sym (shrinks.level child (in-hand now counts' hands' loose' child t).1))

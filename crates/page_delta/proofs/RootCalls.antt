@@ -1,5 +1,5 @@
 -- Ids made and dropped.
-use Rattle.std.proofs.Common.{◌≡◌, ◌≢◌, inl, inr, ℕ, zero, suc, ◌+◌, ◌/◌, ◌%◌, ◌^◌, ◌≤◌, List, [], length, set, Option, Some, None, IsSome, is_some, count_by, cond, eqb, refl, sym, ap, subst, ◌∙◌, arith}
+use Rattle.std.proofs.Common.{[], ◌≡◌, ◌≢◌, inl, inr, ℕ, zero, suc, ◌+◌, ◌/◌, ◌%◌, ◌^◌, ◌≤◌, List, length, set, Option, Some, None, IsSome, is_some, count_by, cond, eqb, refl, sym, ap, subst, ◌∙◌, arith}
 use Rattle.std.proofs.lemmas.Bool.{cases_eq, eq-eqb}
 use Rattle.page_pool.specs.Pool.{Pool, count_at}
 use Rattle.page_delta.specs.Totals.{total}
@@ -15,10 +15,12 @@ use Rattle.page_delta.proofs.Sharing.{some-none, not-some, cases-option, some-li
 use Rattle.page_delta.proofs.Looks.{looks-recounted, looks-insert}
 use Rattle.page_delta.proofs.Counting.{recounted-at, recounted-same, len-recounted, other-test}
 use Rattle.page_delta.proofs.Places.{placed-next, places-put, places-recounted, places-shrink}
-use Rattle.page_delta.proofs.Owning.{IsEmpty, is_empty, names-child}
+use Rattle.page_delta.proofs.Owning.{stands-empty, IsEmpty, is_empty, names-child}
 use Rattle.page_delta.proofs.Inserting.{high-live, counted-live}
 use Rattle.page_delta.proofs.Releasing.{looks-shrink}
-use Rattle.page_delta.proofs.Rooted.{Follows, follows-map, kept-live, kept-next, pages-same, shared-self, shared-with, some-eq}
+use Rattle.page_delta.proofs.Rooted.{Follows, follows-map, kept-live, kept-next, pages-same, shared-self, shared-with}
+use Rattle.std.proofs.lemmas.Option.{same_Some}
+use Rattle.page_delta.proofs.Changes.{Puts}
 
 pairs-none : (n start : ℕ) (f : ℕ → Option Entry) → ((k : ℕ) → f k ≡ None) → pairs_from n start f ≡ []
 unfolding pairs_from
@@ -75,7 +77,7 @@ module _ (ids ids' : List (Option Root)) (id : ℕ) (root : Root) (a : Added ids
         → (level_in (node_at ys r.node) ≡ 3) × (r.pages ≡ length (pages_below ys r.node))
     fields other r e = elim (cases_eq other id) [
       | inl same ↦
-          let eq : root ≡ r = some-eq root r (sym a.here ∙ ap (λ i. root_at ids' i) (sym same) ∙ e) in
+          let eq : root ≡ r = same_Some root r (sym a.here ∙ ap (λ i. root_at ids' i) (sym same) ∙ e) in
           subst (λ (r : Root). (level_in (node_at ys r.node) ≡ 3) × (r.pages ≡ length (pages_below ys r.node))) eq (n.top, n.size)
       | inr ne ↦
           let old : root_at ids other ≡ Some r = sym (a.rest other ne) ∙ e in (
@@ -114,9 +116,7 @@ module _ (ids ids' : List (Option Root)) (id : ℕ) (root : Root) (a : Added ids
 pub record PutsEmpty (xs ys : List (Option Node)) (key : ℕ) (node : Node) (level : ℕ) : Type 0 where
   pub flat : level ≤ 3
   pub empty : IsEmpty node level
-  pub gone : node_at xs key ≡ None
-  pub here : node_at ys key ≡ Some node
-  pub rest : (m : ℕ) → m ≢ key → node_at ys m ≡ node_at xs m
+  pub puts : Puts xs ys key node
 
 -- where the memory was made room in before
 pub puts-empty : (xs mid ys : List (Option Node)) (key : ℕ) (node : Node) (level : ℕ) → level ≤ 3 → mid ≡ xs → node ≡ empty_node level
@@ -125,9 +125,11 @@ pub puts-empty : (xs mid ys : List (Option Node)) (key : ℕ) (node : Node) (lev
 puts-empty xs mid ys key node level flat same is gone here rest = record {
   flat = flat;
   empty = subst (λ n. IsEmpty n level) (sym is) (is_empty level);
-  gone = sym (ap (λ (n : List (Option Node)). node_at n key) same) ∙ gone;
-  here = here;
-  rest = λ m ne. rest m ne ∙ ap (λ (n : List (Option Node)). node_at n m) same;
+  puts = record {
+    gone = sym (ap (λ (n : List (Option Node)). node_at n key) same) ∙ gone;
+    here = here;
+    rest = λ m ne. rest m ne ∙ ap (λ (n : List (Option Node)). node_at n m) same;
+  };
 }
 
 module _ (xs ys : List (Option Node)) (key : ℕ) (node : Node) (level : ℕ) (p : PutsEmpty xs ys key node level) where
@@ -136,30 +138,29 @@ module _ (xs ys : List (Option Node)) (key : ℕ) (node : Node) (level : ℕ) (p
       shared-insert xs ys counts hands loose key node
       (shared-as xs counts hands (λ m. hands m + names m (Some node)) loose (λ slot. loose slot + slots_in slot (Some node)) s
       (λ m. let z = p.empty.names_none m in omega arith) (λ slot. let z = p.empty.slots_none slot in omega arith))
-      p.gone p.here p.rest p.empty.count (λ e c is. absurd (some-none c (sym is ∙ p.empty.child e))) p.empty.tall p.empty.wide
-      (let l = p.empty.level_is in let f = p.flat in omega arith)
+      p.puts (stands-empty xs node level p.empty p.flat)
 
   pub looks-empty : (q : ℕ) → look 3 ys (Some key) q ≡ None
-  looks-empty q = ap (λ (o : Option ℕ). look 2 ys o q) (ap (λ o. child_in o ((q / 32768) % 32)) p.here ∙ p.empty.child ((q / 32768) % 32))
+  looks-empty q = ap (λ (o : Option ℕ). look 2 ys o q) (ap (λ o. child_in o ((q / 32768) % 32)) p.puts.here ∙ p.empty.child ((q / 32768) % 32))
 
   pub level-empty : level_in (node_at ys key) ≡ level
-  level-empty = ap level_in p.here ∙ p.empty.level_is
+  level-empty = ap level_in p.puts.here ∙ p.empty.level_is
 
   pub held-empty : (slot : ℕ) → total (slots_in slot) ys ≡ total (slots_in slot) xs
   held-empty slot =
-      let moved = total-moved (slots_in slot) refl xs ys key (λ k ne. ap (slots_in slot) (p.rest k ne)) in
-      let a : slots_in slot (node_at xs key) ≡ 0 = ap (slots_in slot) p.gone in
-      let b : slots_in slot (node_at ys key) ≡ 0 = ap (slots_in slot) p.here ∙ p.empty.slots_none slot in
+      let moved = total-moved (slots_in slot) refl xs ys key (λ k ne. ap (slots_in slot) (p.puts.rest k ne)) in
+      let a : slots_in slot (node_at xs key) ≡ 0 = ap (slots_in slot) p.puts.gone in
+      let b : slots_in slot (node_at ys key) ≡ 0 = ap (slots_in slot) p.puts.here ∙ p.empty.slots_none slot in
       omega arith
 
   pub places-empty : KeepsPlaces xs ys
-  places-empty = places-put xs ys key node p.empty.entry p.here p.rest
+  places-empty = places-put xs ys key node p.empty.entry p.puts.here p.puts.rest
 
   pub level-rest : (m : ℕ) → IsSome (node_at xs m) → level_in (node_at ys m) ≡ level_in (node_at xs m)
-  level-rest m live = ap level_in (p.rest m (λ e. not-some (node_at xs m) (ap (λ i. node_at xs i) e ∙ p.gone) live))
+  level-rest m live = ap level_in (p.puts.rest m (λ e. not-some (node_at xs m) (ap (λ i. node_at xs i) e ∙ p.puts.gone) live))
 
   pub looks-rest : (counts hands loose : ℕ → ℕ) → IsShared xs counts hands loose → SameLooks xs ys
-  looks-rest counts hands loose s = looks-insert xs ys counts hands loose key s p.gone p.rest
+  looks-rest counts hands loose s = looks-insert xs ys counts hands loose key s p.puts.gone p.puts.rest
 
 -- an id has an empty tree
 pub root-empty : (ids ids' : List (Option Root)) (id : ℕ) (root : Root) (xs ys : List (Option Node)) (node : Node)

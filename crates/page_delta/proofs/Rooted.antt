@@ -15,6 +15,7 @@ use Rattle.page_delta.proofs.Sums.{total-moved, present, total-present}
 use Rattle.page_delta.proofs.Sharing.{cases-option, some-live, not-some, one, shared-counts}
 use Rattle.page_delta.proofs.Looks.{child-live}
 use Rattle.page_delta.proofs.Inserting.{high-live}
+use Rattle.std.proofs.lemmas.Option.{same_Some}
 
 pub pairs-congr : (n start : ℕ) (f g : ℕ → Option Entry) → ((k : ℕ) → f k ≡ g k) → pairs_from n start f ≡ pairs_from n start g
 unfolding pairs_from
@@ -56,7 +57,8 @@ pub record Follows (xs ys : List (Option Node)) (before now : Root) : Type 0 whe
   pub top : level_in (node_at ys now.node) ≡ 3
   pub looks : (q : ℕ) → look 3 ys (Some now.node) q ≡ look 3 xs (Some before.node) q
 
-pub kept-next : (xs ys : List (Option Node)) (ids ids' : List (Option Root)) (counts loose : ℕ → ℕ) → AreSound xs ids → IsShared ys counts (λ key. total (roots key) ids') loose → ((id : ℕ) (now : Root) → root_at ids' id ≡ Some now → (before : Root) × (root_at ids id ≡ Some before) × Follows xs ys before now) → IsPlaced ys → count_by is_some ys ≤ 2 ^ 26 → count_by is_some ids' ≤ 2 ^ 31 → AreSound ys ids'
+pub kept-next : (xs ys : List (Option Node)) (ids ids' : List (Option Root)) (counts loose : ℕ → ℕ) → AreSound xs ids → IsShared ys counts (λ key. total (roots key) ids') loose
+    → ((id : ℕ) (now : Root) → root_at ids' id ≡ Some now → (before : Root) × (root_at ids id ≡ Some before) × Follows xs ys before now) → IsPlaced ys → count_by is_some ys ≤ 2 ^ 26 → count_by is_some ids' ≤ 2 ^ 31 → AreSound ys ids'
 kept-next xs ys ids ids' counts loose k s follows placed few few_ids = record {
   shared = shared-self ys counts (λ key. total (roots key) ids') loose s;
   placed = placed;
@@ -102,21 +104,24 @@ module _ (ids : List (Option Root)) (id : ℕ) (before now : Root) (is : root_at
       let c = total-present ids in let d = total-present replaced in
       omega arith
 
-pub some-eq : (a b : Root) → Some a ≡ Some b → a ≡ b
-some-eq a b e = cc
+-- what all other ids have stays
+abbrev OthersFollow : List (Option Node) → List (Option Node) → List (Option Root) → ℕ → Type 0
+OthersFollow xs ys ids id = (other : ℕ) (root : Root) → other ≢ id → root_at ids other ≡ Some root → Follows xs ys root root
 
 -- the ids are the same but for one
-pub follows-replaced : (xs ys : List (Option Node)) (ids : List (Option Root)) (id : ℕ) (before now : Root) (is : root_at ids id ≡ Some before) → AreSound xs ids → Follows xs ys before now → ((other : ℕ) (root : Root) → other ≢ id → root_at ids other ≡ Some root → Follows xs ys root root) → (other : ℕ) (root : Root) → root_at (set ids id (Some now)) other ≡ Some root → (was : Root) × (root_at ids other ≡ Some was) × Follows xs ys was root
+pub follows-replaced : (xs ys : List (Option Node)) (ids : List (Option Root)) (id : ℕ) (before now : Root) (is : root_at ids id ≡ Some before) → AreSound xs ids → Follows xs ys before now → OthersFollow xs ys ids id
+    → (other : ℕ) (root : Root) → root_at (set ids id (Some now)) other ≡ Some root → (was : Root) × (root_at ids other ≡ Some was) × Follows xs ys was root
 follows-replaced xs ys ids id before now is k mine rest other root e = elim (cases_eq other id) [
   | inl same ↦
-      let eq : now ≡ root = some-eq now root (sym (replaced-here ids id before now is) ∙ ap (λ i. root_at (set ids id (Some now)) i) (sym same) ∙ e) in
+      let eq : now ≡ root = same_Some now root (sym (replaced-here ids id before now is) ∙ ap (λ i. root_at (set ids id (Some now)) i) (sym same) ∙ e) in
       (before, ap (λ i. root_at ids i) same ∙ is, subst (λ r. Follows xs ys before r) eq mine)
   | inr ne ↦
       let old : root_at ids other ≡ Some root = sym (replaced-there ids id before now is other ne) ∙ e in
       (root, old, rest other root ne old)
 ]
 
-pub maps-replaced : (xs ys : List (Option Node)) (ids : List (Option Root)) (id : ℕ) (before now : Root) (is : root_at ids id ≡ Some before) → AreSound xs ids → Follows xs ys before now → ((other : ℕ) (root : Root) → other ≢ id → root_at ids other ≡ Some root → Follows xs ys root root) → (other : ℕ) → map_below ys (root_at (set ids id (Some now)) other) ≡ map_below xs (root_at ids other)
+pub maps-replaced : (xs ys : List (Option Node)) (ids : List (Option Root)) (id : ℕ) (before now : Root) (is : root_at ids id ≡ Some before) → AreSound xs ids → Follows xs ys before now → OthersFollow xs ys ids id
+    → (other : ℕ) → map_below ys (root_at (set ids id (Some now)) other) ≡ map_below xs (root_at ids other)
 maps-replaced xs ys ids id before now is k mine rest other = elim (cases_eq other id) [
   | inl same ↦ ap (map_below ys) (ap (λ i. root_at (set ids id (Some now)) i) same ∙ replaced-here ids id before now is) ∙ follows-map xs ys before now mine ∙ sym (ap (map_below xs) (ap (λ i. root_at ids i) same ∙ is))
   | inr ne ↦ ap (map_below ys) (replaced-there ids id before now is other ne) ∙ elim (cases-option (root_at ids other)) [

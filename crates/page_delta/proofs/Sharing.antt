@@ -10,6 +10,7 @@ use Rattle.page_delta.specs.declared.entry.Entry.{Entry}
 use Rattle.page_delta.specs.declared.node.Node.{Node}
 use Rattle.page_delta.specs.declared.node.Node.TheVariants.{Branch, Leaf}
 use Rattle.page_delta.proofs.Sums.{total-same, total-moved, total-has}
+use Rattle.page_delta.proofs.Changes.{NodeList, Recounts, SameBut, Puts, MayStand, SetsChild, SetsEntry}
 
 pub some-none : {X : Type 0} (x : X) → Some x ≡ None → ⊥
 some-none x e = cc
@@ -66,11 +67,15 @@ width-recounted (Some (Leaf b es)) c node e =
     (Leaf b es, refl, ap width (let same : node ≡ Leaf c es = cc in same))
 
 -- counts change, and what is in hand with them
-pub shared-recounted : (xs ys : List (Option Node)) (counts hands hands' loose now : ℕ → ℕ) → IsShared xs counts hands loose → ((m : ℕ) → node_at ys m ≡ node_with_count (node_at xs m) (now m)) → ((m : ℕ) → IsSome (node_at xs m) → now m + hands m ≡ count_in (node_at xs m) + hands' m) → ((m : ℕ) → node_at xs m ≡ None → hands' m ≡ 0) → ((m : ℕ) → IsSome (node_at xs m) → 0 < now m) → IsShared ys counts hands' loose
+pub shared-recounted : (xs ys : List (Option Node)) (counts hands hands' loose now : ℕ → ℕ) → IsShared xs counts hands loose → Recounts xs ys now
+    → ((m : ℕ) → IsSome (node_at xs m) → now m + hands m ≡ count_in (node_at xs m) + hands' m) → ((m : ℕ) → node_at xs m ≡ None → hands' m ≡ 0)
+    → ((m : ℕ) → IsSome (node_at xs m) → 0 < now m) → IsShared ys counts hands' loose
 shared-recounted xs ys counts hands hands' loose now s each moved none some =
     let names_same : (m : ℕ) → total (names m) ys ≡ total (names m) xs = λ m. total-same (names m) refl xs ys (λ k. ap (names m) (each k) ∙ names-recounted m (node_at xs k) (now k)) in
     record {
-      steps = λ key d child e. ap level_in (each key) ∙ level-recounted (node_at xs key) (now key) ∙ s.steps key d child (sym (ap (λ o. child_in o d) (each key) ∙ child-recounted (node_at xs key) (now key) d) ∙ e) ∙ ap (λ n. n + 1) (sym (ap level_in (each child) ∙ level-recounted (node_at xs child) (now child)));
+      steps = λ key d child e.
+          let old = sym (ap (λ o. child_in o d) (each key) ∙ child-recounted (node_at xs key) (now key) d) ∙ e in
+          ap level_in (each key) ∙ level-recounted (node_at xs key) (now key) ∙ s.steps key d child old ∙ ap (λ n. n + 1) (sym (ap level_in (each child) ∙ level-recounted (node_at xs child) (now child)));
       tall = λ key count level kids e. let old = branch-recounted (node_at xs key) (now key) count level kids (sym (each key) ∙ e) in s.tall key old.0 level kids old.1;
       wide = λ key node e. let old = width-recounted (node_at xs key) (now key) node (sym (each key) ∙ e) in old.2 ∙ s.wide key old.0 old.1;
       flat = λ key. let same = ap level_in (each key) ∙ level-recounted (node_at xs key) (now key) in let low = s.flat key in omega arith;
@@ -129,69 +134,69 @@ fresh-not-named xs counts hands loose key s gone =
     let count = s.counted key in let zero : count_in (node_at xs key) ≡ 0 = ap count_in gone in (omega arith, omega arith)
 
 -- what the places of a new node name is handed to it
-module _ (xs ys : List (Option Node)) (counts hands loose : ℕ → ℕ) (key : ℕ) (node : Node) (s : IsShared xs counts (λ m. hands m + names m (Some node)) (λ slot. loose slot + slots_in slot (Some node))) (gone : node_at xs key ≡ None) (here : node_at ys key ≡ Some node) (rest : (k : ℕ) → k ≢ key → node_at ys k ≡ node_at xs k) (counted_once : count_in (Some node) ≡ 1) (step : (d c : ℕ) → child_in (Some node) d ≡ Some c → level_in (Some node) ≡ level_in (node_at xs c) + 1) (high : (count level : ℕ) (kids : List (Option ℕ)) → node ≡ Branch count level kids → 0 < level) (broad : width node ≡ 32) (below_top : level_in (Some node) ≤ 3) where
+module _ (xs ys : NodeList) (counts hands loose : ℕ → ℕ) (key : ℕ) (node : Node) (s : IsShared xs counts (λ m. hands m + names m (Some node)) (λ slot. loose slot + slots_in slot (Some node))) (puts : Puts xs ys key node) (may : MayStand xs node) where
   not_named : (hands key + names key (Some node) ≡ 0) × (total (names key) xs ≡ 0)
-  not_named = fresh-not-named xs counts (λ m. hands m + names m (Some node)) (λ slot. loose slot + slots_in slot (Some node)) key s gone
+  not_named = fresh-not-named xs counts (λ m. hands m + names m (Some node)) (λ slot. loose slot + slots_in slot (Some node)) key s puts.gone
 
   level_kept : (d c k : ℕ) → child_in (node_at xs k) d ≡ Some c → level_in (node_at ys c) ≡ level_in (node_at xs c)
-  level_kept d c k e = ap level_in (rest c (λ same. let pos = named xs k d c e in let zero : total (names c) xs ≡ 0 = ap (λ m. total (names m) xs) same ∙ not_named.1 in omega arith))
+  level_kept d c k e = ap level_in (puts.rest c (λ same. let pos = named xs k d c e in let zero : total (names c) xs ≡ 0 = ap (λ m. total (names m) xs) same ∙ not_named.1 in omega arith))
 
   level_mine : (d c : ℕ) → child_in (Some node) d ≡ Some c → level_in (node_at ys c) ≡ level_in (node_at xs c)
-  level_mine d c e = ap level_in (rest c (λ same. let pos = child-named (Some node) d c e in let zero : hands c + names c (Some node) ≡ 0 = ap (λ m. hands m + names m (Some node)) same ∙ not_named.0 in omega arith))
+  level_mine d c e = ap level_in (puts.rest c (λ same. let pos = child-named (Some node) d c e in let zero : hands c + names c (Some node) ≡ 0 = ap (λ m. hands m + names m (Some node)) same ∙ not_named.0 in omega arith))
 
   pub shared-insert : IsShared ys counts (λ m. hands m + one key m) loose
   shared-insert = record {
     steps = λ k d c e. elim (cases_eq k key) [
       | inl same ↦
-          let mine : child_in (Some node) d ≡ Some c = sym (ap (λ o. child_in o d) (ap (λ i. node_at ys i) same ∙ here)) ∙ e in
-          ap level_in (ap (λ i. node_at ys i) same ∙ here) ∙ step d c mine ∙ ap (λ n. n + 1) (sym (level_mine d c mine))
+          let mine : child_in (Some node) d ≡ Some c = sym (ap (λ o. child_in o d) (ap (λ i. node_at ys i) same ∙ puts.here)) ∙ e in
+          ap level_in (ap (λ i. node_at ys i) same ∙ puts.here) ∙ may.step d c mine ∙ ap (λ n. n + 1) (sym (level_mine d c mine))
       | inr ne ↦
-          let old : child_in (node_at xs k) d ≡ Some c = sym (ap (λ o. child_in o d) (rest k ne)) ∙ e in
-          ap level_in (rest k ne) ∙ s.steps k d c old ∙ ap (λ n. n + 1) (sym (level_kept d c k old))
+          let old : child_in (node_at xs k) d ≡ Some c = sym (ap (λ o. child_in o d) (puts.rest k ne)) ∙ e in
+          ap level_in (puts.rest k ne) ∙ s.steps k d c old ∙ ap (λ n. n + 1) (sym (level_kept d c k old))
     ];
     tall = λ k count level kids e. elim (cases_eq k key) [
-      | inl same ↦ high count level kids (let both : Some node ≡ Some (Branch count level kids) = sym (ap (λ i. node_at ys i) same ∙ here) ∙ e in cc)
-      | inr ne ↦ s.tall k count level kids (sym (rest k ne) ∙ e)
+      | inl same ↦ may.high count level kids (let both : Some node ≡ Some (Branch count level kids) = sym (ap (λ i. node_at ys i) same ∙ puts.here) ∙ e in cc)
+      | inr ne ↦ s.tall k count level kids (sym (puts.rest k ne) ∙ e)
     ];
     wide = λ k n e. elim (cases_eq k key) [
-      | inl same ↦ ap width (let both : Some n ≡ Some node = sym e ∙ ap (λ i. node_at ys i) same ∙ here in let eq : n ≡ node = cc in eq) ∙ broad
-      | inr ne ↦ s.wide k n (sym (rest k ne) ∙ e)
+      | inl same ↦ ap width (let both : Some n ≡ Some node = sym e ∙ ap (λ i. node_at ys i) same ∙ puts.here in let eq : n ≡ node = cc in eq) ∙ may.wide
+      | inr ne ↦ s.wide k n (sym (puts.rest k ne) ∙ e)
     ];
     flat = λ k. elim (cases_eq k key) [
-      | inl same ↦ let is : level_in (node_at ys k) ≡ level_in (Some node) = ap level_in (ap (λ i. node_at ys i) same ∙ here) in omega arith
-      | inr ne ↦ let is : level_in (node_at ys k) ≡ level_in (node_at xs k) = ap level_in (rest k ne) in let low = s.flat k in omega arith
+      | inl same ↦ let is : level_in (node_at ys k) ≡ level_in (Some node) = ap level_in (ap (λ i. node_at ys i) same ∙ puts.here) in omega (arith, may.flat)
+      | inr ne ↦ let is : level_in (node_at ys k) ≡ level_in (node_at xs k) = ap level_in (puts.rest k ne) in let low = s.flat k in omega arith
     ];
     alive = λ k live. elim (cases_eq k key) [
-      | inl same ↦ let is : count_in (node_at ys k) ≡ 1 = ap count_in (ap (λ i. node_at ys i) same ∙ here) ∙ counted_once in omega arith
-      | inr ne ↦ let is : count_in (node_at ys k) ≡ count_in (node_at xs k) = ap count_in (rest k ne) in let pos = s.alive k (subst (λ (o : Option Node). IsSome o) (rest k ne) live) in omega arith
+      | inl same ↦ let is : count_in (node_at ys k) ≡ 1 = ap count_in (ap (λ i. node_at ys i) same ∙ puts.here) ∙ may.once in omega arith
+      | inr ne ↦ let is : count_in (node_at ys k) ≡ count_in (node_at xs k) = ap count_in (puts.rest k ne) in let pos = s.alive k (subst (λ (o : Option Node). IsSome o) (puts.rest k ne) live) in omega arith
     ];
     counted = λ m.
         let before = s.counted m in
-        let moved = total-moved (names m) refl xs ys key (λ k ne. ap (names m) (rest k ne)) in
-        let was : names m (node_at xs key) ≡ 0 = ap (names m) gone in
-        let is : names m (node_at ys key) ≡ names m (Some node) = ap (names m) here in
+        let moved = total-moved (names m) refl xs ys key (λ k ne. ap (names m) (puts.rest k ne)) in
+        let was : names m (node_at xs key) ≡ 0 = ap (names m) puts.gone in
+        let is : names m (node_at ys key) ≡ names m (Some node) = ap (names m) puts.here in
         elim (cases_eq m key) [
           | inl same ↦
               let one_is = one-same key m same in
               let zero : hands m + names m (Some node) ≡ 0 = ap (λ i. hands i + names i (Some node)) same ∙ not_named.0 in
               let none : total (names m) xs ≡ 0 = ap (λ i. total (names i) xs) same ∙ not_named.1 in
-              let count : count_in (node_at ys m) ≡ 1 = ap count_in (ap (λ i. node_at ys i) same ∙ here) ∙ counted_once in
+              let count : count_in (node_at ys m) ≡ 1 = ap count_in (ap (λ i. node_at ys i) same ∙ puts.here) ∙ may.once in
               omega arith
           | inr ne ↦
               let one_is = one-other key m ne in
-              let count : count_in (node_at ys m) ≡ count_in (node_at xs m) = ap count_in (rest m ne) in
+              let count : count_in (node_at ys m) ≡ count_in (node_at xs m) = ap count_in (puts.rest m ne) in
               omega arith
         ];
     held = λ slot.
         let before = s.held slot in
-        let moved = total-moved (slots_in slot) refl xs ys key (λ k ne. ap (slots_in slot) (rest k ne)) in
-        let was : slots_in slot (node_at xs key) ≡ 0 = ap (slots_in slot) gone in
-        let is : slots_in slot (node_at ys key) ≡ slots_in slot (Some node) = ap (slots_in slot) here in
+        let moved = total-moved (slots_in slot) refl xs ys key (λ k ne. ap (slots_in slot) (puts.rest k ne)) in
+        let was : slots_in slot (node_at xs key) ≡ 0 = ap (slots_in slot) puts.gone in
+        let is : slots_in slot (node_at ys key) ≡ slots_in slot (Some node) = ap (slots_in slot) puts.here in
         omega arith;
   }
 
 -- a node that is counted once, in hand, is removed: what its places name is in hand
-module _ (xs ys : List (Option Node)) (counts hands loose : ℕ → ℕ) (key : ℕ) (node : Node) (s : IsShared xs counts (λ m. hands m + one key m) loose) (here : node_at xs key ≡ Some node) (gone : node_at ys key ≡ None) (rest : (k : ℕ) → k ≢ key → node_at ys k ≡ node_at xs k) (counted_once : count_in (Some node) ≡ 1) where
+module _ (xs ys : NodeList) (counts hands loose : ℕ → ℕ) (key : ℕ) (node : Node) (s : IsShared xs counts (λ m. hands m + one key m) loose) (here : node_at xs key ≡ Some node) (gone : node_at ys key ≡ None) (rest : SameBut key xs ys) (counted_once : count_in (Some node) ≡ 1) where
   not_else : (hands key ≡ 0) × (total (names key) xs ≡ 0)
   not_else =
       let count = s.counted key in
@@ -251,123 +256,123 @@ module _ (xs ys : List (Option Node)) (counts hands loose : ℕ → ℕ) (key : 
   }
 
 -- a node in hand becomes the child of a branch, and the child before is in hand
-module _ (xs ys : List (Option Node)) (counts hands loose : ℕ → ℕ) (key count level d child : ℕ) (kids : List (Option ℕ)) (s : IsShared xs counts (λ m. hands m + one child m) loose) (here : node_at xs key ≡ Some (Branch count level kids)) (now : node_at ys key ≡ Some (Branch count level (set kids d (Some child)))) (rest : (k : ℕ) → k ≢ key → node_at ys k ≡ node_at xs k) (below : d < length kids) (fits : level ≡ level_in (node_at xs child) + 1) where
+module _ (xs ys : NodeList) (counts hands loose : ℕ → ℕ) (key count level d child : ℕ) (kids : List (Option ℕ)) (s : IsShared xs counts (λ m. hands m + one child m) loose) (sets : SetsChild xs ys key count level d child kids) (fits : level ≡ level_in (node_at xs child) + 1) where
   level_same : (m : ℕ) → level_in (node_at ys m) ≡ level_in (node_at xs m)
   level_same m = elim (cases_eq m key) [
-    | inl same ↦ ap level_in (ap (λ i. node_at ys i) same ∙ now) ∙ sym (ap level_in (ap (λ i. node_at xs i) same ∙ here))
-    | inr ne ↦ ap level_in (rest m ne)
+    | inl same ↦ ap level_in (ap (λ i. node_at ys i) same ∙ sets.now) ∙ sym (ap level_in (ap (λ i. node_at xs i) same ∙ sets.here))
+    | inr ne ↦ ap level_in (sets.rest m ne)
   ]
 
   pub shared-link : IsShared ys counts (λ m. hands m + once m (get_or kids d None)) loose
   shared-link = record {
     steps = λ k e c is. elim (cases_eq k key) [
       | inl same ↦
-          let mine : get_or (set kids d (Some child)) e None ≡ Some c = sym (ap (λ o. child_in o e) (ap (λ i. node_at ys i) same ∙ now)) ∙ is in
-          let level_is : level_in (node_at ys k) ≡ level = ap level_in (ap (λ i. node_at ys i) same ∙ now) in
+          let mine : get_or (set kids d (Some child)) e None ≡ Some c = sym (ap (λ o. child_in o e) (ap (λ i. node_at ys i) same ∙ sets.now)) ∙ is in
+          let level_is : level_in (node_at ys k) ≡ level = ap level_in (ap (λ i. node_at ys i) same ∙ sets.now) in
           elim (cases_eq e d) [
             | inl at ↦
-                let eq : child ≡ c = (let both : Some child ≡ Some c = sym (ap (λ i. get_or (set kids d (Some child)) i None) at ∙ get_or-set_same kids d (Some child) None below) ∙ mine in cc) in
+                let eq : child ≡ c = (let both : Some child ≡ Some c = sym (ap (λ i. get_or (set kids d (Some child)) i None) at ∙ get_or-set_same kids d (Some child) None sets.below) ∙ mine in cc) in
                 level_is ∙ fits ∙ ap (λ n. level_in (node_at xs n) + 1) eq ∙ ap (λ n. n + 1) (sym (level_same c))
             | inr far ↦
-                let old : child_in (node_at xs key) e ≡ Some c = ap (λ o. child_in o e) here ∙ sym (get_or-set_other kids d e (Some child) None far) ∙ mine in
-                level_is ∙ sym (ap level_in here) ∙ s.steps key e c old ∙ ap (λ n. n + 1) (sym (level_same c))
+                let old : child_in (node_at xs key) e ≡ Some c = ap (λ o. child_in o e) sets.here ∙ sym (get_or-set_other kids d e (Some child) None far) ∙ mine in
+                level_is ∙ sym (ap level_in sets.here) ∙ s.steps key e c old ∙ ap (λ n. n + 1) (sym (level_same c))
           ]
       | inr ne ↦
-          let old : child_in (node_at xs k) e ≡ Some c = sym (ap (λ o. child_in o e) (rest k ne)) ∙ is in
-          ap level_in (rest k ne) ∙ s.steps k e c old ∙ ap (λ n. n + 1) (sym (level_same c))
+          let old : child_in (node_at xs k) e ≡ Some c = sym (ap (λ o. child_in o e) (sets.rest k ne)) ∙ is in
+          ap level_in (sets.rest k ne) ∙ s.steps k e c old ∙ ap (λ n. n + 1) (sym (level_same c))
     ];
     tall = λ k n l ks e. elim (cases_eq k key) [
       | inl same ↦
-          let both : Some (Branch count level (set kids d (Some child))) ≡ Some (Branch n l ks) = sym (ap (λ i. node_at ys i) same ∙ now) ∙ e in
-          let eq : level ≡ l = cc in subst (λ i. 0 < i) eq (s.tall key count level kids here)
-      | inr ne ↦ s.tall k n l ks (sym (rest k ne) ∙ e)
+          let both : Some (Branch count level (set kids d (Some child))) ≡ Some (Branch n l ks) = sym (ap (λ i. node_at ys i) same ∙ sets.now) ∙ e in
+          let eq : level ≡ l = cc in subst (λ i. 0 < i) eq (s.tall key count level kids sets.here)
+      | inr ne ↦ s.tall k n l ks (sym (sets.rest k ne) ∙ e)
     ];
     wide = λ k n e. elim (cases_eq k key) [
       | inl same ↦
-          let both : Some n ≡ Some (Branch count level (set kids d (Some child))) = sym e ∙ ap (λ i. node_at ys i) same ∙ now in
+          let both : Some n ≡ Some (Branch count level (set kids d (Some child))) = sym e ∙ ap (λ i. node_at ys i) same ∙ sets.now in
           let eq : n ≡ Branch count level (set kids d (Some child)) = cc in
-          ap width eq ∙ length-set kids d (Some child) ∙ s.wide key (Branch count level kids) here
-      | inr ne ↦ s.wide k n (sym (rest k ne) ∙ e)
+          ap width eq ∙ length-set kids d (Some child) ∙ s.wide key (Branch count level kids) sets.here
+      | inr ne ↦ s.wide k n (sym (sets.rest k ne) ∙ e)
     ];
     flat = λ k. let is = level_same k in let low = s.flat k in omega arith;
     alive = λ k live. elim (cases_eq k key) [
       | inl same ↦
-          let is : count_in (node_at ys k) ≡ count_in (node_at xs k) = ap count_in (ap (λ i. node_at ys i) same ∙ now) ∙ sym (ap count_in (ap (λ i. node_at xs i) same ∙ here)) in
-          let pos = s.alive k (some-live (node_at xs k) (Branch count level kids) (ap (λ i. node_at xs i) same ∙ here)) in omega arith
-      | inr ne ↦ let is : count_in (node_at ys k) ≡ count_in (node_at xs k) = ap count_in (rest k ne) in let pos = s.alive k (subst (λ (o : Option Node). IsSome o) (rest k ne) live) in omega arith
+          let is : count_in (node_at ys k) ≡ count_in (node_at xs k) = ap count_in (ap (λ i. node_at ys i) same ∙ sets.now) ∙ sym (ap count_in (ap (λ i. node_at xs i) same ∙ sets.here)) in
+          let pos = s.alive k (some-live (node_at xs k) (Branch count level kids) (ap (λ i. node_at xs i) same ∙ sets.here)) in omega arith
+      | inr ne ↦ let is : count_in (node_at ys k) ≡ count_in (node_at xs k) = ap count_in (sets.rest k ne) in let pos = s.alive k (subst (λ (o : Option Node). IsSome o) (sets.rest k ne) live) in omega arith
     ];
     counted = λ m.
         let before = s.counted m in
-        let moved = total-moved (names m) refl xs ys key (λ k ne. ap (names m) (rest k ne)) in
-        let was : names m (node_at xs key) ≡ total (once m) kids = ap (names m) here in
-        let is : names m (node_at ys key) ≡ total (once m) (set kids d (Some child)) = ap (names m) now in
+        let moved = total-moved (names m) refl xs ys key (λ k ne. ap (names m) (sets.rest k ne)) in
+        let was : names m (node_at xs key) ≡ total (once m) kids = ap (names m) sets.here in
+        let is : names m (node_at ys key) ≡ total (once m) (set kids d (Some child)) = ap (names m) sets.now in
         let inner = total-moved (once m) refl kids (set kids d (Some child)) d (λ k ne. ap (once m) (get_or-set_other kids d k (Some child) None ne)) in
-        let placed : once m (get_or (set kids d (Some child)) d None) ≡ one child m = ap (once m) (get_or-set_same kids d (Some child) None below) in
+        let placed : once m (get_or (set kids d (Some child)) d None) ≡ one child m = ap (once m) (get_or-set_same kids d (Some child) None sets.below) in
         let count_same : count_in (node_at ys m) ≡ count_in (node_at xs m) = elim (cases_eq m key) [
-          | inl same ↦ ap count_in (ap (λ i. node_at ys i) same ∙ now) ∙ sym (ap count_in (ap (λ i. node_at xs i) same ∙ here))
-          | inr ne ↦ ap count_in (rest m ne)
+          | inl same ↦ ap count_in (ap (λ i. node_at ys i) same ∙ sets.now) ∙ sym (ap count_in (ap (λ i. node_at xs i) same ∙ sets.here))
+          | inr ne ↦ ap count_in (sets.rest m ne)
         ] in
         omega arith;
     held = λ slot.
         let before = s.held slot in
-        let moved = total-moved (slots_in slot) refl xs ys key (λ k ne. ap (slots_in slot) (rest k ne)) in
-        let was : slots_in slot (node_at xs key) ≡ 0 = ap (slots_in slot) here in
-        let is : slots_in slot (node_at ys key) ≡ 0 = ap (slots_in slot) now in
+        let moved = total-moved (slots_in slot) refl xs ys key (λ k ne. ap (slots_in slot) (sets.rest k ne)) in
+        let was : slots_in slot (node_at xs key) ≡ 0 = ap (slots_in slot) sets.here in
+        let is : slots_in slot (node_at ys key) ≡ 0 = ap (slots_in slot) sets.now in
         omega arith;
   }
 
 -- an entry whose slot is in hand comes to a place of a leaf, and the slot before is in hand
-module _ (xs ys : List (Option Node)) (counts hands loose : ℕ → ℕ) (key count d : ℕ) (entry : Entry) (es : List (Option Entry)) (s : IsShared xs counts hands (λ slot. loose slot + uses slot (Some entry))) (here : node_at xs key ≡ Some (Leaf count es)) (now : node_at ys key ≡ Some (Leaf count (set es d (Some entry)))) (rest : (k : ℕ) → k ≢ key → node_at ys k ≡ node_at xs k) (below : d < length es) where
+module _ (xs ys : NodeList) (counts hands loose : ℕ → ℕ) (key count d : ℕ) (entry : Entry) (es : List (Option Entry)) (s : IsShared xs counts hands (λ slot. loose slot + uses slot (Some entry))) (sets : SetsEntry xs ys key count d entry es) where
   child_same : (m e : ℕ) → child_in (node_at ys m) e ≡ child_in (node_at xs m) e
   child_same m e = elim (cases_eq m key) [
-    | inl same ↦ ap (λ o. child_in o e) (ap (λ i. node_at ys i) same ∙ now) ∙ sym (ap (λ o. child_in o e) (ap (λ i. node_at xs i) same ∙ here))
-    | inr ne ↦ ap (λ o. child_in o e) (rest m ne)
+    | inl same ↦ ap (λ o. child_in o e) (ap (λ i. node_at ys i) same ∙ sets.now) ∙ sym (ap (λ o. child_in o e) (ap (λ i. node_at xs i) same ∙ sets.here))
+    | inr ne ↦ ap (λ o. child_in o e) (sets.rest m ne)
   ]
 
   leaf_level : (m : ℕ) → level_in (node_at ys m) ≡ level_in (node_at xs m)
   leaf_level m = elim (cases_eq m key) [
-    | inl same ↦ ap level_in (ap (λ i. node_at ys i) same ∙ now) ∙ sym (ap level_in (ap (λ i. node_at xs i) same ∙ here))
-    | inr ne ↦ ap level_in (rest m ne)
+    | inl same ↦ ap level_in (ap (λ i. node_at ys i) same ∙ sets.now) ∙ sym (ap level_in (ap (λ i. node_at xs i) same ∙ sets.here))
+    | inr ne ↦ ap level_in (sets.rest m ne)
   ]
 
   pub shared-entry : IsShared ys counts hands (λ slot. loose slot + uses slot (get_or es d None))
   shared-entry = record {
     steps = λ k e c is. leaf_level k ∙ s.steps k e c (sym (child_same k e) ∙ is) ∙ ap (λ n. n + 1) (sym (leaf_level c));
     tall = λ k n l ks e. elim (cases_eq k key) [
-      | inl same ↦ absurd (let both : Some (Leaf count (set es d (Some entry))) ≡ Some (Branch n l ks) = sym (ap (λ i. node_at ys i) same ∙ now) ∙ e in let no : ⊥ = cc in no)
-      | inr ne ↦ s.tall k n l ks (sym (rest k ne) ∙ e)
+      | inl same ↦ absurd (let both : Some (Leaf count (set es d (Some entry))) ≡ Some (Branch n l ks) = sym (ap (λ i. node_at ys i) same ∙ sets.now) ∙ e in let no : ⊥ = cc in no)
+      | inr ne ↦ s.tall k n l ks (sym (sets.rest k ne) ∙ e)
     ];
     wide = λ k n e. elim (cases_eq k key) [
       | inl same ↦
-          let both : Some n ≡ Some (Leaf count (set es d (Some entry))) = sym e ∙ ap (λ i. node_at ys i) same ∙ now in
+          let both : Some n ≡ Some (Leaf count (set es d (Some entry))) = sym e ∙ ap (λ i. node_at ys i) same ∙ sets.now in
           let eq : n ≡ Leaf count (set es d (Some entry)) = cc in
-          ap width eq ∙ length-set es d (Some entry) ∙ s.wide key (Leaf count es) here
-      | inr ne ↦ s.wide k n (sym (rest k ne) ∙ e)
+          ap width eq ∙ length-set es d (Some entry) ∙ s.wide key (Leaf count es) sets.here
+      | inr ne ↦ s.wide k n (sym (sets.rest k ne) ∙ e)
     ];
     flat = λ k. let is = leaf_level k in let low = s.flat k in omega arith;
     alive = λ k live. elim (cases_eq k key) [
       | inl same ↦
-          let is : count_in (node_at ys k) ≡ count_in (node_at xs k) = ap count_in (ap (λ i. node_at ys i) same ∙ now) ∙ sym (ap count_in (ap (λ i. node_at xs i) same ∙ here)) in
-          let pos = s.alive k (some-live (node_at xs k) (Leaf count es) (ap (λ i. node_at xs i) same ∙ here)) in omega arith
-      | inr ne ↦ let is : count_in (node_at ys k) ≡ count_in (node_at xs k) = ap count_in (rest k ne) in let pos = s.alive k (subst (λ (o : Option Node). IsSome o) (rest k ne) live) in omega arith
+          let is : count_in (node_at ys k) ≡ count_in (node_at xs k) = ap count_in (ap (λ i. node_at ys i) same ∙ sets.now) ∙ sym (ap count_in (ap (λ i. node_at xs i) same ∙ sets.here)) in
+          let pos = s.alive k (some-live (node_at xs k) (Leaf count es) (ap (λ i. node_at xs i) same ∙ sets.here)) in omega arith
+      | inr ne ↦ let is : count_in (node_at ys k) ≡ count_in (node_at xs k) = ap count_in (sets.rest k ne) in let pos = s.alive k (subst (λ (o : Option Node). IsSome o) (sets.rest k ne) live) in omega arith
     ];
     counted = λ m.
         let before = s.counted m in
-        let moved = total-moved (names m) refl xs ys key (λ k ne. ap (names m) (rest k ne)) in
-        let was : names m (node_at xs key) ≡ 0 = ap (names m) here in
-        let is : names m (node_at ys key) ≡ 0 = ap (names m) now in
+        let moved = total-moved (names m) refl xs ys key (λ k ne. ap (names m) (sets.rest k ne)) in
+        let was : names m (node_at xs key) ≡ 0 = ap (names m) sets.here in
+        let is : names m (node_at ys key) ≡ 0 = ap (names m) sets.now in
         let count_same : count_in (node_at ys m) ≡ count_in (node_at xs m) = elim (cases_eq m key) [
-          | inl same ↦ ap count_in (ap (λ i. node_at ys i) same ∙ now) ∙ sym (ap count_in (ap (λ i. node_at xs i) same ∙ here))
-          | inr ne ↦ ap count_in (rest m ne)
+          | inl same ↦ ap count_in (ap (λ i. node_at ys i) same ∙ sets.now) ∙ sym (ap count_in (ap (λ i. node_at xs i) same ∙ sets.here))
+          | inr ne ↦ ap count_in (sets.rest m ne)
         ] in
         omega arith;
     held = λ slot.
         let before = s.held slot in
-        let moved = total-moved (slots_in slot) refl xs ys key (λ k ne. ap (slots_in slot) (rest k ne)) in
-        let was : slots_in slot (node_at xs key) ≡ total (uses slot) es = ap (slots_in slot) here in
-        let is : slots_in slot (node_at ys key) ≡ total (uses slot) (set es d (Some entry)) = ap (slots_in slot) now in
+        let moved = total-moved (slots_in slot) refl xs ys key (λ k ne. ap (slots_in slot) (sets.rest k ne)) in
+        let was : slots_in slot (node_at xs key) ≡ total (uses slot) es = ap (slots_in slot) sets.here in
+        let is : slots_in slot (node_at ys key) ≡ total (uses slot) (set es d (Some entry)) = ap (slots_in slot) sets.now in
         let inner = total-moved (uses slot) refl es (set es d (Some entry)) d (λ k ne. ap (uses slot) (get_or-set_other es d k (Some entry) None ne)) in
-        let placed : uses slot (get_or (set es d (Some entry)) d None) ≡ uses slot (Some entry) = ap (uses slot) (get_or-set_same es d (Some entry) None below) in
+        let placed : uses slot (get_or (set es d (Some entry)) d None) ≡ uses slot (Some entry) = ap (uses slot) (get_or-set_same es d (Some entry) None sets.below) in
         omega arith;
   }
 

@@ -3,8 +3,9 @@ use Rattle.page_delta.specs.Roots.{root_at, AreSound}
 use Rattle.page_delta.specs.declared.roots.Root.{Root}
 use Rattle.page_delta.proofs.RootCopies.{stands-kept}
 use Rattle.page_delta.proofs.RootCalls.{added-at}
-use Rattle.page_delta.proofs.KeepCalls.{held-tree, kept-tree, maps-tree, kept-newer, keeps-root, on-err}
+use Rattle.page_delta.proofs.KeepCalls.{held-tree, kept-tree, maps-tree, kept-newer, keeps-root}
 use Rattle.page_delta.proofs.keep.keep_root.Goals as goal
+use Rattle.format_spec.proofs.Lists.{on_err}
 
 pub keep_tree-requires-clause-stands : goal.keep_tree-requires-clause-stands
 keep_tree-requires-clause-stands c = stands-kept c.args.nodes.now.slots c.args.ids.now.slots c.args.pool.now
@@ -22,7 +23,7 @@ returns-in_err-root-clause-held c = held-tree c.args.nodes.now.slots c.keep_tree
 
 pub returns-in_err-root-clause-err : goal.returns-in_err-root-clause-err
 returns-in_err-root-clause-err c =
-    on-err c.from_residual-in_err-root.result (rw c.make_id.ensures.ids
+    on_err c.from_residual-in_err-root.result (rw c.make_id.ensures.ids
     (maps-tree c.args.nodes.now.slots c.keep_tree.new.nodes.slots c.args.ids.now.slots c.args.pool.now c.keep_tree.new.pool None
     c.requires.kept c.requires.held c.in_err-root.ensures.err))
 

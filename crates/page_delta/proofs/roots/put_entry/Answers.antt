@@ -20,11 +20,16 @@ returns-in-Some-clause-put c = puts-same c.in-Some.ensures.puts c.requires.page
 
 pub returns-in-Some-clause-held : goal.returns-in-Some-clause-held
 returns-in-Some-clause-held c =
-    held-released c.put_own.new.nodes.slots c.put_own.new.pool c.release.new.self (λ key. total (roots key) c.put_own.new.ids.slots) c.in-Some.before c.in-Some.ensures.puts.shared (recounts-release c.put_own.new.pool c.release.new.self c.in-Some.before.slot (used-live c.put_own.new.nodes.slots c.put_own.new.pool (λ key. total (roots key) c.put_own.new.ids.slots) c.in-Some.before c.in-Some.ensures.puts.shared) c.in-Some.ensures.counted c.release.ensures.last c.release.ensures.shared)
+    let nodes = c.put_own.new.nodes.slots in
+    let hands : ℕ → ℕ = λ key. total (roots key) c.put_own.new.ids.slots in
+    let live = used-live nodes c.put_own.new.pool hands c.in-Some.before c.in-Some.ensures.puts.shared in
+    held-released nodes c.put_own.new.pool c.release.new.self hands c.in-Some.before c.in-Some.ensures.puts.shared
+    (recounts-release c.put_own.new.pool c.release.new.self c.in-Some.before.slot live c.in-Some.ensures.counted c.release.ensures.last c.release.ensures.shared)
 
 pub returns-in-Some-clause-keeps : goal.returns-in-Some-clause-keeps
 returns-in-Some-clause-keeps c =
-    let released = recounts-release c.put_own.new.pool c.release.new.self c.in-Some.before.slot (used-live c.put_own.new.nodes.slots c.put_own.new.pool (λ key. total (roots key) c.put_own.new.ids.slots) c.in-Some.before c.in-Some.ensures.puts.shared) c.in-Some.ensures.counted c.release.ensures.last c.release.ensures.shared in
+    let live = used-live c.put_own.new.nodes.slots c.put_own.new.pool (λ key. total (roots key) c.put_own.new.ids.slots) c.in-Some.before c.in-Some.ensures.puts.shared in
+    let released = recounts-release c.put_own.new.pool c.release.new.self c.in-Some.before.slot live c.in-Some.ensures.counted c.release.ensures.last c.release.ensures.shared in
     keeps-trans c.args.pool.now c.put_own.new.pool c.release.new.self c.in-Some.ensures.keeps released.keeps
 
 pub returns-in-None-clause-kept : goal.returns-in-None-clause-kept

@@ -1,4 +1,4 @@
-use Rattle.std.proofs.Common.{◌≡◌, ◌+◌, ◌∙◌, ℕ, length, Some, drop, refl, sym, ap, subst, arith}
+use Rattle.std.proofs.Common.{◌≡◌, ◌+◌, ◌<◌, ◌∙◌, ℕ, length, Some, drop, refl, sym, ap, subst, arith}
 use Rattle.page_pool.specs.Pool.{count_at}
 use Rattle.slab.specs.Slab.{Slab}
 use Rattle.page_delta.specs.Totals.{total}
@@ -15,7 +15,11 @@ use Rattle.page_delta.proofs.tree.+release.Goals.{in-Some, in_default}
 
 pub returns-then-count-gt1-clause-shared : goal.returns-then-count-gt1-clause-shared
 returns-then-count-gt1-clause-shared t c = λ hands loose s.
-    subst (λ (n : Slab Node). IsShared n.slots (count_at c.args.pool.now) hands loose) (sym c.lower.ensures) (shared-lower c.args.nodes.now.slots c.args.node (in-hand c.args.nodes.now.slots (count_at c.args.pool.now) hands loose c.args.node s).1 (count_at c.args.pool.now) hands loose (let is : count_in (node_at c.args.nodes.now.slots c.args.node) ≡ c.count.result = ap count_in c.index.ensures ∙ sym c.count.ensures in omega (arith, c.if-count-gt1.true)) s)
+    let xs = c.args.nodes.now.slots in
+    let counts = count_at c.args.pool.now in
+    let is : count_in (node_at xs c.args.node) ≡ c.count.result = ap count_in c.index.ensures ∙ sym c.count.ensures in
+    subst (λ (n : Slab Node). IsShared n.slots counts hands loose) (sym c.lower.ensures)
+    (shared-lower xs c.args.node (in-hand xs counts hands loose c.args.node s).1 counts hands loose (omega (arith, c.if-count-gt1.true)) s)
 
 pub release_each-requires-clause-enough : goal.release_each-requires-clause-enough
 release_each-requires-clause-enough t c =
@@ -40,18 +44,25 @@ release-requires t c =
     let s = c.requires.shared in
     let high = s.2.tall c.args.node c.in-Branch.count c.in-Branch.level c.in-Branch.children c.in-Branch.ensures.was in
     let level_is : level_in (node_at c.args.nodes.now.slots c.args.node) ≡ c.in-Branch.level = ap level_in c.in-Branch.ensures.was in
-    let over = hand-over c.loop-digit.nodes.slots (count_at c.loop-digit.pool) s.0 s.1 c.in-Branch.children c.loop-digit.digit c.in-Some.child (let wide : length c.in-Branch.children ≡ 32 = c.requires.shared.2.wide c.args.node (Branch c.in-Branch.count c.in-Branch.level c.in-Branch.children) c.in-Branch.ensures.was in omega (arith, wide)) (sym c.at.ensures ∙ c.in-Some.is) (c.loop-digit.invariant.shared s.0 s.1 s.2) in
-    let hands = λ (m : ℕ). s.0 m + total (once m) (drop (c.loop-digit.digit + 1) c.in-Branch.children) in
-    let below = child-level c.args.nodes.now.slots c.loop-digit.nodes.slots (count_at c.args.pool.now) (λ m. s.0 m + once m (Some c.args.node)) s.1 (count_at c.loop-digit.pool) hands s.1 c.args.node c.in-Branch.count c.in-Branch.level c.loop-digit.digit c.in-Some.child c.in-Branch.children s.2 c.in-Branch.ensures.was (sym c.at.ensures ∙ c.in-Some.is) c.loop-digit.invariant.shrinks over in
+    let kids = c.in-Branch.children in
+    let here = sym c.at.ensures ∙ c.in-Some.is in
+    let inside : c.loop-digit.digit < length kids = omega (arith, s.2.wide c.args.node (Branch c.in-Branch.count c.in-Branch.level kids) c.in-Branch.ensures.was) in
+    let over = hand-over c.loop-digit.nodes.slots (count_at c.loop-digit.pool) s.0 s.1 kids c.loop-digit.digit c.in-Some.child inside here (c.loop-digit.invariant.shared s.0 s.1 s.2) in
+    let hands = λ (m : ℕ). s.0 m + total (once m) (drop (c.loop-digit.digit + 1) kids) in
+    let below = child-level c.args.nodes.now.slots c.loop-digit.nodes.slots (count_at c.args.pool.now) (λ m. s.0 m + once m (Some c.args.node)) s.1 (count_at c.loop-digit.pool) hands s.1
+    c.args.node c.in-Branch.count c.in-Branch.level c.loop-digit.digit c.in-Some.child kids s.2 c.in-Branch.ensures.was here c.loop-digit.invariant.shrinks over in
     (omega (arith, c.requires.level, c.decreases), ((hands, s.1, over), (c.loop-digit.invariant.counted, omega (arith, c.requires.level, below))))
 
 pub loop-digit-preserved : goal.loop-digit-preserved
 loop-digit-preserved t c =
+    let kids = c.in-Branch.children in
+    let inside : c.loop-digit.digit < length kids = omega (arith, c.requires.shared.2.wide c.args.node (Branch c.in-Branch.count c.in-Branch.level kids) c.in-Branch.ensures.was) in
     elim c.match-at.branch [
       | in-Some w ↦
           rw (w.nodes-is, w.pool-is) record {
             shared = λ hands loose s.
-                w.release.ensures.shared (λ m. hands m + total (once m) (drop (c.loop-digit.digit + 1) c.in-Branch.children)) loose (hand-over c.loop-digit.nodes.slots (count_at c.loop-digit.pool) hands loose c.in-Branch.children c.loop-digit.digit w.in-Some.child (let wide : length c.in-Branch.children ≡ 32 = c.requires.shared.2.wide c.args.node (Branch c.in-Branch.count c.in-Branch.level c.in-Branch.children) c.in-Branch.ensures.was in omega (arith, wide)) (sym c.at.ensures ∙ w.in-Some.is) (c.loop-digit.invariant.shared hands loose s));
+                w.release.ensures.shared (λ m. hands m + total (once m) (drop (c.loop-digit.digit + 1) kids)) loose
+                (hand-over c.loop-digit.nodes.slots (count_at c.loop-digit.pool) hands loose kids c.loop-digit.digit w.in-Some.child inside (sym c.at.ensures ∙ w.in-Some.is) (c.loop-digit.invariant.shared hands loose s));
             counted = w.release.ensures.counted;
             shrinks = shrinks-trans c.args.nodes.now.slots c.loop-digit.nodes.slots w.release.new.nodes.slots c.loop-digit.invariant.shrinks w.release.ensures.shrinks;
             grows = record { len = omega (arith, w.release.ensures.grows.len, c.loop-digit.invariant.grows.len); capacity = w.release.ensures.grows.capacity ∙ c.loop-digit.invariant.grows.capacity };
@@ -59,7 +70,7 @@ loop-digit-preserved t c =
           }
       | in_default w ↦
           rw (w.nodes-is, w.pool-is) record {
-            shared = λ hands loose s. pass-over c.loop-digit.nodes.slots (count_at c.loop-digit.pool) hands loose c.in-Branch.children c.loop-digit.digit (let wide : length c.in-Branch.children ≡ 32 = c.requires.shared.2.wide c.args.node (Branch c.in-Branch.count c.in-Branch.level c.in-Branch.children) c.in-Branch.ensures.was in omega (arith, wide)) (sym c.at.ensures ∙ w.in_default.is) (c.loop-digit.invariant.shared hands loose s);
+            shared = λ hands loose s. pass-over c.loop-digit.nodes.slots (count_at c.loop-digit.pool) hands loose kids c.loop-digit.digit inside (sym c.at.ensures ∙ w.in_default.is) (c.loop-digit.invariant.shared hands loose s);
             counted = c.loop-digit.invariant.counted;
             shrinks = c.loop-digit.invariant.shrinks;
             grows = c.loop-digit.invariant.grows;
@@ -69,10 +80,17 @@ loop-digit-preserved t c =
 
 pub returns-in-Leaf-clause-shared : goal.returns-in-Leaf-clause-shared
 returns-in-Leaf-clause-shared t c = λ hands loose s.
+    let leaf = Leaf c.in-Leaf.count c.in-Leaf.entries in
+    let counts = count_at c.args.pool.now in
     let few : count_in (node_at c.args.nodes.now.slots c.args.node) ≡ c.count.result = ap count_in c.index.ensures ∙ sym c.count.ensures in
-    let taken = shared-taken c.args.nodes.now.slots c.take.new.nodes.slots (count_at c.args.pool.now) hands loose c.args.node (Leaf c.in-Leaf.count c.in-Leaf.entries) s c.in-Leaf.ensures.was c.take.ensures.gone c.take.ensures.rest (omega (arith, c.if-count-gt1.false)) in
-    shared-counts c.take.new.nodes.slots (count_at c.args.pool.now) (count_at c.release_each.new.pool) hands (λ slot. loose slot + slots_in slot (Some (Leaf c.in-Leaf.count c.in-Leaf.entries))) loose (shared-as c.take.new.nodes.slots (count_at c.args.pool.now) (λ m. hands m + names m (Some (Leaf c.in-Leaf.count c.in-Leaf.entries))) hands (λ slot. loose slot + slots_in slot (Some (Leaf c.in-Leaf.count c.in-Leaf.entries))) (λ slot. loose slot + slots_in slot (Some (Leaf c.in-Leaf.count c.in-Leaf.entries))) taken (λ m. omega arith) (λ slot. refl)) (λ slot. let m = c.release_each.ensures.counts slot in let same = ap (total (uses slot)) c.all.ensures in omega arith)
+    let taken = shared-taken c.args.nodes.now.slots c.take.new.nodes.slots counts hands loose c.args.node leaf s c.in-Leaf.ensures.was c.take.ensures.gone c.take.ensures.rest (omega (arith, c.if-count-gt1.false)) in
+    let handed : ℕ → ℕ = λ slot. loose slot + slots_in slot (Some leaf) in
+    shared-counts c.take.new.nodes.slots counts (count_at c.release_each.new.pool) hands handed loose
+    (shared-as c.take.new.nodes.slots counts (λ m. hands m + names m (Some leaf)) hands handed handed taken (λ m. omega arith) (λ slot. refl))
+    (λ slot. let m = c.release_each.ensures.counts slot in let same = ap (total (uses slot)) c.all.ensures in omega arith)
 
 pub returns-after-loop-digit-clause-shared : goal.returns-after-loop-digit-clause-shared
 returns-after-loop-digit-clause-shared t c = λ hands loose s.
-    all-over c.loop-digit.nodes.slots (count_at c.loop-digit.pool) hands loose c.in-Branch.children c.loop-digit.digit (let wide : length c.in-Branch.children ≡ 32 = c.requires.shared.2.wide c.args.node (Branch c.in-Branch.count c.in-Branch.level c.in-Branch.children) c.in-Branch.ensures.was in omega (arith, wide)) (c.loop-digit.invariant.shared hands loose s)
+    let kids = c.in-Branch.children in
+    let wide : length kids ≡ 32 = c.requires.shared.2.wide c.args.node (Branch c.in-Branch.count c.in-Branch.level kids) c.in-Branch.ensures.was in
+    all-over c.loop-digit.nodes.slots (count_at c.loop-digit.pool) hands loose kids c.loop-digit.digit (omega (arith, wide)) (c.loop-digit.invariant.shared hands loose s)

@@ -18,29 +18,34 @@ share-requires-clause-wide c =
 
 pub share-requires-clause-children : goal.share-requires-clause-children
 share-requires-clause-children c = λ d child e.
-    child-live c.args.nodes.now.slots (count_at c.args.pool.now) c.requires.stands.hands c.requires.stands.loose c.args.node d child c.requires.stands.shared (ap (λ o. child_in o d) c.index.ensures ∙ sym (child-recounted (Some c.index.result.now) 1 d) ∙ ap (λ n. child_in (Some n) d) (sym c.copied-copy.ensures) ∙ e)
+    child-live c.args.nodes.now.slots (count_at c.args.pool.now) c.requires.stands.hands c.requires.stands.loose c.args.node d child c.requires.stands.shared
+    (ap (λ o. child_in o d) c.index.ensures ∙ sym (child-recounted (Some c.index.result.now) 1 d) ∙ ap (λ n. child_in (Some n) d) (sym c.copied-copy.ensures) ∙ e)
 
 pub share-requires-clause-entries : goal.share-requires-clause-entries
 share-requires-clause-entries c = λ d entry e.
-    entry-live c.args.nodes.now.slots c.args.pool.now c.requires.stands.hands c.requires.stands.loose c.args.node d entry c.requires.stands.shared (ap (λ o. entry_in o d) c.index.ensures ∙ sym (entry-recounted (Some c.index.result.now) 1 d) ∙ ap (λ n. entry_in (Some n) d) (sym c.copied-copy.ensures) ∙ e)
+    entry-live c.args.nodes.now.slots c.args.pool.now c.requires.stands.hands c.requires.stands.loose c.args.node d entry c.requires.stands.shared
+    (ap (λ o. entry_in o d) c.index.ensures ∙ sym (entry-recounted (Some c.index.result.now) 1 d) ∙ ap (λ n. entry_in (Some n) d) (sym c.copied-copy.ensures) ∙ e)
 
 pub returns-clause-shared : goal.returns-clause-shared
 returns-clause-shared c = λ hands loose s.
     let each = rw c.copied-copy.ensures at c.share.ensures.each in
     let counts = rw c.copied-copy.ensures at c.share.ensures.counts in
     let here = rw c.copied-copy.ensures at c.put.ensures.here in
-    shared-copy c.args.nodes.now.slots c.share.new.nodes.slots c.put.new.nodes.slots (count_at c.args.pool.now) (count_at c.share.new.pool) hands loose c.args.node c.put.result c.index.result.now s c.index.ensures each counts c.put.ensures.fresh here c.put.ensures.rest
+    shared-copy c.args.nodes.now.slots c.share.new.nodes.slots c.put.new.nodes.slots (count_at c.args.pool.now) (count_at c.share.new.pool) hands loose c.args.node c.put.result c.index.result.now s
+    record { is = c.index.ensures; each = each; slots = counts; puts = record { gone = c.put.ensures.fresh; here = here; rest = c.put.ensures.rest } }
 
 pub returns-clause-looks : goal.returns-clause-looks
 returns-clause-looks c =
     let each = rw c.copied-copy.ensures at c.share.ensures.each in
     let counts = rw c.copied-copy.ensures at c.share.ensures.counts in
     let here = rw c.copied-copy.ensures at c.put.ensures.here in
-    looks-copy c.args.nodes.now.slots c.share.new.nodes.slots c.put.new.nodes.slots (count_at c.args.pool.now) (count_at c.share.new.pool) c.requires.stands.hands c.requires.stands.loose c.args.node c.put.result c.index.result.now c.requires.stands.shared c.index.ensures each counts c.put.ensures.fresh here c.put.ensures.rest
+    looks-copy c.args.nodes.now.slots c.share.new.nodes.slots c.put.new.nodes.slots (count_at c.args.pool.now) (count_at c.share.new.pool) c.requires.stands.hands c.requires.stands.loose c.args.node c.put.result c.index.result.now c.requires.stands.shared
+    record { is = c.index.ensures; each = each; slots = counts; puts = record { gone = c.put.ensures.fresh; here = here; rest = c.put.ensures.rest } }
 
 pub returns-clause-alike : goal.returns-clause-alike
 returns-clause-alike c =
     let each = rw c.copied-copy.ensures at c.share.ensures.each in
     let counts = rw c.copied-copy.ensures at c.share.ensures.counts in
     let here = rw c.copied-copy.ensures at c.put.ensures.here in
-    alike-copy c.args.nodes.now.slots c.share.new.nodes.slots c.put.new.nodes.slots (count_at c.args.pool.now) (count_at c.share.new.pool) c.requires.stands.hands c.requires.stands.loose c.args.node c.put.result c.index.result.now c.requires.stands.shared c.index.ensures each counts c.put.ensures.fresh here c.put.ensures.rest
+    alike-copy c.args.nodes.now.slots c.share.new.nodes.slots c.put.new.nodes.slots (count_at c.args.pool.now) (count_at c.share.new.pool) c.requires.stands.hands c.requires.stands.loose c.args.node c.put.result c.index.result.now c.requires.stands.shared
+    record { is = c.index.ensures; each = each; slots = counts; puts = record { gone = c.put.ensures.fresh; here = here; rest = c.put.ensures.rest } }

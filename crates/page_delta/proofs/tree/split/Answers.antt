@@ -12,13 +12,62 @@ copy-fresh-requires-clause-node c = child-live c.args.nodes.now.slots (count_at 
 
 pub lower-requires-clause-some : goal.lower-requires-clause-some
 lower-requires-clause-some c =
-    let lowered = set c.link.new.nodes.slots c.args.child (node_with_count (node_at c.link.new.nodes.slots c.args.child) (count_in (node_at c.link.new.nodes.slots c.args.child) - 1)) in
-    some_left c.args.nodes.now.slots c.copy-fresh.new.nodes.slots c.link.new.nodes.slots lowered c.args.parent c.args.digit c.args.child c.copy-fresh.result (count_at c.args.pool.now) c.requires.stands.hands c.requires.stands.loose c.requires.stands.shared c.requires.parent c.requires.child c.requires.many c.requires.digit c.copy-fresh.ensures.fresh c.copy-fresh.ensures.copy c.copy-fresh.ensures.rest c.copy-fresh.ensures.looks c.copy-fresh.ensures.alike c.link.ensures.now c.link.ensures.rest refl
+    let ys = c.link.new.nodes.slots in
+    let lowered = set ys c.args.child (node_with_count (node_at ys c.args.child) (count_in (node_at ys c.args.child) - 1)) in
+    some_left c.args.nodes.now.slots c.copy-fresh.new.nodes.slots ys lowered c.args.parent c.args.digit c.args.child c.copy-fresh.result (count_at c.args.pool.now) c.requires.stands.hands c.requires.stands.loose
+    record {
+      shared = c.requires.stands.shared;
+      high = c.requires.parent;
+      was = c.requires.child;
+      many = c.requires.many;
+      below = c.requires.digit;
+      gone = c.copy-fresh.ensures.fresh;
+      copied = c.copy-fresh.ensures.copy;
+      rest = c.copy-fresh.ensures.rest;
+      looks = c.copy-fresh.ensures.looks;
+      alike = c.copy-fresh.ensures.alike;
+      link = c.link.ensures.now;
+      rest_link = c.link.ensures.rest;
+      lowered = refl;
+    }
 
 pub returns-clause-shared : goal.returns-clause-shared
 returns-clause-shared c = λ hands loose s.
-    shared-split c.args.nodes.now.slots c.copy-fresh.new.nodes.slots c.link.new.nodes.slots c.lower.new.nodes.slots c.args.parent c.args.digit c.args.child c.copy-fresh.result (count_at c.args.pool.now) hands loose s c.requires.parent c.requires.child c.requires.many c.requires.digit c.copy-fresh.ensures.fresh c.copy-fresh.ensures.copy c.copy-fresh.ensures.rest c.copy-fresh.ensures.looks c.copy-fresh.ensures.alike c.link.ensures.now c.link.ensures.rest (ap (λ (n : Slab Node). n.slots) c.lower.ensures) (count_at c.copy-fresh.new.pool) hands loose (c.copy-fresh.ensures.shared hands loose s)
+    let mid = c.copy-fresh.new.nodes.slots in
+    shared-split c.args.nodes.now.slots mid c.link.new.nodes.slots c.lower.new.nodes.slots c.args.parent c.args.digit c.args.child c.copy-fresh.result (count_at c.args.pool.now) hands loose
+    record {
+      shared = s;
+      high = c.requires.parent;
+      was = c.requires.child;
+      many = c.requires.many;
+      below = c.requires.digit;
+      gone = c.copy-fresh.ensures.fresh;
+      copied = c.copy-fresh.ensures.copy;
+      rest = c.copy-fresh.ensures.rest;
+      looks = c.copy-fresh.ensures.looks;
+      alike = c.copy-fresh.ensures.alike;
+      link = c.link.ensures.now;
+      rest_link = c.link.ensures.rest;
+      lowered = ap (λ (n : Slab Node). n.slots) c.lower.ensures;
+    }
+    (count_at c.copy-fresh.new.pool) hands loose (c.copy-fresh.ensures.shared hands loose s)
 
 pub returns-clause-owned : goal.returns-clause-owned
 returns-clause-owned c =
-    owned-split c.args.nodes.now.slots c.copy-fresh.new.nodes.slots c.link.new.nodes.slots c.lower.new.nodes.slots c.args.parent c.args.digit c.args.child c.copy-fresh.result (count_at c.args.pool.now) c.requires.stands.hands c.requires.stands.loose c.requires.stands.shared c.requires.parent c.requires.child c.requires.many c.requires.digit c.copy-fresh.ensures.fresh c.copy-fresh.ensures.copy c.copy-fresh.ensures.rest c.copy-fresh.ensures.looks c.copy-fresh.ensures.alike c.link.ensures.now c.link.ensures.rest (ap (λ (n : Slab Node). n.slots) c.lower.ensures)
+    let zs = c.lower.new.nodes.slots in
+    owned-split c.args.nodes.now.slots c.copy-fresh.new.nodes.slots c.link.new.nodes.slots zs c.args.parent c.args.digit c.args.child c.copy-fresh.result (count_at c.args.pool.now) c.requires.stands.hands c.requires.stands.loose
+    record {
+      shared = c.requires.stands.shared;
+      high = c.requires.parent;
+      was = c.requires.child;
+      many = c.requires.many;
+      below = c.requires.digit;
+      gone = c.copy-fresh.ensures.fresh;
+      copied = c.copy-fresh.ensures.copy;
+      rest = c.copy-fresh.ensures.rest;
+      looks = c.copy-fresh.ensures.looks;
+      alike = c.copy-fresh.ensures.alike;
+      link = c.link.ensures.now;
+      rest_link = c.link.ensures.rest;
+      lowered = ap (λ (n : Slab Node). n.slots) c.lower.ensures;
+    }

@@ -5,15 +5,33 @@ use Rattle.page_delta.proofs.tree.sprout.Goals as goal
 
 pub returns-clause-shared : goal.returns-clause-shared
 returns-clause-shared c =
+    let xs = c.args.nodes.now.slots in
     let level = c.level-level.result - 1 in
-    let is : level_in (node_at c.args.nodes.now.slots c.args.parent) ≡ c.level-level.result = ap level_in c.index.ensures ∙ sym c.level-level.ensures in
-    let high : level_in (node_at c.args.nodes.now.slots c.args.parent) ≡ level + 1 = omega (arith, c.requires.parent) in
-    shared-sprout c.args.nodes.now.slots c.put-fresh.new.nodes.slots c.link.new.nodes.slots c.args.parent c.args.digit c.put-fresh.result level c.empty.result (subst (λ n. IsEmpty n level) (sym c.empty.ensures) (is_empty level)) high c.requires.none c.requires.digit c.put-fresh.ensures.fresh c.put-fresh.ensures.here c.put-fresh.ensures.rest c.link.ensures.now c.link.ensures.rest
+    let is : level_in (node_at xs c.args.parent) ≡ c.level-level.result = ap level_in c.index.ensures ∙ sym c.level-level.ensures in
+    shared-sprout xs c.put-fresh.new.nodes.slots c.link.new.nodes.slots c.args.parent c.args.digit c.put-fresh.result level c.empty.result record {
+      empty = subst (λ n. IsEmpty n level) (sym c.empty.ensures) (is_empty level);
+      high = omega (arith, c.requires.parent, is);
+      none = c.requires.none;
+      below = c.requires.digit;
+      puts = record { gone = c.put-fresh.ensures.fresh; here = c.put-fresh.ensures.here; rest = c.put-fresh.ensures.rest };
+      link = c.link.ensures.now;
+      rest = c.link.ensures.rest;
+    }
 
 pub returns-clause-owned : goal.returns-clause-owned
 returns-clause-owned c =
+    let xs = c.args.nodes.now.slots in
     let level = c.level-level.result - 1 in
-    let is : level_in (node_at c.args.nodes.now.slots c.args.parent) ≡ c.level-level.result = ap level_in c.index.ensures ∙ sym c.level-level.ensures in
-    let high : level_in (node_at c.args.nodes.now.slots c.args.parent) ≡ level + 1 = omega (arith, c.requires.parent) in
+    let is : level_in (node_at xs c.args.parent) ≡ c.level-level.result = ap level_in c.index.ensures ∙ sym c.level-level.ensures in
     let s = c.requires.shared in
-    owned-sprout c.args.nodes.now.slots c.put-fresh.new.nodes.slots c.link.new.nodes.slots c.args.parent c.args.digit c.put-fresh.result level c.empty.result (subst (λ n. IsEmpty n level) (sym c.empty.ensures) (is_empty level)) high c.requires.none c.requires.digit c.put-fresh.ensures.fresh c.put-fresh.ensures.here c.put-fresh.ensures.rest c.link.ensures.now c.link.ensures.rest s.0 s.1 s.2 s.3
+    owned-sprout xs c.put-fresh.new.nodes.slots c.link.new.nodes.slots c.args.parent c.args.digit c.put-fresh.result level c.empty.result
+    record {
+      empty = subst (λ n. IsEmpty n level) (sym c.empty.ensures) (is_empty level);
+      high = omega (arith, c.requires.parent, is);
+      none = c.requires.none;
+      below = c.requires.digit;
+      puts = record { gone = c.put-fresh.ensures.fresh; here = c.put-fresh.ensures.here; rest = c.put-fresh.ensures.rest };
+      link = c.link.ensures.now;
+      rest = c.link.ensures.rest;
+    }
+    s.0 s.1 s.2 s.3

@@ -12,7 +12,8 @@ drop_root-requires-clause-held c =
 
 pub returns-clause-dropped : goal.returns-clause-dropped
 returns-clause-dropped c =
-    rw (← c.self.view_is, ← c.id.view_is) (drops c.self.inside.nodes.slots c.drop_root.new.nodes.slots c.self.inside.ids.slots c.drop_root.new.ids.slots c.args.pool.now c.drop_root.new.pool c.id.inside.0 c.drop_root.ensures.held c.drop_root.ensures.gone c.drop_root.ensures.others c.drop_root.ensures.keeps)
+    rw (← c.self.view_is, ← c.id.view_is)
+    (drops c.self.inside.nodes.slots c.drop_root.new.nodes.slots c.self.inside.ids.slots c.drop_root.new.ids.slots c.args.pool.now c.drop_root.new.pool c.id.inside.0 c.drop_root.ensures.held c.drop_root.ensures.gone c.drop_root.ensures.others c.drop_root.ensures.keeps)
 
 pub returns-clause-holds : goal.returns-clause-holds
 returns-clause-holds c = seen-held c.drop_root.new.nodes.slots c.drop_root.new.ids.slots c.drop_root.new.pool c.drop_root.ensures.kept c.drop_root.ensures.held

@@ -1,8 +1,9 @@
 use Rattle.std.proofs.Common.{sym, subst}
 use Rattle.page_delta.specs.Delta.{Holds}
 use Rattle.page_delta.proofs.Seen.{held-seen, seen-held}
-use Rattle.page_delta.proofs.KeepCalls.{keeps, undone, on-err}
+use Rattle.page_delta.proofs.KeepCalls.{keeps, undone}
 use Rattle.page_delta.proofs.deltas.Deltas.keep_after.Goals as goal
+use Rattle.format_spec.proofs.Lists.{on_err}
 
 pub keep_root-requires-clause-held : goal.keep_root-requires-clause-held
 keep_root-requires-clause-held c = held-seen c.self.inside.nodes.slots c.self.inside.ids.slots c.args.pool.now
@@ -21,7 +22,7 @@ returns-clause-holds c = seen-held c.keep_root.new.nodes.slots c.keep_root.new.i
 
 pub returns-in_err-kept-clause-err : goal.returns-in_err-kept-clause-err
 returns-in_err-kept-clause-err c =
-    on-err c.from_residual.result (rw (← c.self.view_is)
+    on_err c.from_residual.result (rw (← c.self.view_is)
     (undone c.self.inside.nodes.slots c.keep_root.new.nodes.slots c.self.inside.ids.slots c.keep_root.new.ids.slots c.args.pool.now
     c.keep_root.new.pool c.keep_root.ensures.held c.keep_root.ensures.keeps c.in_err-kept.ensures.err))
 
