@@ -1,15 +1,16 @@
 -- States that agree but for births and rounds, and states that are made of parts and memories.
 use Rattle.std.specs.Prelude.{◌≡◌, ℕ, ◌*◌, ◌/◌, List, [], ◌∷◌, length, map, refl}
-use Rattle.std.specs.List.{AllByRecursion, flat_map}
+use Rattle.std.specs.List.{AllByRecursion}
+use Rattle.std.proofs.lemmas.List.Folds.{flat_map-map}
 use Rattle.std.proofs.Common.{sym, ◌∙◌, ap, arith}
 use Rattle.format_spec.specs.Bytes.{Bytes}
 use Rattle.format_spec.specs.declared.limits.TheConstants.{PAGE_SIZE}
-use Rattle.format_spec.proofs.Cuts.{heads}
-use Rattle.state_spec.specs.State.{State, Canister, CanisterPart, SystemPart, system_of, memory_bytes, state_from, canister_from, canisters_from, canister_without_history, without_history, SameState}
+use Rattle.state_spec.specs.State.{State, Canister, CanisterPart, SystemPart, bytes_in, system_of, memory_bytes, state_from, canister_from, canisters_from, canister_without_history, without_history, SameState}
 use Rattle.state_spec.specs.State as State
-use Rattle.state_spec.specs.Files.{heap_name, stable_name}
+use Rattle.state_spec.specs.Files.{heap_pages, stable_pages, memory_pages}
+use Rattle.state_spec.proofs.FileOrder.{by_two, by_canisters}
 use Rattle.sys_state.specs.declared.record.CanisterRecord.{CanisterRecord}
-use Rattle.sys_state.specs.System.{System, part_of, parts, kept_of, record_of}
+use Rattle.sys_state.specs.System.{System, part_of, part_of_record, parts, kept_of, record_of}
 use Rattle.manifest.specs.Fits.{FitMemories}
 
 abbrev parts_in : List (Bytes × Canister) → List (Bytes × CanisterPart)
@@ -18,14 +19,8 @@ parts_in cs = map (λ (c : Bytes × Canister). (c.0, State.part_of c.1)) cs
 abbrev kept_in : List (Bytes × Canister) → List (Bytes × CanisterRecord)
 kept_in cs = map (λ (c : Bytes × Canister). (c.0, record_of c.1)) cs
 
-abbrev bytes_in : List (Bytes × Canister) → List Bytes
-bytes_in cs = flat_map (λ (c : Bytes × Canister). c.1.heap.bytes ∷ c.1.stable.bytes ∷ []) cs
-
 abbrev bare : List (Bytes × Canister) → List (Bytes × Canister)
 bare cs = map (λ (c : Bytes × Canister). (c.0, canister_without_history c.1)) cs
-
-abbrev named : List (Bytes × CanisterPart) → List (Bytes × ℕ)
-named cs = flat_map (λ (c : Bytes × CanisterPart). (heap_name c.0, c.1.heap) ∷ (stable_name c.0, c.1.stable) ∷ []) cs
 
 abbrev lengths : List Bytes → List ℕ
 lengths memories = map (λ bytes. length bytes) memories
@@ -62,57 +57,39 @@ module _ (s t : State) (same : SameState s t) where
 pages_in : (size n : ℕ) → size ≡ n * PAGE_SIZE → size / PAGE_SIZE ≡ n
 pages_in size n e = omega (arith, e)
 
-parts_from : (birth : ℕ) (cs : List (Bytes × CanisterPart)) (memories : List Bytes) → lengths memories ≡ sizes (named cs) → parts_in (canisters_from birth cs memories) ≡ cs
-parts_from birth [] [] fit = refl
-parts_from birth [] (m ∷ memories) fit = absurd cc
-parts_from birth (c ∷ cs) [] fit = absurd cc
-parts_from birth (c ∷ cs) (heap ∷ []) fit =
-    absurd (let none = (heads (length heap) (c.1.heap * PAGE_SIZE) [] ((c.1.stable * PAGE_SIZE) ∷ sizes (named cs)) fit).1 in cc)
-parts_from birth (c ∷ cs) (heap ∷ stable ∷ memories) fit =
-    let h = heads (length heap) (c.1.heap * PAGE_SIZE) (length stable ∷ lengths memories) ((c.1.stable * PAGE_SIZE) ∷ sizes (named cs)) fit in
-    let s = heads (length stable) (c.1.stable * PAGE_SIZE) (lengths memories) (sizes (named cs)) h.1 in
-    let rest = parts_from birth cs memories s.1 in
-    λ i. (
-      c.0,
-      record {
-        wasm = c.1.wasm;
-        certified = c.1.certified;
-        heap = pages_in (length heap) c.1.heap h.0 i;
-        stable = pages_in (length stable) c.1.stable s.0 i;
-      },
-    ) ∷ rest i
+parts_from : (birth : ℕ) (cs : List (Bytes × CanisterPart)) (memories : List Bytes) → lengths memories ≡ sizes (memory_pages cs) → parts_in (canisters_from birth cs memories) ≡ cs
+parts_from birth = by_canisters (λ (cs : List (Bytes × CanisterPart)) (memories : List Bytes). parts_in (canisters_from birth cs memories) ≡ cs) refl (λ c cs heap stable memories h s rest i. (
+  c.0,
+  record {
+    wasm = c.1.wasm;
+    certified = c.1.certified;
+    heap = pages_in (length heap) c.1.heap h i;
+    stable = pages_in (length stable) c.1.stable s i;
+  },
+) ∷ rest i)
 
-bytes_from : (birth : ℕ) (cs : List (Bytes × CanisterPart)) (memories : List Bytes) → lengths memories ≡ sizes (named cs) → bytes_in (canisters_from birth cs memories) ≡ memories
-bytes_from birth [] [] fit = refl
-bytes_from birth [] (m ∷ memories) fit = absurd cc
-bytes_from birth (c ∷ cs) [] fit = absurd cc
-bytes_from birth (c ∷ cs) (heap ∷ []) fit =
-    absurd (let none = (heads (length heap) (c.1.heap * PAGE_SIZE) [] ((c.1.stable * PAGE_SIZE) ∷ sizes (named cs)) fit).1 in cc)
-bytes_from birth (c ∷ cs) (heap ∷ stable ∷ memories) fit =
-    let h = heads (length heap) (c.1.heap * PAGE_SIZE) (length stable ∷ lengths memories) ((c.1.stable * PAGE_SIZE) ∷ sizes (named cs)) fit in
-    let s = heads (length stable) (c.1.stable * PAGE_SIZE) (lengths memories) (sizes (named cs)) h.1 in
-    ap (λ (rest : List Bytes). heap ∷ stable ∷ rest) (bytes_from birth cs memories s.1)
+bytes_from : (birth : ℕ) (cs : List (Bytes × CanisterPart)) (memories : List Bytes) → lengths memories ≡ sizes (memory_pages cs) → bytes_in (canisters_from birth cs memories) ≡ memories
+bytes_from birth = by_canisters (λ (cs : List (Bytes × CanisterPart)) (memories : List Bytes). bytes_in (canisters_from birth cs memories) ≡ memories) refl
+    (λ c cs heap stable memories h s rest. ap (λ (all : List Bytes). heap ∷ stable ∷ all) rest)
 
-kept_from : (birth : ℕ) (cs : List (Bytes × CanisterRecord)) (memories : List Bytes) → AllByRecursion (λ c. c.1.birth ≡ birth) cs → lengths memories ≡ sizes (named (parts cs)) → kept_in (canisters_from birth (parts cs) memories) ≡ cs
-kept_from birth [] [] births fit = refl
-kept_from birth [] (m ∷ memories) births fit = absurd cc
-kept_from birth (c ∷ cs) [] births fit = absurd cc
-kept_from birth (c ∷ cs) (heap ∷ []) births fit =
-    absurd (let none = (heads (length heap) (c.1.heap * PAGE_SIZE) [] ((c.1.stable * PAGE_SIZE) ∷ sizes (named (parts cs))) fit).1 in cc)
-kept_from birth (c ∷ cs) (heap ∷ stable ∷ memories) births fit =
-    let h = heads (length heap) (c.1.heap * PAGE_SIZE) (length stable ∷ lengths memories) ((c.1.stable * PAGE_SIZE) ∷ sizes (named (parts cs))) fit in
-    let s = heads (length stable) (c.1.stable * PAGE_SIZE) (lengths memories) (sizes (named (parts cs))) h.1 in
-    let rest = kept_from birth cs memories births.1 s.1 in
-    λ i. (
+abbrev part : Bytes × CanisterRecord → Bytes × CanisterPart
+part c = (c.0, part_of_record c.1)
+
+kept_from : (birth : ℕ) (cs : List (Bytes × CanisterRecord)) (memories : List Bytes) → AllByRecursion (λ c. c.1.birth ≡ birth) cs → lengths memories ≡ sizes (memory_pages (parts cs)) → kept_in (canisters_from birth (parts cs) memories) ≡ cs
+kept_from birth cs memories births fit =
+    by_two (λ c. heap_pages (part c)) (λ c. stable_pages (part c)) (λ (bytes : Bytes). length bytes) (λ (m : Bytes × ℕ). m.1 * PAGE_SIZE)
+    (λ (cs : List (Bytes × CanisterRecord)) (memories : List Bytes). AllByRecursion (λ c. c.1.birth ≡ birth) cs → kept_in (canisters_from birth (parts cs) memories) ≡ cs) (λ none. refl)
+    (λ c cs heap stable memories h s rest births i. (
       c.0,
       record {
         «module» = c.1.module;
         certified = c.1.certified;
-        heap = pages_in (length heap) c.1.heap h.0 i;
-        stable = pages_in (length stable) c.1.stable s.0 i;
+        heap = pages_in (length heap) c.1.heap h i;
+        stable = pages_in (length stable) c.1.stable s i;
         birth = sym births.0 i;
       },
-    ) ∷ rest i
+    ) ∷ rest births.1 i)
+    cs memories (fit ∙ ap sizes (flat_map-map (λ (c : Bytes × CanisterPart). heap_pages c ∷ stable_pages c ∷ []) part cs)) births
 
 module _ (version birth : ℕ) (s : SystemPart) (memories : List Bytes) (fit : FitMemories s memories) where
   pub made_parts : system_of (state_from version birth s memories) ≡ s

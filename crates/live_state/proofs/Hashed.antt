@@ -25,17 +25,7 @@ use Rattle.sys_state.specs.System.{System, part_of, kept_of}
 use Rattle.sys_state.specs.declared.record.CanisterRecord.{CanisterRecord}
 use Rattle.live_state.proofs.MemoryLines.{parts_of_state}
 use Rattle.live_state.specs.StateKept.{StateView, KeepsState}
-use Rattle.live_state.specs.Sizes.{HaveSizes, sizes_of}
-
-pub sizes_in : (s : System) → map (λ (memory : Bytes × ℕ). memory.1 * PAGE_SIZE) (memories_in (part_of s)) ≡ sizes_of s.canisters
-sizes_in s = go s.canisters
-  where
-    go : (cs : List (Bytes × CanisterRecord)) → map (λ (memory : Bytes × ℕ). memory.1 * PAGE_SIZE) (memories_in (part_of (record s { canisters = cs }))) ≡ sizes_of cs
-    go [] = refl
-    go (c ∷ cs) = ap (λ (t : List ℕ). c.1.heap * PAGE_SIZE ∷ c.1.stable * PAGE_SIZE ∷ t) (go cs)
-
-pub fit_memories : (s : System) (ms : List Bytes) → HaveSizes s.canisters ms → FitMemories (part_of s) ms
-fit_memories s ms h = h ∙ sym (sizes_in s)
+use Rattle.live_state.specs.Sizes.{HaveSizes}
 
 pub root_is : (s : State) (man : Manifest) (meta : MetaManifest) (r : Bytes) → man ≡ manifest_of s → meta ≡ meta_of man → r ≡ root_of_meta meta → r ≡ root_of s
 unfolding root_of
@@ -61,7 +51,7 @@ parts_kept held system k keeps is = sym (ap part_of (is ∙ keeps.system) ∙ pa
 
 pub fit_kept : (held inside : StateView) (k : ℕ × State) → inside ≡ held → KeepsState held k → HaveSizes inside.system.canisters inside.memories → FitMemories (part_of inside.system) (memory_bytes k.1)
 fit_kept held inside k view keeps sizes =
-    subst (FitMemories (part_of inside.system)) (ap (λ (h : StateView). h.memories) view ∙ keeps.memories) (fit_memories inside.system inside.memories sizes)
+    subst (FitMemories (part_of inside.system)) (ap (λ (h : StateView). h.memories) view ∙ keeps.memories) sizes
 
 -- counts by sizes are those of the state's manifest
 pub counted : (s : State) (sys : System) (c : Counts) → s.version ≡ 1 → system_of s ≡ part_of sys → FitMemories (part_of sys) (memory_bytes s) → c ≡ counts_by (part_of sys)

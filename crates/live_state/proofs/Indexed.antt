@@ -2,21 +2,22 @@
 use Rattle.std.proofs.Common.{◌≡◌, ◌<◌, ◌+◌, ◌-◌, ◌*◌, ℕ, List, [], ◌∷◌, ◌++◌, length, map, get_or, set, take, drop, refl, ◌∙◌, ap, sym, subst, arith, length-append}
 use Rattle.std.proofs.Math.Seq.{get_or-append_seam, set-append_seam, map-set_same}
 use Rattle.std.proofs.lemmas.List.{get_or-append-add, set-append_right, get_or-map, map-set, length-map, map-append, take-map, drop-map}
-use Rattle.std.proofs.lemmas.List.Concat.{flat_map-append}
 use Rattle.format_spec.specs.Bytes.{Bytes}
 use Rattle.format_spec.specs.declared.limits.TheConstants.{PAGE_SIZE}
 use Rattle.std.proofs.Common.{Some}
 use Rattle.std.specs.FinMap.{find}
 use Rattle.format_spec.specs.Bytes.{bytes_cmp}
 use Rattle.sys_state.specs.Calls.{pages_of, with_more_pages, newborn, Creates, Removes, Changes}
+use Rattle.state_spec.specs.FileOrder.{in_turn}
+use Rattle.state_spec.specs.Files.{memory_pages}
 use Rattle.state_spec.specs.Places.{place_of, Stands}
-use Rattle.sys_state.specs.System.{System}
+use Rattle.state_spec.proofs.FileOrder.{length-in_turn, in_turn-append, in_turn-insert, in_turn-remove}
+use Rattle.sys_state.specs.System.{System, parts}
 use Rattle.sys_state.specs.declared.mem.Mem.{Mem}
 use Rattle.sys_state.specs.declared.mem.Mem.TheVariants.{Heap, Stable}
 use Rattle.sys_state.specs.declared.record.CanisterRecord.{CanisterRecord}
 use Rattle.live_state.specs.Places.{index_of}
-use Rattle.live_state.specs.Sizes.{sizes_of, HaveSizes}
-use Rattle.live_state.proofs.Pairs.{take_front, drop_front}
+use Rattle.live_state.specs.Sizes.{HaveSizes}
 
 -- of a heap and a stable memory, the one that is meant, and the two with another one in its place
 abbrev pub pick : {X : Type 0} → Mem → X → X → X
@@ -47,18 +48,25 @@ index_within front rest h s n Stable e = omega (arith, e, length-append front (h
 
 -- ---- sizes
 
-pub length-sizes : (cs : List (Bytes × CanisterRecord)) → length (sizes_of cs) ≡ 2 * length cs
-length-sizes [] = refl
-length-sizes (c ∷ cs) = omega (arith, length-sizes cs)
+abbrev heap_size : Bytes × CanisterRecord → ℕ
+heap_size c = c.1.heap * PAGE_SIZE
 
-pub sizes-append : (xs ys : List (Bytes × CanisterRecord)) → sizes_of (xs ++ ys) ≡ sizes_of xs ++ sizes_of ys
-sizes-append xs ys = flat_map-append (λ c. c.1.heap * PAGE_SIZE ∷ c.1.stable * PAGE_SIZE ∷ []) xs ys
+abbrev stable_size : Bytes × CanisterRecord → ℕ
+stable_size c = c.1.stable * PAGE_SIZE
+
+abbrev sizes_of : List (Bytes × CanisterRecord) → List ℕ
+sizes_of cs = in_turn heap_size stable_size cs
+
+sizes_are : (cs : List (Bytes × CanisterRecord)) → map (λ (memory : Bytes × ℕ). memory.1 * PAGE_SIZE) (memory_pages (parts cs)) ≡ sizes_of cs
+sizes_are [] = refl
+sizes_are (c ∷ cs) = ap (λ (ns : List ℕ). heap_size c ∷ stable_size c ∷ ns) (sizes_are cs)
 
 pub pair_for_each : (cs : List (Bytes × CanisterRecord)) (ms : List Bytes) → HaveSizes cs ms → length ms ≡ 2 * length cs
-pair_for_each cs ms h = sym (length-map ms (λ (bytes : Bytes). length bytes)) ∙ ap length h ∙ length-sizes cs
+pair_for_each cs ms h = sym (length-map ms (λ (bytes : Bytes). length bytes)) ∙ ap length (h ∙ sizes_are cs) ∙ length-in_turn heap_size stable_size cs
 
-split_sizes : (before after : List (Bytes × CanisterRecord)) (id : Bytes) (c : CanisterRecord) → sizes_of (before ++ (id, c) ∷ after) ≡ sizes_of before ++ c.heap * PAGE_SIZE ∷ c.stable * PAGE_SIZE ∷ sizes_of after
-split_sizes before after id c = sizes-append before ((id, c) ∷ after)
+split_sizes : (cs before after : List (Bytes × CanisterRecord)) (id : Bytes) (c : CanisterRecord) (ms : List Bytes) → HaveSizes cs ms → cs ≡ before ++ (id, c) ∷ after
+    → map (λ (bytes : Bytes). length bytes) ms ≡ sizes_of before ++ c.heap * PAGE_SIZE ∷ c.stable * PAGE_SIZE ∷ sizes_of after
+split_sizes cs before after id c ms h split = h ∙ sizes_are cs ∙ ap sizes_of split ∙ in_turn-append heap_size stable_size before ((id, c) ∷ after)
 
 pick_pages : (mem : Mem) (c : CanisterRecord) → pick mem (c.heap * PAGE_SIZE) (c.stable * PAGE_SIZE) ≡ pages_of mem c * PAGE_SIZE
 pick_pages Heap c = refl
@@ -68,8 +76,8 @@ pick_pages Stable c = refl
 pub size_at : (cs before after : List (Bytes × CanisterRecord)) (id : Bytes) (c : CanisterRecord) (ms : List Bytes) (n : ℕ) (mem : Mem) (d : Bytes) → HaveSizes cs ms → cs ≡ before ++ (id, c) ∷ after → length before ≡ n
     → (index_of n mem < length ms) × (length (get_or ms (index_of n mem) d) ≡ pages_of mem c * PAGE_SIZE)
 size_at cs before after id c ms n mem d h split count =
-    let sizes : map (λ (bytes : Bytes). length bytes) ms ≡ sizes_of before ++ c.heap * PAGE_SIZE ∷ c.stable * PAGE_SIZE ∷ sizes_of after = h ∙ ap sizes_of split ∙ split_sizes before after id c in
-    let front : length (sizes_of before) ≡ 2 * n = length-sizes before ∙ ap (λ k. 2 * k) count in
+    let sizes = split_sizes cs before after id c ms h split in
+    let front : length (sizes_of before) ≡ 2 * n = length-in_turn heap_size stable_size before ∙ ap (λ k. 2 * k) count in
     let within : index_of n mem < length ms = subst (λ k. index_of n mem < k) (sym (ap length sizes) ∙ length-map ms (λ (bytes : Bytes). length bytes)) (index_within (sizes_of before) (sizes_of after) (c.heap * PAGE_SIZE) (c.stable * PAGE_SIZE) n mem front) in
     (within, sym (get_or-map (λ (bytes : Bytes). length bytes) ms (index_of n mem) d 0 within) ∙ ap (λ l. get_or l (index_of n mem) 0) sizes ∙ pair_get (sizes_of before) (sizes_of after) (c.heap * PAGE_SIZE) (c.stable * PAGE_SIZE) 0 n mem front ∙ pick_pages mem c)
 
@@ -79,12 +87,12 @@ pub resized : (cs new before after : List (Bytes × CanisterRecord)) (id : Bytes
     → cs ≡ before ++ (id, c) ∷ after → new ≡ before ++ (id, with_more_pages mem more c) ∷ after → length before ≡ n → length x ≡ (pages_of mem c + more) * PAGE_SIZE
     → HaveSizes new (set ms (index_of n mem) x)
 resized cs new before after id c ms n mem more x h split now count size =
-    let sizes : map (λ (bytes : Bytes). length bytes) ms ≡ sizes_of before ++ c.heap * PAGE_SIZE ∷ c.stable * PAGE_SIZE ∷ sizes_of after = h ∙ ap sizes_of split ∙ split_sizes before after id c in
-    let front : length (sizes_of before) ≡ 2 * n = length-sizes before ∙ ap (λ k. 2 * k) count in
+    let sizes = split_sizes cs before after id c ms h split in
+    let front : length (sizes_of before) ≡ 2 * n = length-in_turn heap_size stable_size before ∙ ap (λ k. 2 * k) count in
     map-set (λ (bytes : Bytes). length bytes) ms (index_of n mem) x ∙ ap (λ l. set l (index_of n mem) (length x)) sizes
     ∙ pair_set (sizes_of before) (sizes_of after) (c.heap * PAGE_SIZE) (c.stable * PAGE_SIZE) (length x) n mem front
     ∙ extended_sizes mem size
-    ∙ sym (ap sizes_of now ∙ split_sizes before after id (with_more_pages mem more c))
+    ∙ sym (sizes_are new ∙ ap sizes_of now ∙ in_turn-append heap_size stable_size before ((id, with_more_pages mem more c) ∷ after))
   where
     extended_sizes : (mem : Mem) → length x ≡ (pages_of mem c + more) * PAGE_SIZE → sizes_of before ++ heap_with mem (c.heap * PAGE_SIZE) (length x) ∷ stable_with mem (c.stable * PAGE_SIZE) (length x) ∷ sizes_of after ≡ sizes_of before ++ (with_more_pages mem more c).heap * PAGE_SIZE ∷ (with_more_pages mem more c).stable * PAGE_SIZE ∷ sizes_of after
     extended_sizes Heap e = ap (λ k. sizes_of before ++ k ∷ c.stable * PAGE_SIZE ∷ sizes_of after) e
@@ -96,11 +104,11 @@ pub with_pair : (cs new before after : List (Bytes × CanisterRecord)) (id : Byt
 with_pair cs new before after id birth ms h split now =
     let at = 2 * length before in
     let f : Bytes → ℕ = λ (bytes : Bytes). length bytes in
-    let sizes : map f ms ≡ sizes_of before ++ sizes_of after = h ∙ ap sizes_of split ∙ sizes-append before after in
     map-append f (take at ms) ([] ∷ [] ∷ drop at ms)
-    ∙ ap (λ l. l ++ 0 ∷ 0 ∷ map f (drop at ms)) (sym (take-map f at ms) ∙ ap (take at) sizes ∙ take_front (sizes_of before) (sizes_of after) at (length-sizes before))
-    ∙ ap (λ l. sizes_of before ++ 0 ∷ 0 ∷ l) (sym (drop-map f at ms) ∙ ap (drop at) sizes ∙ drop_front (sizes_of before) (sizes_of after) at (length-sizes before))
-    ∙ sym (ap sizes_of now ∙ sizes-append before ((id, newborn birth) ∷ after))
+    ∙ (λ i. sym (take-map f at ms) i ++ 0 ∷ 0 ∷ sym (drop-map f at ms) i)
+    ∙ ap (λ (ns : List ℕ). take at ns ++ 0 ∷ 0 ∷ drop at ns) (h ∙ sizes_are cs ∙ ap sizes_of split)
+    ∙ in_turn-insert heap_size stable_size before (id, newborn birth) after (length before) refl
+    ∙ sym (sizes_are new ∙ ap sizes_of now)
 
 pub without_pair : (cs new before after : List (Bytes × CanisterRecord)) (id : Bytes) (c : CanisterRecord) (ms : List Bytes) → HaveSizes cs ms
     → cs ≡ before ++ (id, c) ∷ after → new ≡ before ++ after
@@ -108,11 +116,11 @@ pub without_pair : (cs new before after : List (Bytes × CanisterRecord)) (id : 
 without_pair cs new before after id c ms h split now =
     let at = 2 * length before in
     let f : Bytes → ℕ = λ (bytes : Bytes). length bytes in
-    let sizes : map f ms ≡ sizes_of before ++ c.heap * PAGE_SIZE ∷ c.stable * PAGE_SIZE ∷ sizes_of after = h ∙ ap sizes_of split ∙ split_sizes before after id c in
     map-append f (take at ms) (drop 2 (drop at ms))
-    ∙ ap (λ l. l ++ map f (drop 2 (drop at ms))) (sym (take-map f at ms) ∙ ap (take at) sizes ∙ take_front (sizes_of before) _ at (length-sizes before))
-    ∙ ap (λ l. sizes_of before ++ l) (sym (drop-map f 2 (drop at ms)) ∙ ap (drop 2) (sym (drop-map f at ms) ∙ ap (drop at) sizes ∙ drop_front (sizes_of before) _ at (length-sizes before)))
-    ∙ sym (ap sizes_of now ∙ sizes-append before after)
+    ∙ (λ i. sym (take-map f at ms) i ++ (sym (drop-map f 2 (drop at ms)) ∙ ap (drop 2) (sym (drop-map f at ms))) i)
+    ∙ ap (λ (ns : List ℕ). take at ns ++ drop 2 (drop at ns)) (h ∙ sizes_are cs ∙ ap sizes_of split)
+    ∙ in_turn-remove heap_size stable_size before (id, c) after (length before) refl
+    ∙ sym (sizes_are new ∙ ap sizes_of now)
 
 -- ---- sizes, by what the system's calls say
 

@@ -1,12 +1,11 @@
 -- A manager whose live state has changed keeps the machine with the changed state.
 use Rattle.std.proofs.Common.{◌≡◌, ◌*◌, ℕ, List, [], ◌∷◌, ◌++◌, length, take, drop, Option, Some, None, refl, ◌∙◌, ap, sym, subst, arith}
 use Rattle.std.proofs.lemmas.List.{length-map}
-use Rattle.std.proofs.lemmas.List.Concat.{flat_map-append}
 use Rattle.std.specs.FinMap.{put}
-use Rattle.std.specs.List.{flat_map}
 use Rattle.std.specs.Option.{is_some, option_map}
 use Rattle.format_spec.specs.Bytes.{Bytes, bytes_cmp}
-use Rattle.state_spec.specs.State.{State, Canister, without}
+use Rattle.state_spec.specs.State.{State, Canister, bytes_in, heap_bytes, stable_bytes, without}
+use Rattle.state_spec.proofs.FileOrder.{in_turn-append, in_turn-insert, in_turn-remove}
 use Rattle.sys_state.specs.Calls as calls
 use Rattle.state_spec.specs.Places.{place_of}
 use Rattle.sys_state.specs.System.{System, kept_of, record_of}
@@ -14,22 +13,10 @@ use Rattle.sys_state.specs.declared.record.CanisterRecord.{CanisterRecord}
 use Rattle.machine_spec.specs.Machine.{Machine}
 use Rattle.machine_spec.specs.States.{canister_in, with_canister, without_canister, newborn}
 use Rattle.live_state.specs.StateKept.{StateView, KeepsState, live_of}
-use Rattle.live_state.proofs.Pairs.{take_front, drop_front}
 use Rattle.live_state.proofs.Splits.{images, find_images, put_images, without_images, sorted-put, sorted-without, comes, stays}
 
 abbrev pub Canisters : Type 0
 Canisters = List (Bytes × Canister)
-
--- heap and stable memory of each
-abbrev pub bytes_in : Canisters → List Bytes
-bytes_in cs = flat_map (λ c. c.1.heap.bytes ∷ c.1.stable.bytes ∷ []) cs
-
-pub bytes-append : (xs ys : Canisters) → bytes_in (xs ++ ys) ≡ bytes_in xs ++ bytes_in ys
-bytes-append xs ys = flat_map-append (λ c. c.1.heap.bytes ∷ c.1.stable.bytes ∷ []) xs ys
-
-pub length-bytes : (cs : Canisters) → length (bytes_in cs) ≡ 2 * length cs
-length-bytes [] = refl
-length-bytes (c ∷ cs) = omega (arith, length-bytes cs)
 
 is_some-map : {A B : Type 0} (f : A → B) (o : Option A) → is_some (option_map f o) ≡ is_some o
 is_some-map f None = refl
@@ -76,15 +63,11 @@ module _ (held now : StateView) (m : Machine) (k : KeepsState held (live_of m)) 
       let new_is : put bytes_cmp id (record_of nb) (images record_of cs) ≡ c.split.before ++ (id, record_of nb) ∷ c.split.after =
       ap (put bytes_cmp id (record_of nb)) there ∙ sym (ap (λ (s : System). s.canisters) c.now) ∙ c.split.new_is in
       let split = comes record_of id nb cs c.split.before c.split.after k.sorted (there ∙ c.split.old_is) new_is in
-      let at : ℕ = 2 * place_of bytes_cmp id held.system.canisters in
-      let count : length (bytes_in split.front) ≡ at = length-bytes split.front ∙ ap (λ n. 2 * n) (in_front split.front c.split.before split.front_is ∙ c.split.count) in
-      let bytes : held.memories ≡ bytes_in split.front ++ bytes_in split.back = k.memories ∙ ap bytes_in split.whole ∙ bytes-append split.front split.back in
+      let count : length split.front ≡ place_of bytes_cmp id held.system.canisters = in_front split.front c.split.before split.front_is ∙ c.split.count in
       let all : now.memories ≡ bytes_in (put bytes_cmp id nb cs) =
       memories
-      ∙ ap (λ (ms : List Bytes). take at ms ++ ([] ∷ [] ∷ drop at ms)) bytes
-      ∙ ap (λ (ms : List Bytes). ms ++ ([] ∷ [] ∷ drop at (bytes_in split.front ++ bytes_in split.back))) (take_front (bytes_in split.front) (bytes_in split.back) at count)
-      ∙ ap (λ (ms : List Bytes). bytes_in split.front ++ ([] ∷ [] ∷ ms)) (drop_front (bytes_in split.front) (bytes_in split.back) at count)
-      ∙ sym (bytes-append split.front ((id, nb) ∷ split.back))
+      ∙ ap (λ (ms : List Bytes). take (2 * place_of bytes_cmp id held.system.canisters) ms ++ ([] ∷ [] ∷ drop (2 * place_of bytes_cmp id held.system.canisters) ms)) (k.memories ∙ ap bytes_in split.whole)
+      ∙ in_turn-insert heap_bytes stable_bytes split.front (id, nb) split.back (place_of bytes_cmp id held.system.canisters) count
       ∙ sym (ap bytes_in (split.put_is nb)) in
       let keeps : KeepsState now (live_of (record m { live = with_canister m.live id nb })) = record {
         version = k.version;
@@ -102,16 +85,11 @@ module _ (held now : StateView) (m : Machine) (k : KeepsState held (live_of m)) 
   kept_remove id c memories =
       let cs : Canisters = m.live.canisters in
       let split = stays record_of id c.c cs c.split.before c.split.after k.sorted (there ∙ c.split.old_is) in
-      let at : ℕ = 2 * place_of bytes_cmp id held.system.canisters in
-      let count : length (bytes_in split.front) ≡ at = length-bytes split.front ∙ ap (λ n. 2 * n) (in_front split.front c.split.before split.front_is ∙ c.split.count) in
-      let rest : List Bytes = split.value.heap.bytes ∷ split.value.stable.bytes ∷ bytes_in split.back in
-      let bytes : held.memories ≡ bytes_in split.front ++ rest = k.memories ∙ ap bytes_in split.whole ∙ bytes-append split.front ((id, split.value) ∷ split.back) in
+      let count : length split.front ≡ place_of bytes_cmp id held.system.canisters = in_front split.front c.split.before split.front_is ∙ c.split.count in
       let all : now.memories ≡ bytes_in (without bytes_cmp id cs) =
       memories
-      ∙ ap (λ (ms : List Bytes). take at ms ++ drop 2 (drop at ms)) bytes
-      ∙ ap (λ (ms : List Bytes). ms ++ drop 2 (drop at (bytes_in split.front ++ rest))) (take_front (bytes_in split.front) rest at count)
-      ∙ ap (λ (ms : List Bytes). bytes_in split.front ++ drop 2 ms) (drop_front (bytes_in split.front) rest at count)
-      ∙ sym (bytes-append split.front split.back)
+      ∙ ap (λ (ms : List Bytes). take (2 * place_of bytes_cmp id held.system.canisters) ms ++ drop 2 (drop (2 * place_of bytes_cmp id held.system.canisters) ms)) (k.memories ∙ ap bytes_in split.whole)
+      ∙ in_turn-remove heap_bytes stable_bytes split.front (id, split.value) split.back (place_of bytes_cmp id held.system.canisters) count
       ∙ sym (ap bytes_in split.without_is) in
       record {
         version = k.version;
@@ -132,12 +110,12 @@ module _ (held now : StateView) (m : Machine) (k : KeepsState held (live_of m)) 
       let value : split.value ≡ c = cc (split.found, found) in
       let count : length split.front ≡ place_of bytes_cmp id held.system.canisters = in_front split.front done.split.before split.front_is ∙ done.split.count in
       let bytes : held.memories ≡ bytes_in split.front ++ c.heap.bytes ∷ c.stable.bytes ∷ bytes_in split.back =
-      k.memories ∙ ap bytes_in split.whole ∙ bytes-append split.front ((id, split.value) ∷ split.back) ∙ ap (λ (x : Canister). bytes_in split.front ++ x.heap.bytes ∷ x.stable.bytes ∷ bytes_in split.back) value in
+      k.memories ∙ ap bytes_in split.whole ∙ in_turn-append heap_bytes stable_bytes split.front ((id, split.value) ∷ split.back) ∙ ap (λ (x : Canister). bytes_in split.front ++ x.heap.bytes ∷ x.stable.bytes ∷ bytes_in split.back) value in
       let changed : change done.c ≡ record_of new = ap change (sym split.value_is ∙ ap record_of value) ∙ sym same in
       record {
         version = k.version;
         sorted = sorted-put id new cs k.sorted;
         system = done.now ∙ ap (λ (r : CanisterRecord). calls.with_canister held.system id r) changed ∙ ap (λ (s : System). calls.with_canister s id (record_of new)) k.system ∙ ap (λ (rs : List (Bytes × CanisterRecord)). record (kept_of m.live) { canisters = rs }) (sym (put_images record_of id new cs));
-        memories = memories split.front split.back count bytes ∙ sym (bytes-append split.front ((id, new) ∷ split.back)) ∙ sym (ap bytes_in (split.put_is new));
+        memories = memories split.front split.back count bytes ∙ sym (in_turn-append heap_bytes stable_bytes split.front ((id, new) ∷ split.back)) ∙ sym (ap bytes_in (split.put_is new));
         height = beside.height ∙ k.height;
       }

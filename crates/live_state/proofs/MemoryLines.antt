@@ -6,13 +6,14 @@ use Rattle.std.specs.Prelude.{if◌then◌else◌}
 use Rattle.byte_codec.specs.declared.error.NoMemory.{NoMemory}
 use Rattle.format_spec.specs.Bytes.{Bytes, bytes_cmp}
 use Rattle.format_spec.specs.declared.limits.TheConstants.{PAGE_SIZE, MAX_MEMORY_PAGES}
-use Rattle.state_spec.specs.State.{State, Canister, CanisterPart, Memory, SystemPart, system_of, part_of, pages_of, memory_limit, state_limit, all_pages as pages_in_all}
+use Rattle.state_spec.specs.State.{State, Canister, CanisterPart, Memory, SystemPart, bytes_in, heap_bytes, stable_bytes, system_of, part_of, pages_of, memory_limit, state_limit, all_pages as pages_in_all}
 use Rattle.std.proofs.lemmas.List.{length-map}
 use Rattle.script_text.specs.declared.reply.Reply.TheVariants as replies
 use Rattle.state_spec.specs.Memory.{read, grow, write, zeros, pages_for}
 use Rattle.state_spec.proofs.Memories.{grow_pages, write_pages, write_bytes, write_none}
 use Rattle.sys_state.specs.Calls as calls
 use Rattle.state_spec.specs.Places.{place_of, Stands}
+use Rattle.state_spec.proofs.FileOrder.{length-in_turn, in_turn-append}
 use Rattle.sys_state.specs.System as systems
 use Rattle.sys_state.specs.System.{System, kept_of, record_of, part_of_record}
 use Rattle.sys_state.specs.declared.error.SysError.{SysError}
@@ -31,7 +32,7 @@ use Rattle.live_state.specs.StateKept.{StateView, KeepsState, AfterState, live_o
 use Rattle.live_state.specs.Memories.{pages_more, bytes_after_write, write_refusal}
 use Rattle.live_state.specs.Places.{index_of}
 use Rattle.live_state.proofs.Indexed.{pick, heap_with, stable_with, pair_get, pair_set}
-use Rattle.live_state.proofs.Keeping.{SameBeside, found_there, kept_same, kept_change, bytes_in, length-bytes, bytes-append}
+use Rattle.live_state.proofs.Keeping.{SameBeside, found_there, kept_same, kept_change}
 use Rattle.live_state.proofs.Splits.{stays}
 use Rattle.live_state.proofs.Lines.{Same}
 use Rattle.live_state.proofs.Stepped.{alters_two}
@@ -107,7 +108,7 @@ module _ (old now : StateView) (m : Machine) (k : KeepsState old (live_of m)) (b
       let n : ℕ = place_of bytes_cmp id old.system.canisters in
       kept_change old now m k beside id (calls.extended mem more) c (with_memory c mem new) found (record_with mem c new more pages) done
       (λ front back count all.
-      let at : length (bytes_in front) ≡ 2 * n = length-bytes front ∙ ap (λ (j : ℕ). 2 * j) count in
+      let at : length (bytes_in front) ≡ 2 * n = length-in_turn heap_bytes stable_bytes front ∙ ap (λ (j : ℕ). 2 * j) count in
       let was : get_or old.memories (index_of n mem) [] ≡ (memory_of c mem).bytes = ap (λ (ms : List Bytes). get_or ms (index_of n mem) []) all ∙ pair_get (bytes_in front) (bytes_in back) c.heap.bytes c.stable.bytes [] n mem at ∙ picked mem c in
       memories ∙ ap (λ (ms : List Bytes). set ms (index_of n mem) x) all ∙ pair_set (bytes_in front) (bytes_in back) c.heap.bytes c.stable.bytes x n mem at ∙ replaced mem c new (bytes_in front) (bytes_in back) x (bytes was))
 
@@ -207,11 +208,11 @@ is_there held k keeps id n mem s =
     let split = stays record_of id s.value k.1.canisters s.at.before s.at.after keeps.sorted (sym (ap (λ (t : System). t.canisters) keeps.system) ∙ s.at.split) in
     let count : length split.front ≡ n = sym (length-map split.front (λ (c : Bytes × Canister). (c.0, record_of c.1))) ∙ ap length split.front_is ∙ s.at.count in
     let c : Canister = split.value in
-    let all : held.memories ≡ bytes_in split.front ++ c.heap.bytes ∷ c.stable.bytes ∷ bytes_in split.back = keeps.memories ∙ ap bytes_in split.whole ∙ bytes-append split.front ((id, c) ∷ split.back) in
+    let all : held.memories ≡ bytes_in split.front ++ c.heap.bytes ∷ c.stable.bytes ∷ bytes_in split.back = keeps.memories ∙ ap bytes_in split.whole ∙ in_turn-append heap_bytes stable_bytes split.front ((id, c) ∷ split.back) in
     record {
       canister = c;
       found = split.found;
-      bytes = ap (λ (ms : List Bytes). get_or ms (index_of n mem) []) all ∙ pair_get (bytes_in split.front) (bytes_in split.back) c.heap.bytes c.stable.bytes [] n mem (length-bytes split.front ∙ ap (λ (j : ℕ). 2 * j) count) ∙ picked mem c;
+      bytes = ap (λ (ms : List Bytes). get_or ms (index_of n mem) []) all ∙ pair_get (bytes_in split.front) (bytes_in split.back) c.heap.bytes c.stable.bytes [] n mem (length-in_turn heap_bytes stable_bytes split.front ∙ ap (λ (j : ℕ). 2 * j) count) ∙ picked mem c;
     }
 
 -- `read` of a state finds the canister

@@ -1,7 +1,7 @@
 -- How long names and lists of a state within the limits are.
 use Rattle.std.proofs.Common.{◌≡◌, ℕ, suc, ◌+◌, ◌*◌, ◌<◌, ◌≤◌, List, [], ◌∷◌, ◌++◌, length, map, ◌∙◌, arith}
 use Rattle.std.specs.Prelude.{codes}
-use Rattle.std.specs.List.{AllByRecursion, flat_map}
+use Rattle.std.specs.List.{AllByRecursion}
 use Rattle.std.proofs.lemmas.List.{length-map, length-append}
 use Rattle.hex.specs.Hex.{encode_lower, lower_digits}
 use Rattle.hex.proofs.HexLemmas.{length-encode_with}
@@ -11,14 +11,14 @@ use Rattle.format_spec.specs.declared.limits.TheConstants.{CHUNK_SIZE, PAGE_SIZE
 use Rattle.format_spec.proofs.Lists.{all_join}
 use Rattle.state_spec.specs.State.{SystemPart, CanisterPart, IsSystem, FitsCanister}
 use Rattle.state_spec.specs.SystemText.{system_text}
-use Rattle.state_spec.specs.Files.{file_name, heap_name, stable_name, memories_in, system_name}
+use Rattle.state_spec.specs.Files.{file_name, heap_pages, stable_pages, memory_pages, memories_in, system_name}
+use Rattle.state_spec.proofs.FileOrder.{by_two}
 use Rattle.state_spec.specs.Manifest.{FileSums, ChunkRow, chunk_sums, chunk_rows, file_row, memory_sums, file_sums, manifest_from, chunk_hashes}
 use Rattle.state_spec.proofs.SystemSizes.{id_size, system_size}
 use Rattle.sys_state.specs.declared.record.CanisterRecord.{CanisterRecord}
 use Rattle.sys_state.specs.System.{System, IsWithinLimits, part_of_record}
 use Rattle.manifest.specs.Fits.{FitsText, FitSums}
 use Rattle.manifest.proofs.Growing.{length-sums_from}
-use Rattle.format_spec.proofs.Cuts.{heads}
 use Rattle.format_spec.proofs.Parts.{parts_length}
 
 abbrev part_in : Bytes × CanisterRecord → Bytes × CanisterPart
@@ -44,34 +44,25 @@ name_size id memory short few =
 few_chunks : (pages n : ℕ) → pages ≤ 65536 → n ≡ part_count CHUNK_SIZE (pages * PAGE_SIZE) → n ≤ 256
 few_chunks pages n few is = omega arith
 
-abbrev named : List (Bytes × CanisterPart) → List (Bytes × ℕ)
-named cs = flat_map (λ (c : Bytes × CanisterPart). (heap_name c.0, c.1.heap) ∷ (stable_name c.0, c.1.stable) ∷ []) cs
-
-abbrev counts : List (Bytes × ℕ) → List ℕ
-counts ms = map (λ (m : Bytes × ℕ). part_count CHUNK_SIZE (m.1 * PAGE_SIZE)) ms
-
-abbrev lengths : List (List Bytes) → List ℕ
-lengths ls = map (λ (l : List Bytes). length l) ls
-
-small_memories : (cs : List (Bytes × CanisterPart)) (ls : List (List Bytes)) → AllByRecursion (FitsCanister 1) cs → lengths ls ≡ counts (named cs)
-    → AllByRecursion Small (memory_sums (named cs) ls) × (length (memory_sums (named cs) ls) ≤ 2 * length cs)
-small_memories [] ls fit e = (tt, omega arith)
-small_memories (c ∷ cs) [] fit e = (tt, omega arith)
-small_memories (c ∷ cs) (a ∷ []) fit e = absurd (none (heads (length a) (part_count CHUNK_SIZE (c.1.heap * PAGE_SIZE)) [] (part_count CHUNK_SIZE (c.1.stable * PAGE_SIZE) ∷ counts (named cs)) e).1)
+small_memories : (cs : List (Bytes × CanisterPart)) (ls : List (List Bytes)) → AllByRecursion (FitsCanister 1) cs → map (λ (l : List Bytes). length l) ls ≡ map (λ (m : Bytes × ℕ). part_count CHUNK_SIZE (m.1 * PAGE_SIZE)) (memory_pages cs)
+    → AllByRecursion Small (memory_sums (memory_pages cs) ls) × (length (memory_sums (memory_pages cs) ls) ≤ 2 * length cs)
+small_memories cs ls fit e =
+    by_two heap_pages stable_pages (λ (l : List Bytes). length l) (λ (m : Bytes × ℕ). part_count CHUNK_SIZE (m.1 * PAGE_SIZE))
+    (λ (cs : List (Bytes × CanisterPart)) (ls : List (List Bytes)). AllByRecursion (FitsCanister 1) cs → AllByRecursion Small (memory_sums (memory_pages cs) ls) × (length (memory_sums (memory_pages cs) ls) ≤ 2 * length cs))
+    (λ fit. (tt, omega arith)) more cs ls e fit
   where
-    none : {x : ℕ} {xs : List ℕ} → [] ≡ x ∷ xs → ⊥
-    none h = cc
-small_memories (c ∷ cs) (a ∷ b ∷ ls) fit e =
-    let r = heads (length a) (part_count CHUNK_SIZE (c.1.heap * PAGE_SIZE)) (length b ∷ lengths ls) (part_count CHUNK_SIZE (c.1.stable * PAGE_SIZE) ∷ counts (named cs)) e in
-    let s = heads (length b) (part_count CHUNK_SIZE (c.1.stable * PAGE_SIZE)) (lengths ls) (counts (named cs)) r.1 in
-    let id = id_size c.0 fit.0.id in
-    let rest = small_memories cs ls fit.1 s.1 in (
-      (
-        record { name = name_size c.0 (codes "heap") id (omega arith); hashes = few_chunks c.1.heap (length a) fit.0.heap r.0 },
-        (record { name = name_size c.0 (codes "stable") id (omega arith); hashes = few_chunks c.1.stable (length b) fit.0.stable s.0 }, rest.0),
-      ),
-      (let k = rest.1 in omega arith),
-    )
+    more : (c : Bytes × CanisterPart) (cs : List (Bytes × CanisterPart)) (a b : List Bytes) (ls : List (List Bytes)) → length a ≡ part_count CHUNK_SIZE (c.1.heap * PAGE_SIZE) → length b ≡ part_count CHUNK_SIZE (c.1.stable * PAGE_SIZE)
+        → (AllByRecursion (FitsCanister 1) cs → AllByRecursion Small (memory_sums (memory_pages cs) ls) × (length (memory_sums (memory_pages cs) ls) ≤ 2 * length cs))
+        → AllByRecursion (FitsCanister 1) (c ∷ cs) → AllByRecursion Small (memory_sums (memory_pages (c ∷ cs)) (a ∷ b ∷ ls)) × (length (memory_sums (memory_pages (c ∷ cs)) (a ∷ b ∷ ls)) ≤ 2 * length (c ∷ cs))
+    more c cs a b ls heap stable before fit =
+        let id = id_size c.0 fit.0.id in
+        let rest = before fit.1 in (
+          (
+            record { name = name_size c.0 (codes "heap") id (omega arith); hashes = few_chunks c.1.heap (length a) fit.0.heap heap },
+            (record { name = name_size c.0 (codes "stable") id (omega arith); hashes = few_chunks c.1.stable (length b) fit.0.stable stable }, rest.0),
+          ),
+          (let k = rest.1 in omega arith),
+        )
 
 -- ---- all files
 

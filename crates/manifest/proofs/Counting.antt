@@ -12,7 +12,7 @@ use Rattle.format_spec.specs.declared.limits.TheConstants.{CHUNK_SIZE, PAGE_SIZE
 use Rattle.format_spec.proofs.Lists.{all_join}
 use Rattle.state_spec.specs.State.{State, SystemPart, CanisterPart, FitsCanister, system_of, memory_bytes}
 use Rattle.state_spec.specs.SystemText.{system_text}
-use Rattle.state_spec.specs.Files.{heap_name, stable_name, memories_in, system_name}
+use Rattle.state_spec.specs.Files.{heap_name, stable_name, memory_pages, memories_in, system_name}
 use Rattle.state_spec.specs.Manifest.{Manifest, FileSums, FileRow, ChunkRow, chunk_sums, chunk_rows, file_row, memory_sums, file_sums, manifest_from, manifest_of, chunk_hashes, chunk_size_at, chunk_offset}
 use Rattle.state_spec.specs.ManifestText.{manifest_text, file_row_text, chunk_row_text}
 use Rattle.state_spec.specs.Root.{pieces_of}
@@ -177,14 +177,11 @@ sizes_more cs i id c there =
 
 -- ---- how much there is at most
 
-abbrev part_named : List (Bytes × CanisterPart) → List (Bytes × ℕ)
-part_named cs = flat_map (λ (c : Bytes × CanisterPart). (heap_name c.0, c.1.heap) ∷ (stable_name c.0, c.1.stable) ∷ []) cs
-
 few_parts : (pages : ℕ) → pages ≤ 65536 → part_count CHUNK_SIZE (pages * PAGE_SIZE) ≤ 256
 few_parts pages few = omega arith
 
 few_sizes : (cs : List (Bytes × CanisterPart)) → AllByRecursion (FitsCanister 1) cs
-    → (rows_size (part_named cs) ≤ 228 * length cs) × (chunks_in (part_named cs) ≤ 512 * length cs) × (length (part_named cs) ≡ 2 * length cs)
+    → (rows_size (memory_pages cs) ≤ 228 * length cs) × (chunks_in (memory_pages cs) ≤ 512 * length cs) × (length (memory_pages cs) ≡ 2 * length cs)
 few_sizes [] h = (omega arith, omega arith, refl)
 few_sizes (c ∷ cs) h =
     let r = few_sizes cs h.1 in

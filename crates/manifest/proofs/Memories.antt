@@ -1,16 +1,14 @@
 -- The memories of a state's canisters, added to a manifest one canister after another.
 use Rattle.std.proofs.Common.{◌≡◌, ℕ, zero, suc, ◌+◌, ◌*◌, ◌<◌, List, [], ◌∷◌, ◌++◌, length, map, drop, get_or, Some, refl, sym, ap, ◌∙◌, append_assoc, arith}
 use Rattle.std.specs.Prelude.{slice_get}
-use Rattle.std.specs.List.{flat_map}
 use Rattle.std.proofs.lemmas.List.{length-map, length-append, length-drop, drop-drop}
 use Rattle.format_spec.specs.Bytes.{Bytes, part_count}
 use Rattle.format_spec.specs.declared.limits.TheConstants.{CHUNK_SIZE, PAGE_SIZE}
 use Rattle.format_spec.proofs.Cuts.{heads}
-use Rattle.state_spec.specs.Files.{heap_name, stable_name}
-use Rattle.state_spec.specs.State.{CanisterPart}
+use Rattle.state_spec.specs.Files.{heap_name, stable_name, memory_pages}
 use Rattle.state_spec.specs.Manifest.{Manifest, FileSums, memory_sums, manifest_from, file_row}
 use Rattle.sys_state.specs.declared.record.CanisterRecord.{CanisterRecord}
-use Rattle.sys_state.specs.System.{part_of_record}
+use Rattle.sys_state.specs.System.{parts}
 use Rattle.manifest.specs.Adding.{Adds, canister_sums}
 use Rattle.manifest.proofs.Growing.{added}
 use Rattle.format_spec.proofs.Lists.{drop_found}
@@ -32,7 +30,7 @@ added_canister old mid new fs id c heap stable n1 n2 s1 s2 e1 e2 e3 e4 first sec
 -- ---- how far the canisters are done
 
 abbrev pub named : List (Bytes × CanisterRecord) → List (Bytes × ℕ)
-named cs = flat_map (λ (c : Bytes × CanisterPart). (heap_name c.0, c.1.heap) ∷ (stable_name c.0, c.1.stable) ∷ []) (map (λ (c : Bytes × CanisterRecord). (c.0, part_of_record c.1)) cs)
+named cs = memory_pages (parts cs)
 
 abbrev pub counts : List (Bytes × ℕ) → List ℕ
 counts ms = map (λ (m : Bytes × ℕ). part_count CHUNK_SIZE (m.1 * PAGE_SIZE)) ms

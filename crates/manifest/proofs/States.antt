@@ -1,13 +1,13 @@
 -- The manifest that is made of a state's parts is that of the state.
-use Rattle.std.proofs.Common.{◌≡◌, ℕ, ◌*◌, ◌^◌, ◌<◌, ◌≤◌, List, [], ◌∷◌, ◌++◌, length, map, take, refl, sym, ap, ◌∙◌, arith}
-use Rattle.std.specs.List.{flat_map}
+use Rattle.std.proofs.Common.{◌≡◌, ℕ, ◌*◌, ◌^◌, ◌<◌, ◌≤◌, List, [], ◌∷◌, ◌++◌, length, map, take, refl, sym, ap, subst, ◌∙◌, arith}
 use Rattle.std.proofs.lemmas.List.{length-map, take_all}
 use Rattle.format_spec.specs.Bytes.{Bytes, part_count, parts}
 use Rattle.format_spec.specs.declared.limits.TheConstants.{CHUNK_SIZE, PAGE_SIZE}
 use Rattle.state_spec.specs.State.{State, Canister, CanisterPart, SystemPart, IsSystem, Memory, pages_of, system_of, memory_bytes}
 use Rattle.state_spec.specs.State as State
 use Rattle.state_spec.specs.SystemText.{system_text}
-use Rattle.state_spec.specs.Files.{heap_name, stable_name, memory_files, files, system_name, memories_in}
+use Rattle.state_spec.specs.Files.{system_name, memories_in}
+use Rattle.state_spec.proofs.FileSums.{manifest_by_sizes}
 use Rattle.state_spec.specs.Manifest.{Manifest, FileSums, sums_of, chunk_hashes, memory_sums, file_sums, file_row, manifest_from, manifest_of}
 use Rattle.sys_state.specs.declared.record.CanisterRecord.{CanisterRecord}
 use Rattle.sys_state.specs.System.{kept_of, part_of, record_of, part_of_record}
@@ -61,34 +61,11 @@ fit_hashes s memories fit = go memories (memories_in s) fit
 
 -- ---- a plain state
 
-abbrev named : List (Bytes × Canister) → List (Bytes × ℕ)
-named cs = flat_map (λ (c : Bytes × CanisterPart). (heap_name c.0, c.1.heap) ∷ (stable_name c.0, c.1.stable) ∷ []) (map (λ (c : Bytes × Canister). (c.0, State.part_of c.1)) cs)
-
-abbrev bytes_in : List (Bytes × Canister) → List Bytes
-bytes_in cs = flat_map (λ (c : Bytes × Canister). c.1.heap.bytes ∷ c.1.stable.bytes ∷ []) cs
-
-sized : (name : Bytes) (m : Memory) → length m.bytes ≡ pages_of m * PAGE_SIZE → sums_of (name, m.bytes) ≡ record { name = name; size = pages_of m * PAGE_SIZE; hashes = chunk_hashes m.bytes }
-sized name m whole = λ i. record { name = name; size = whole i; hashes = chunk_hashes m.bytes }
-
-all_sums : (cs : List (Bytes × Canister)) (end : List (Bytes × Bytes)) → map (λ (b : Bytes). length b) (bytes_in cs) ≡ map (λ (m : Bytes × ℕ). m.1 * PAGE_SIZE) (named cs)
-    → map sums_of (flat_map memory_files cs ++ end) ≡ memory_sums (named cs) (map chunk_hashes (bytes_in cs)) ++ map sums_of end
-all_sums [] end fit = refl
-all_sums (c ∷ cs) end fit =
-    let h = heads (length c.1.heap.bytes) (pages_of c.1.heap * PAGE_SIZE) (length c.1.stable.bytes ∷ map (λ (b : Bytes). length b) (bytes_in cs)) ((pages_of c.1.stable * PAGE_SIZE) ∷ map (λ (m : Bytes × ℕ). m.1 * PAGE_SIZE) (named cs)) fit in
-    let s = heads (length c.1.stable.bytes) (pages_of c.1.stable * PAGE_SIZE) (map (λ (b : Bytes). length b) (bytes_in cs)) (map (λ (m : Bytes × ℕ). m.1 * PAGE_SIZE) (named cs)) h.1 in
-    λ i. sized (heap_name c.0) c.1.heap h.0 i ∷ sized (stable_name c.0) c.1.stable s.0 i ∷ all_sums cs end s.1 i
-
 pub of_state : (s : State) (p : SystemPart) (memories : List Bytes) → FitMemories p memories → s.version ≡ 1 → system_of s ≡ p → memory_bytes s ≡ memories
     → manifest_from 1 (file_sums p (map chunk_hashes memories)) ≡ manifest_of s
-unfolding manifest_of files file_sums system_of
 of_state s p memories fit one parts-are bytes-are =
-    let fit' : map (λ (b : Bytes). length b) (bytes_in s.canisters) ≡ map (λ (m : Bytes × ℕ). m.1 * PAGE_SIZE) (named s.canisters) =
-    ap (λ (ms : List Bytes). map (λ (b : Bytes). length b) ms) bytes-are ∙ fit ∙ sym (ap (λ (q : SystemPart). map (λ (m : Bytes × ℕ). m.1 * PAGE_SIZE) (memories_in q)) parts-are) in
-    let own = all_sums s.canisters ((system_name, system_text (system_of s)) ∷ []) fit' in
-    ap (λ (q : SystemPart). manifest_from 1 (file_sums q (map chunk_hashes memories))) (sym parts-are)
-    ∙ ap (λ (ms : List Bytes). manifest_from 1 (file_sums (system_of s) (map chunk_hashes ms))) (sym bytes-are)
-    ∙ ap (λ (v : ℕ). manifest_from v (file_sums (system_of s) (map chunk_hashes (memory_bytes s)))) (sym one)
-    ∙ ap (manifest_from s.version) (sym own)
+    (λ i. manifest_from (sym one i) (file_sums (sym parts-are i) (map chunk_hashes (sym bytes-are i))))
+    ∙ sym (manifest_by_sizes s (subst (λ (q : SystemPart). FitMemories q (memory_bytes s)) (sym parts-are) (subst (FitMemories p) (sym bytes-are) fit)))
 
 abbrev kept : Bytes × Canister → Bytes × CanisterRecord
 kept c = (c.0, record_of c.1)

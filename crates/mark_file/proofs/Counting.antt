@@ -1,18 +1,15 @@
 -- The pages of memories in file order.
 use Rattle.std.proofs.Common.{◌≡◌, ℕ, ◌+◌, List, [], ◌∷◌, ◌++◌, map, take, Some, refl, sym, ap, ◌∙◌, append_assoc}
 use Rattle.std.specs.Prelude.{slice_get}
-use Rattle.std.specs.List.{flat_map}
 use Rattle.std.proofs.lemmas.List.{take_more}
 use Rattle.std.proofs.lemmas.Option.{slice_get_within, get_or_from_slice_get}
 use Rattle.format_spec.specs.Bytes.{Bytes}
-use Rattle.state_spec.specs.State.{CanisterPart}
-use Rattle.state_spec.specs.Files.{heap_name, stable_name}
+use Rattle.state_spec.specs.Files.{memory_pages}
 use Rattle.sys_state.specs.declared.record.CanisterRecord.{CanisterRecord}
-use Rattle.sys_state.specs.System.{part_of_record}
+use Rattle.sys_state.specs.System.{parts}
 
 abbrev pub pages_in : List (Bytes × CanisterRecord) → List ℕ
-pages_in cs =
-    map (λ (m : Bytes × ℕ). m.1) (flat_map (λ (c : Bytes × CanisterPart). (heap_name c.0, c.1.heap) ∷ (stable_name c.0, c.1.stable) ∷ []) (map (λ (c : Bytes × CanisterRecord). (c.0, part_of_record c.1)) cs))
+pages_in cs = map (λ (m : Bytes × ℕ). m.1) (memory_pages (parts cs))
 
 pages_push : (cs : List (Bytes × CanisterRecord)) (c : Bytes × CanisterRecord) → pages_in (cs ++ c ∷ []) ≡ pages_in cs ++ c.1.heap ∷ c.1.stable ∷ []
 pages_push [] c = refl

@@ -10,13 +10,14 @@ use Rattle.format_spec.proofs.Cuts.{cut_front, cons_same, heads, Are32, hashes_c
 use Rattle.format_spec.specs.Bytes.{Bytes, parts, be32, be64, short_string}
 use Rattle.format_spec.specs.Hashes.{chunk_string, file_string, piece_string, root_string, chunk_hash, piece_hash, root_hash}
 use Rattle.format_spec.specs.declared.limits.TheConstants.{CHUNK_SIZE, PIECE_SIZE, MAX_MEMORY_PAGES}
-use Rattle.state_spec.specs.State.{State, Canister, CanisterPart, Memory, IsState, IsSystem, FitsCanister, SystemPart, system_of, part_of, pages_of, canister_without_history, SameState}
+use Rattle.state_spec.specs.State.{State, Canister, CanisterPart, Memory, IsState, IsSystem, FitsCanister, SystemPart, bytes_in, memory_bytes, system_of, part_of, pages_of, canister_without_history, SameState}
 use Rattle.state_spec.specs.SystemText.{system_text, read_system}
-use Rattle.state_spec.specs.Files.{files, memory_files, system_name}
+use Rattle.state_spec.specs.Files.{files, heap_file, memory_files, stable_file, system_name}
 use Rattle.state_spec.specs.Manifest.{Manifest, manifest_of, manifest_from, sums_of, chunk_sums}
 use Rattle.state_spec.specs.ManifestText.{manifest_text}
 use Rattle.state_spec.specs.Root.{meta_of, pieces_of, root_of, hashed_strings}
 use Rattle.state_spec.proofs.BothWays.{system_again}
+use Rattle.state_spec.proofs.FileOrder.{length-in_turn, map-in_turn}
 use Rattle.soundness.proofs.Strings.{Meet, one_or_meet, first_of_list, meet_within}
 use Rattle.format_spec.proofs.Parts.{joined, joined_parts}
 use Rattle.soundness.proofs.Joins.{each_or_meet, joined_same, lengths_same, AreShort}
@@ -114,24 +115,11 @@ piece_level s t (inl e) = by (each_or_meet piece_string piece_inj (pieces_in s) 
 
 -- ---- the files of a state
 
-memories : List (Bytes × Canister) → List Bytes
-memories [] = []
-memories (c ∷ cs) = c.1.heap.bytes ∷ c.1.stable.bytes ∷ memories cs
-
-memory_contents : (cs : List (Bytes × Canister)) → contents (flat_map memory_files cs) ≡ memories cs
-unfolding memories
-memory_contents [] = refl
-memory_contents (c ∷ cs) = ap (λ (x : List Bytes). c.1.heap.bytes ∷ c.1.stable.bytes ∷ x) (memory_contents cs)
-
-state_contents : (s : State) → contents (files s) ≡ memories s.canisters ++ system_text (system_of s) ∷ []
+state_contents : (s : State) → contents (files s) ≡ memory_bytes s ++ system_text (system_of s) ∷ []
 unfolding files
 state_contents s =
-    map-append (λ (f : File). f.1) (flat_map memory_files s.canisters) ((system_name, system_text (system_of s)) ∷ [])
-    ∙ ap (λ (x : List Bytes). x ++ system_text (system_of s) ∷ []) (memory_contents s.canisters)
-
-memory_count : (cs : List (Bytes × Canister)) → length (flat_map memory_files cs) ≡ 2 * length cs
-memory_count [] = refl
-memory_count (c ∷ cs) = omega (arith, memory_count cs)
+    map-append (λ (f : File). f.1) (memory_files s.canisters) ((system_name, system_text (system_of s)) ∷ [])
+    ∙ ap (λ (x : List Bytes). x ++ system_text (system_of s) ∷ []) (map-in_turn heap_file stable_file (λ (f : File). f.1) s.canisters)
 
 few_files : (s : State) → IsState s → length (files s) < 2 ^ 32
 unfolding files system_of
@@ -140,20 +128,19 @@ few_files s h =
     let few = h.system.few_canisters in
     let named : Bytes × Canister → Bytes × CanisterPart = λ c. (c.0, part_of c.1) in
     let count = length-map s.canisters named in
-    omega (arith, few, count, memory_count s.canisters, length-append (flat_map memory_files s.canisters) last)
+    omega (arith, few, count, length-in_turn heap_file stable_file s.canisters, length-append (memory_files s.canisters) last)
 
 short_memory : (m : Memory) → pages_of m ≤ MAX_MEMORY_PAGES → length m.bytes < 2 ^ 64
 short_memory m h = omega (arith, h)
 
-short_memories : (v : ℕ) (cs : List (Bytes × Canister)) → AllByRecursion (FitsCanister v) (map (λ c. (c.0, part_of c.1)) cs) → AreShort (memories cs)
-unfolding memories
+short_memories : (v : ℕ) (cs : List (Bytes × Canister)) → AllByRecursion (FitsCanister v) (map (λ c. (c.0, part_of c.1)) cs) → AreShort (bytes_in cs)
 short_memories v [] h = tt
 short_memories v (c ∷ cs) h = (short_memory c.1.heap h.0.heap, (short_memory c.1.stable h.0.stable, short_memories v cs h.1))
 
 -- ---- down to the bytes
 
 record SameBytes (s t : State) : Type 0 where
-  memory : memories s.canisters ≡ memories t.canisters
+  memory : memory_bytes s ≡ memory_bytes t
   system : system_text (system_of s) ≡ system_text (system_of t)
 
 file_level : (s t : State) → IsState s → IsState t → (manifest_text (manifest_of s) ≡ manifest_text (manifest_of t)) ⊎ Meets s t → SameBytes s t ⊎ Meets s t
@@ -164,13 +151,13 @@ file_level s t hs ht (inl e) = by (each_or_meet chunk_string chunk_inj (chunks_i
     p : (map (λ x. be64 (length x)) (contents (files s)) ≡ map (λ x. be64 (length x)) (contents (files t))) × (map chunk_hash (chunks_in (files s)) ≡ map chunk_hash (chunks_in (files t)))
     p = same_files s.version t.version (files s) (files t) (hs.version ∙ sym ht.version) (few_files s hs) (few_files t ht) e
 
-    sizes : map (λ x. be64 (length x)) (memories s.canisters) ≡ map (λ x. be64 (length x)) (memories t.canisters)
+    sizes : map (λ x. be64 (length x)) (memory_bytes s) ≡ map (λ x. be64 (length x)) (memory_bytes t)
     sizes =
         let a : Bytes = system_text (system_of s) in
         let b : Bytes = system_text (system_of t) in
         let w : Bytes → Bytes = λ x. be64 (length x) in
-        (same_from_push (map w (memories s.canisters)) (map w (memories t.canisters)) (w a) (w b)
-        (sym (map-append w (memories s.canisters) (a ∷ [])) ∙ ap (map w) (sym (state_contents s)) ∙ p.0 ∙ ap (map w) (state_contents t) ∙ map-append w (memories t.canisters) (b ∷ []))).0
+        (same_from_push (map w (memory_bytes s)) (map w (memory_bytes t)) (w a) (w b)
+        (sym (map-append w (memory_bytes s) (a ∷ [])) ∙ ap (map w) (sym (state_contents s)) ∙ p.0 ∙ ap (map w) (state_contents t) ∙ map-append w (memory_bytes t) (b ∷ []))).0
 
     one_more : (xs : List Bytes) (a : Bytes) → joined (xs ++ a ∷ []) ≡ joined xs ++ a
     one_more xs a = flat_map-append (λ (x : Bytes). x) xs (a ∷ []) ∙ simp append-nil
@@ -181,9 +168,9 @@ file_level s t hs ht (inl e) = by (each_or_meet chunk_string chunk_inj (chunks_i
         let a : Bytes = system_text (system_of s) in
         let b : Bytes = system_text (system_of t) in
         let all : joined (contents (files s)) ≡ joined (contents (files t)) = sym (joined_chunks (files s)) ∙ ap joined q ∙ joined_chunks (files t) in
-        let r = joined_same (memories s.canisters) (memories t.canisters) a b
-        (lengths_same (memories s.canisters) (memories t.canisters) (short_memories s.version s.canisters hs.system.canisters_fit) (short_memories t.version t.canisters ht.system.canisters_fit) sizes)
-        (sym (one_more (memories s.canisters) a) ∙ ap joined (sym (state_contents s)) ∙ all ∙ ap joined (state_contents t) ∙ one_more (memories t.canisters) b) in
+        let r = joined_same (memory_bytes s) (memory_bytes t) a b
+        (lengths_same (memory_bytes s) (memory_bytes t) (short_memories s.version s.canisters hs.system.canisters_fit) (short_memories t.version t.canisters ht.system.canisters_fit) sizes)
+        (sym (one_more (memory_bytes s) a) ∙ ap joined (sym (state_contents s)) ∙ all ∙ ap joined (state_contents t) ∙ one_more (memory_bytes t) b) in
         inl (record { memory = r.0; system = r.1 })
 
 -- ---- from the bytes to the state
@@ -218,22 +205,21 @@ one_canister c d p h s =
     (ap (λ (x : Bytes × CanisterPart). x.0) p) (ap (λ (x : Bytes × CanisterPart). x.1.wasm) p) (ap (λ (x : Bytes × CanisterPart). x.1.certified) p) h s
     ∙ sym (plain_is d)
 
-canisters_same : (cs ds : List (Bytes × Canister)) → map part cs ≡ map part ds → memories cs ≡ memories ds → map plain cs ≡ map plain ds
-unfolding memories
+canisters_same : (cs ds : List (Bytes × Canister)) → map part cs ≡ map part ds → bytes_in cs ≡ bytes_in ds → map plain cs ≡ map plain ds
 canisters_same [] [] p q = refl
 canisters_same [] (d ∷ ds) p q = absurd cc
 canisters_same (c ∷ cs) [] p q = absurd cc
 canisters_same (c ∷ cs) (d ∷ ds) p q =
     let a = heads (part c) (part d) (map part cs) (map part ds) p in
-    let b = heads c.1.heap.bytes d.1.heap.bytes (c.1.stable.bytes ∷ memories cs) (d.1.stable.bytes ∷ memories ds) q in
-    let e = heads c.1.stable.bytes d.1.stable.bytes (memories cs) (memories ds) b.1 in
+    let b = heads c.1.heap.bytes d.1.heap.bytes (c.1.stable.bytes ∷ bytes_in cs) (d.1.stable.bytes ∷ bytes_in ds) q in
+    let e = heads c.1.stable.bytes d.1.stable.bytes (bytes_in cs) (bytes_in ds) b.1 in
     cons_same (plain c) (plain d) (map plain cs) (map plain ds) (one_canister c d a.0 b.0 e.0) (canisters_same cs ds a.1 e.1)
 
 parts_same : (s t : State) → system_of s ≡ system_of t → (s.time ≡ t.time) × (map part s.canisters ≡ map part t.canisters) × (s.entries ≡ t.entries)
 unfolding system_of part
 parts_same s t e = (ap (λ (x : SystemPart). x.time) e, ap (λ (x : SystemPart). x.canisters) e, ap (λ (x : SystemPart). x.entries) e)
 
-whole : (s t : State) → s.version ≡ t.version → system_of s ≡ system_of t → memories s.canisters ≡ memories t.canisters → SameState s t
+whole : (s t : State) → s.version ≡ t.version → system_of s ≡ system_of t → memory_bytes s ≡ memory_bytes t → SameState s t
 unfolding state_from plain
 whole s t v e m =
     let p = parts_same s t e in

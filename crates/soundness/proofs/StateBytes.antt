@@ -99,7 +99,7 @@ record ByteFile (f : File) : Type 0 where
   short : length f.0 < 256
   bytes : IsBytes f.1
 
-memory_files_bytes : (v : ℕ) (cs : List (Bytes × Canister)) → AllByRecursion IsByteCanister cs → AllByRecursion (FitsCanister v) (map named cs) → AllByRecursion ByteFile (flat_map memory_files cs)
+memory_files_bytes : (v : ℕ) (cs : List (Bytes × Canister)) → AllByRecursion IsByteCanister cs → AllByRecursion (FitsCanister v) (map named cs) → AllByRecursion ByteFile (memory_files cs)
 memory_files_bytes v [] b f = tt
 memory_files_bytes v (c ∷ cs) b f =
     let id = id_size c.0 f.0.id in
@@ -111,7 +111,7 @@ memory_files_bytes v (c ∷ cs) b f =
 
 files_bytes : (s : State) → IsState s → AllByRecursion ByteFile (files s)
 unfolding files system_of
-files_bytes s h = all_join ByteFile (flat_map memory_files s.canisters) ((system_name, system_text (system_of s)) ∷ []) (memory_files_bytes s.version s.canisters h.bytes.canisters h.system.canisters_fit) (record { name = by_test system_name refl; short = omega arith; bytes = system_bytes s h }, tt)
+files_bytes s h = all_join ByteFile (memory_files s.canisters) ((system_name, system_text (system_of s)) ∷ []) (memory_files_bytes s.version s.canisters h.bytes.canisters h.system.canisters_fit) (record { name = by_test system_name refl; short = omega arith; bytes = system_bytes s h }, tt)
 
 -- ---- rows
 

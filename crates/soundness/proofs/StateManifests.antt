@@ -28,7 +28,7 @@ abbrev pub rows_of : List File → List FileRow
 rows_of fs = map file_row (map sums_of fs)
 
 abbrev pub memory_rows : List (Bytes × Canister) → List FileRow
-memory_rows cs = rows_of (flat_map memory_files cs)
+memory_rows cs = rows_of (memory_files cs)
 
 abbrev pub system_row : State → FileRow
 system_row s = file_row (sums_of (system_name, system_text (system_of s)))
@@ -37,7 +37,7 @@ pub rows_are : (s : State) → rows_of (files s) ≡ memory_rows s.canisters ++ 
 unfolding files
 rows_are s =
     let last : List File = (system_name, system_text (system_of s)) ∷ [] in
-    ap (map file_row) (map-append sums_of (flat_map memory_files s.canisters) last) ∙ map-append file_row (map sums_of (flat_map memory_files s.canisters)) (map sums_of last)
+    ap (map file_row) (map-append sums_of (memory_files s.canisters) last) ∙ map-append file_row (map sums_of (memory_files s.canisters)) (map sums_of last)
 
 abbrev pub ids_of : List (Bytes × Canister) → List Bytes
 ids_of cs = map (λ c. c.0) cs
@@ -70,7 +70,7 @@ rows_sum (c ∷ cs) q =
     let pages : Bytes × CanisterPart → ℕ = λ d. pages_in d.1 in
     let heap : FileRow = file_row (sums_of (heap_name c.0, c.1.heap.bytes)) in
     let stable : FileRow = file_row (sums_of (stable_name c.0, c.1.stable.bytes)) in
-    let rest : List FileRow = rows_of (flat_map memory_files cs) in
+    let rest : List FileRow = rows_of (memory_files cs) in
     let before : all_sizes rest ≡ all_pages (map named cs) * PAGE_SIZE = rows_sum cs q.1 in
     let one : all_sizes (heap ∷ stable ∷ rest) ≡ length c.1.heap.bytes + all_sizes (stable ∷ rest) = sum_by-cons size heap (stable ∷ rest) in
     let two : all_sizes (stable ∷ rest) ≡ length c.1.stable.bytes + all_sizes rest = sum_by-cons size stable rest in

@@ -21,7 +21,6 @@ use Rattle.machine_spec.specs.Machine.{start, newest}
 use Rattle.machine_spec.specs.States.{empty_state}
 use Rattle.live_state.specs.Sizes.{HaveSizes}
 use Rattle.live_state.specs.StateKept.{StateView, KeepsState, live_of}
-use Rattle.live_state.proofs.Hashed.{sizes_in}
 use Rattle.live_state.proofs.Splits.{sorted_images}
 
 -- ---- heights, one by one
@@ -71,7 +70,7 @@ lengths bytes [] = refl
 lengths bytes (v ∷ vs) = ap (λ (l : List ℕ). length (bytes v) ∷ l) (lengths bytes vs)
 
 pub have_sizes : {V : Type 0} (bytes : V → Bytes) (vs : List V) (s : System) → map (λ v. length (bytes v)) vs ≡ map (λ m. m.1 * PAGE_SIZE) (memories_in (part_of s)) → HaveSizes s.canisters (map bytes vs)
-have_sizes bytes vs s h = lengths bytes vs ∙ h ∙ sizes_in s
+have_sizes bytes vs s h = lengths bytes vs ∙ h
 
 pub height_found : (hs : List StoredHeight) (height : ℕ) (h : StoredHeight) → height_at hs height ≡ Some h → h.mark.height ≡ height
 height_found [] height h e = absurd (cc e)

@@ -1,16 +1,16 @@
 -- `read` at a published height.
 use Rattle.std.proofs.Common.{◌≡◌, ◌<◌, ◌≤◌, ◌+◌, ◌*◌, ◌^◌, ℕ, Bool, true, false, cond, nat_lt, List, [], ◌∷◌, ◌++◌, length, map, get_or, take, drop, Option, Some, None, refl, ◌∙◌, ap, sym, subst, arith, length-append}
-use Rattle.std.proofs.lemmas.List.{length-map}
+use Rattle.std.proofs.lemmas.List.{length-map, map-append}
 use Rattle.std.proofs.lemmas.Option.{slice_get-get_or}
 use Rattle.std.specs.FinMap.{find}
-use Rattle.std.specs.List.{flat_map}
 use Rattle.std.specs.Option.{option_map, IsSomeAnd}
 use Rattle.std.specs.Ordering.{eq_by_cmp}
 use Rattle.std.specs.Prelude.{slice_get, ⊤, if◌then◌else◌}
 use Rattle.format_spec.specs.Bytes.{Bytes, bytes_cmp}
 use Rattle.format_spec.specs.declared.limits.TheConstants.{PAGE_SIZE, MAX_CANISTERS}
-use Rattle.state_spec.specs.Files.{heap_name, stable_name, memories_in}
-use Rattle.state_spec.specs.State.{State, Canister, CanisterPart, SystemPart, system_of, memory_bytes}
+use Rattle.state_spec.specs.Files.{heap_name, heap_pages, stable_name, stable_pages, memories_in, memory_pages}
+use Rattle.state_spec.specs.State.{State, Canister, CanisterPart, SystemPart, bytes_in, system_of, memory_bytes}
+use Rattle.state_spec.proofs.FileOrder.{length-in_turn, in_turn-append}
 use Rattle.store_spec.specs.Image.{Published, opened_state}
 use Rattle.sys_state.specs.Calls as calls
 use Rattle.state_spec.specs.Places.{Stands, place_of}
@@ -28,9 +28,8 @@ use Rattle.machine_spec.specs.States.{canister_in, memory_of}
 use Rattle.live_state.specs.Places.{index_of}
 use Rattle.live_state.specs.StateKept.{StateView}
 use Rattle.state_manager.proofs.AtHeights.{opened_kept}
-use Rattle.live_state.proofs.Hashed.{sizes_in}
 use Rattle.live_state.proofs.Indexed.{index_within, pair_get, pick, size_at}
-use Rattle.live_state.proofs.Keeping.{Canisters, bytes_in}
+use Rattle.live_state.proofs.Keeping.{Canisters}
 use Rattle.live_state.proofs.MemoryLines.{parts_of_state, reads_bytes, reads_nowhere, reads_past}
 
 -- ---- states with the same parts and bytes answer the same
@@ -77,18 +76,8 @@ told_same (Some c) (Some d) same mem from len = by mem same
 
 -- ---- where a memory is
 
-files_in : List (Bytes × CanisterRecord) → List (Bytes × ℕ)
-files_in cs = flat_map (λ (c : Bytes × CanisterPart). (heap_name c.0, c.1.heap) ∷ (stable_name c.0, c.1.stable) ∷ []) (parts cs)
-
-length-files : (cs : List (Bytes × CanisterRecord)) → length (files_in cs) ≡ 2 * length cs
-unfolding files_in
-length-files [] = refl
-length-files (c ∷ cs) = omega (arith, length-files cs)
-
-files_split : (before after : List (Bytes × CanisterRecord)) (id : Bytes) (c : CanisterRecord) → files_in (before ++ (id, c) ∷ after) ≡ files_in before ++ (heap_name id, c.heap) ∷ (stable_name id, c.stable) ∷ files_in after
-unfolding files_in
-files_split [] after id c = refl
-files_split (b ∷ before) after id c = ap (λ l. (heap_name b.0, b.1.heap) ∷ (stable_name b.0, b.1.stable) ∷ l) (files_split before after id c)
+abbrev part : Bytes × CanisterRecord → Bytes × CanisterPart
+part c = (c.0, part_of_record c.1)
 
 picked_pages : (mem : Mem) (id : Bytes) (c : CanisterRecord) → (pick {X = Bytes × ℕ} mem (heap_name id, c.heap) (stable_name id, c.stable)).1 ≡ calls.pages_of mem c
 picked_pages Heap id c = refl
@@ -96,22 +85,23 @@ picked_pages Stable id c = refl
 
 pub file_there : (s : System) (id : Bytes) (n : ℕ) (mem : Mem) → (at : Stands bytes_cmp id s.canisters n) → (end : ℕ) → end ≤ calls.pages_of mem at.value * PAGE_SIZE
     → IsSomeAnd (slice_get (memories_in (part_of s)) (index_of n mem)) (λ m. end ≤ m.1 * PAGE_SIZE)
-unfolding files_in
 file_there s id n mem at end within =
     let before = at.at.before in
     let c = at.value in
-    let split : memories_in (part_of s) ≡ files_in before ++ (heap_name id, c.heap) ∷ (stable_name id, c.stable) ∷ files_in at.at.after = ap files_in at.at.split ∙ files_split before at.at.after id c in
-    let front : length (files_in before) ≡ 2 * n = length-files before ∙ ap (λ k. 2 * k) at.at.count in
+    let after = at.at.after in
+    let split : memories_in (part_of s) ≡ memory_pages (parts before) ++ (heap_name id, c.heap) ∷ (stable_name id, c.stable) ∷ memory_pages (parts after) =
+    ap memory_pages (ap parts at.at.split ∙ map-append part before ((id, c) ∷ after)) ∙ in_turn-append heap_pages stable_pages (parts before) (part (id, c) ∷ parts after) in
+    let front : length (memory_pages (parts before)) ≡ 2 * n = length-in_turn heap_pages stable_pages (parts before) ∙ ap (λ k. 2 * k) (length-map before part ∙ at.at.count) in
     let d : Bytes × ℕ = ([], 0) in
     let there : slice_get (memories_in (part_of s)) (index_of n mem) ≡ Some (pick mem (heap_name id, c.heap) (stable_name id, c.stable)) =
     ap (λ (l : List (Bytes × ℕ)). slice_get l (index_of n mem)) split
-    ∙ slice_get-get_or (files_in before ++ (heap_name id, c.heap) ∷ (stable_name id, c.stable) ∷ files_in at.at.after) (index_of n mem) d (index_within (files_in before) (files_in at.at.after) (heap_name id, c.heap) (stable_name id, c.stable) n mem front)
-    ∙ ap (λ (x : Bytes × ℕ). Some x) (pair_get (files_in before) (files_in at.at.after) (heap_name id, c.heap) (stable_name id, c.stable) d n mem front) in
+    ∙ slice_get-get_or (memory_pages (parts before) ++ (heap_name id, c.heap) ∷ (stable_name id, c.stable) ∷ memory_pages (parts after)) (index_of n mem) d (index_within (memory_pages (parts before)) (memory_pages (parts after)) (heap_name id, c.heap) (stable_name id, c.stable) n mem front)
+    ∙ ap (λ (x : Bytes × ℕ). Some x) (pair_get (memory_pages (parts before)) (memory_pages (parts after)) (heap_name id, c.heap) (stable_name id, c.stable) d n mem front) in
     subst (λ (o : Option (Bytes × ℕ)). IsSomeAnd o (λ m. end ≤ m.1 * PAGE_SIZE)) (sym there) (subst (λ (k : ℕ). end ≤ k * PAGE_SIZE) (sym (picked_pages mem id c)) within)
 
 pub index_fits : (s : System) (id : Bytes) (n : ℕ) (mem : Mem) → Stands bytes_cmp id s.canisters n → length (part_of s).canisters ≤ MAX_CANISTERS → index_of n mem < 2 ^ 32
 index_fits s id n mem at many =
-    let few : length s.canisters ≤ MAX_CANISTERS = subst (λ (k : ℕ). k ≤ MAX_CANISTERS) (length-map s.canisters (λ (c : Bytes × CanisterRecord). (c.0, part_of_record c.1))) many in
+    let few : length s.canisters ≤ MAX_CANISTERS = subst (λ (k : ℕ). k ≤ MAX_CANISTERS) (length-map s.canisters part) many in
     let below : n < length s.canisters = omega (arith, at.at.count, ap length at.at.split, length-append at.at.before ((id, at.value) ∷ at.at.after)) in
     small mem below few
   where
@@ -139,7 +129,7 @@ module _ (h : StoredHeight) (p : Published) (knows : KnowsHeight h p) (id : Byte
 
   module _ (n : ℕ) (at : Stands bytes_cmp id h.system.canisters n) where
     size : (index_of n mem < length (memory_bytes p.state)) × (length (get_or (memory_bytes p.state) (index_of n mem) []) ≡ calls.pages_of mem at.value * PAGE_SIZE)
-    size = size_at h.system.canisters at.at.before at.at.after id at.value (memory_bytes p.state) n mem [] (knows.sizes ∙ sizes_in h.system) at.at.split at.at.count
+    size = size_at h.system.canisters at.at.before at.at.after id at.value (memory_bytes p.state) n mem [] knows.sizes at.at.split at.at.count
 
     pub reads_past_end : calls.pages_of mem at.value * PAGE_SIZE < from + len → replies.Refused PastEnd ≡ read_reply p.state id mem from len
     reads_past_end past =

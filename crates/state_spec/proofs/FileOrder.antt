@@ -8,7 +8,7 @@ use Rattle.format_spec.specs.Bytes.{Bytes}
 use Rattle.format_spec.specs.declared.limits.TheConstants.{PAGE_SIZE}
 use Rattle.format_spec.proofs.Cuts.{heads}
 use Rattle.state_spec.specs.State.{CanisterPart}
-use Rattle.state_spec.specs.Files.{memory_pages, heap_name, stable_name}
+use Rattle.state_spec.specs.Files.{memory_pages, heap_pages, stable_pages}
 use Rattle.state_spec.specs.FileOrder.{in_turn}
 
 module _ {A B : Type 0} (f g : A → B) where
@@ -69,4 +69,4 @@ pub by_canisters : (P : List Part → List Bytes → Type 0) → P [] []
     → ((c : Part) (cs : List Part) (heap stable : Bytes) (ms : List Bytes) → length heap ≡ c.1.heap * PAGE_SIZE → length stable ≡ c.1.stable * PAGE_SIZE → P cs ms → P (c ∷ cs) (heap ∷ stable ∷ ms))
     → (cs : List Part) (ms : List Bytes) → map (λ (b : Bytes). length b) ms ≡ map (λ (m : Bytes × ℕ). m.1 * PAGE_SIZE) (memory_pages cs) → P cs ms
 by_canisters P none more cs ms fit =
-    by_two (λ (c : Part). (heap_name c.0, c.1.heap)) (λ (c : Part). (stable_name c.0, c.1.stable)) (λ (b : Bytes). length b) (λ (m : Bytes × ℕ). m.1 * PAGE_SIZE) P none more cs ms fit
+    by_two heap_pages stable_pages (λ (b : Bytes). length b) (λ (m : Bytes × ℕ). m.1 * PAGE_SIZE) P none more cs ms fit

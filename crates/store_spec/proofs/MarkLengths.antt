@@ -11,7 +11,7 @@ use Rattle.format_spec.specs.declared.limits.TheConstants.{CHUNK_SIZE}
 use Rattle.format_spec.proofs.Cuts.{Are32, chunks_32}
 use Rattle.format_spec.proofs.Parts.{parts_length}
 use Rattle.state_spec.specs.State.{SystemPart, CanisterPart, all_pages}
-use Rattle.state_spec.specs.Files.{memories_in, heap_name, stable_name}
+use Rattle.state_spec.specs.Files.{memories_in, memory_pages}
 use Rattle.state_spec.proofs.SystemSizes.{system_size}
 use Rattle.store_spec.specs.declared.limits.TheConstants.{MAX_MARK}
 use Rattle.store_spec.specs.Mark.{Mark, MarkMemory, hashes_text, mark_memory_text, mark_body, mark_text, mark_length, memory_counts, FitsMemory, IsMark, IsMarkText}
@@ -80,7 +80,7 @@ one_bound : (m : MarkMemory) (f : Bytes × ℕ) → FitsMemory m f → counted (
 one_bound m f fit = omega (arith, fit.few, fit.each_chunk)
 
 -- of the memories of these canisters
-bound : (cs : List (Bytes × CanisterPart)) (ms : List MarkMemory) → AllZip FitsMemory ms (flat_map (λ c. (heap_name c.0, c.1.heap) ∷ (stable_name c.0, c.1.stable) ∷ []) cs) → sum_by counted (map memory_counts ms) * 8 ≤ 584 * 8 * length cs + all_pages cs
+bound : (cs : List (Bytes × CanisterPart)) (ms : List MarkMemory) → AllZip FitsMemory ms (memory_pages cs) → sum_by counted (map memory_counts ms) * 8 ≤ 584 * 8 * length cs + all_pages cs
 bound [] [] fit = omega arith
 bound [] (m ∷ ms) fit = absurd fit
 bound (c ∷ cs) [] fit = absurd fit

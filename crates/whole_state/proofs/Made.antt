@@ -1,12 +1,13 @@
 -- The height that page files of whole memories and the mark over them give.
 use Rattle.std.proofs.Common.{◌≡◌, ℕ, ◌*◌, ◌/◌, ◌≤◌, ◌==◌, Bool, true, false, ◌||◌, nat_eq, List, [], ◌∷◌, length, map, zip, inl, inr, refl, sym, ap, subst, ◌∙◌, arith}
-use Rattle.std.specs.List.{list_any, AllByRecursion, AllZip, flat_map}
+use Rattle.std.specs.List.{list_any, AllByRecursion, AllZip}
 use Rattle.std.proofs.lemmas.Bool.{cases_Bool, false≢true, eqb-true}
 use Rattle.format_spec.specs.Bytes.{Bytes}
 use Rattle.format_spec.specs.declared.limits.TheConstants.{PAGE_SIZE}
 use Rattle.format_spec.proofs.Cuts.{heads}
-use Rattle.state_spec.specs.State.{State, Canister, CanisterPart, SystemPart, IsSystem, FitsCanister, SameState, state_from, canisters_from, canister_without_history, memory_bytes}
-use Rattle.state_spec.specs.Files.{heap_name, stable_name, memories_in}
+use Rattle.state_spec.specs.State.{State, Canister, CanisterPart, SystemPart, IsSystem, FitsCanister, SameState, state_from, canisters_from, canister_without_history, bytes_in, memory_bytes}
+use Rattle.state_spec.specs.Files.{memories_in, memory_pages}
+use Rattle.state_spec.proofs.FileOrder.{by_canisters}
 use Rattle.state_spec.specs.Manifest.{chunk_hashes}
 use Rattle.store_spec.specs.Mark.{Mark, MarkMemory, IsMark}
 use Rattle.store_spec.specs.Image.{HasTrueSums, memories_from, whole_layer}
@@ -32,22 +33,14 @@ sizes fs = map (λ f. f.1 * PAGE_SIZE) fs
 abbrev lengths : List Bytes → List ℕ
 lengths memories = map (λ bytes. length bytes) memories
 
-abbrev memories_of : List (Bytes × CanisterPart) → List (Bytes × ℕ)
-memories_of cs = flat_map (λ c. (heap_name c.0, c.1.heap) ∷ (stable_name c.0, c.1.stable) ∷ []) cs
-
 good_bytes : (bytes : Bytes) (pages : ℕ) → length bytes ≡ pages * PAGE_SIZE → pages ≤ 65536 → IsMemoryBytes bytes
 good_bytes bytes pages size few = record { whole = omega (arith, size); few = omega (arith, size, few) }
 
-all_good : (cs : List (Bytes × CanisterPart)) (memories : List Bytes) → AllByRecursion (FitsCanister 1) cs → lengths memories ≡ sizes (memories_of cs) → AllByRecursion IsMemoryBytes memories × (length memories ≡ 2 * length cs)
-all_good [] [] good fit = (tt, refl)
-all_good [] (b ∷ memories) good fit = absurd cc
-all_good (c ∷ cs) [] good fit = absurd cc
-all_good (c ∷ cs) (b ∷ []) good fit = absurd cc
-all_good (c ∷ cs) (heap ∷ stable ∷ memories) good fit =
-    let h = heads (length heap) (c.1.heap * PAGE_SIZE) (length stable ∷ lengths memories) ((c.1.stable * PAGE_SIZE) ∷ sizes (memories_of cs)) fit in
-    let s = heads (length stable) (c.1.stable * PAGE_SIZE) (lengths memories) (sizes (memories_of cs)) h.1 in
-    let rest = all_good cs memories good.1 s.1 in
-    ((good_bytes heap c.1.heap h.0 good.0.heap, (good_bytes stable c.1.stable s.0 good.0.stable, rest.0)), omega (arith, rest.1))
+all_good : (cs : List (Bytes × CanisterPart)) (memories : List Bytes) → AllByRecursion (FitsCanister 1) cs → lengths memories ≡ sizes (memory_pages cs) → AllByRecursion IsMemoryBytes memories × (length memories ≡ 2 * length cs)
+all_good cs memories good fit =
+    by_canisters (λ (cs : List (Bytes × CanisterPart)) (memories : List Bytes). AllByRecursion (FitsCanister 1) cs → AllByRecursion IsMemoryBytes memories × (length memories ≡ 2 * length cs)) (λ good. (tt, refl))
+    (λ c cs heap stable memories h s before good. let rest = before good.1 in ((good_bytes heap c.1.heap h good.0.heap, (good_bytes stable c.1.stable s good.0.stable, rest.0)), omega (arith, rest.1)))
+    cs memories fit good
 
 pub memories_good : (s : SystemPart) (memories : List Bytes) → IsSystem 1 s → FitMemories s memories → AllByRecursion IsMemoryBytes memories
 memories_good s memories good fit = (all_good s.canisters memories good.canisters_fit fit).0
@@ -161,7 +154,7 @@ true_sums (m ∷ ms) (b ∷ memories) sums = let h = heads m.sums (chunk_hashes 
 abbrev bare : Bytes × Canister → Bytes × Canister
 bare c = (c.0, canister_without_history c.1)
 
-same_canisters : (birth : ℕ) (cs : List (Bytes × Canister)) → map bare cs ≡ map bare (canisters_from birth (map (λ (c : Bytes × CanisterRecord). (c.0, part_of_record c.1)) (map (λ (c : Bytes × Canister). (c.0, record_of c.1)) cs)) (flat_map (λ (c : Bytes × Canister). c.1.heap.bytes ∷ c.1.stable.bytes ∷ []) cs))
+same_canisters : (birth : ℕ) (cs : List (Bytes × Canister)) → map bare cs ≡ map bare (canisters_from birth (map (λ (c : Bytes × CanisterRecord). (c.0, part_of_record c.1)) (map (λ (c : Bytes × Canister). (c.0, record_of c.1)) cs)) (bytes_in cs))
 same_canisters birth [] = refl
 same_canisters birth (c ∷ cs) = ap (λ (rest : List (Bytes × Canister)). bare c ∷ rest) (same_canisters birth cs)
 
