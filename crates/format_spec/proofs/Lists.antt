@@ -1,9 +1,11 @@
 -- Lemmas on lists and tests that std has not, or not in this form.
-use Rattle.std.proofs.Common.{◌≡◌, ◌≢◌, ◌⊎◌, inl, inr, ℕ, ◌+◌, Bool, true, false, cond, ◌&&◌, eqb, List, [], ◌∷◌, ◌++◌, drop, filter, reverse, slice_get, Option, Some, None, Result, Ok, Err, OnErr, refl, sym, ap, subst, ◌∙◌, append_assoc, T}
-use Rattle.std.proofs.lemmas.Bool.{eqb-true, eqb-false, cases_Bool}
+use Rattle.std.proofs.Common.{◌≡◌, ◌≢◌, ◌⊎◌, inl, inr, ℕ, ◌+◌, Bool, true, false, cond, ◌&&◌, eqb, List, [], ◌∷◌, ◌++◌, drop, filter, reverse, slice_get, Option, Some, None, Result, Ok, Err, OnErr, refl, sym, ap, subst, ◌∙◌, append_assoc, T, ◌<◌, nat_lt, ◌==◌}
+use Rattle.std.proofs.lemmas.Bool.{eqb-true, eqb-false, cases_Bool, ltb-true}
 use Rattle.std.proofs.lemmas.List.{append-nil, drop_more, reverse-append}
 use Rattle.std.proofs.lemmas.Option.{same_Some, slice_get_within, get_or_from_slice_get}
 use Rattle.std.specs.List.{AllByRecursion, last_or}
+use Rattle.std.specs.Ordering.{is_lt, nat_cmp}
+use Rattle.std.specs.declared.cmp.Ordering.TheVariants.{Less, Equal, Greater}
 
 -- ---- tests
 
@@ -21,6 +23,16 @@ to_T false e = absurd cc
 
 pub cases_eqb : (a b : ℕ) → ((a ≡ b) × (eqb a b ≡ true)) ⊎ ((a ≢ b) × (eqb a b ≡ false))
 cases_eqb a b = elim (cases_Bool (eqb a b)) [ inl h ↦ inl (eqb-true a b h, h) | inr h ↦ inr (eqb-false a b h, h) ]
+
+pub below_is : (a b : ℕ) → is_lt (nat_cmp a b) ≡ true → a < b
+below_is a b h = elim (cases_Bool (nat_lt a b)) [
+  | inl below ↦ ltb-true a b below
+  | inr not ↦ absurd (none (a == b) (ap (λ (t : Bool). is_lt (cond t Less (cond (a == b) Equal Greater))) (sym not) ∙ h))
+]
+  where
+    none : (t : Bool) → is_lt (cond t Equal Greater) ≡ true → ⊥
+    none true f = cc
+    none false f = cc
 
 -- ---- values that may be there
 

@@ -13,7 +13,9 @@ use Rattle.sys_state.specs.declared.record.CanisterRecord.{CanisterRecord}
 use Rattle.machine_spec.specs.Machine.{Machine}
 use Rattle.machine_spec.specs.States.{canister_in, with_canister, without_canister, newborn}
 use Rattle.live_state.specs.StateKept.{StateView, KeepsState, live_of}
-use Rattle.live_state.proofs.Splits.{images, find_images, put_images, without_images, sorted-put, sorted-without, comes, stays}
+use Rattle.live_state.proofs.Splits.{images, find_images, put_images, without_images, comes, stays}
+use Rattle.state_spec.proofs.Places.{sorted_put, sorted_without}
+use Rattle.state_spec.proofs.Keys.{ids_total}
 
 abbrev pub Canisters : Type 0
 Canisters = List (Bytes × Canister)
@@ -71,7 +73,7 @@ module _ (held now : StateView) (m : Machine) (k : KeepsState held (live_of m)) 
       ∙ sym (ap bytes_in (split.put_is nb)) in
       let keeps : KeepsState now (live_of (record m { live = with_canister m.live id nb })) = record {
         version = k.version;
-        sorted = sorted-put id nb cs k.sorted;
+        sorted = sorted_put bytes_cmp ids_total id nb cs k.sorted;
         system = c.now ∙ ap (λ (s : System). calls.with_canister s id (record_of nb)) k.system ∙ ap (λ (rs : List (Bytes × CanisterRecord)). record (kept_of m.live) { canisters = rs }) (sym (put_images record_of id nb cs));
         memories = all;
         height = beside.height ∙ k.height;
@@ -93,7 +95,7 @@ module _ (held now : StateView) (m : Machine) (k : KeepsState held (live_of m)) 
       ∙ sym (ap bytes_in split.without_is) in
       record {
         version = k.version;
-        sorted = sorted-without id cs k.sorted;
+        sorted = sorted_without bytes_cmp ids_total id cs k.sorted;
         system = c.now ∙ ap (λ (s : System). calls.without_canister s id) k.system ∙ ap (λ (rs : List (Bytes × CanisterRecord)). record (kept_of m.live) { canisters = rs }) (sym (without_images record_of id cs));
         memories = all;
         height = beside.height ∙ k.height;
@@ -114,7 +116,7 @@ module _ (held now : StateView) (m : Machine) (k : KeepsState held (live_of m)) 
       let changed : change done.c ≡ record_of new = ap change (sym split.value_is ∙ ap record_of value) ∙ sym same in
       record {
         version = k.version;
-        sorted = sorted-put id new cs k.sorted;
+        sorted = sorted_put bytes_cmp ids_total id new cs k.sorted;
         system = done.now ∙ ap (λ (r : CanisterRecord). calls.with_canister held.system id r) changed ∙ ap (λ (s : System). calls.with_canister s id (record_of new)) k.system ∙ ap (λ (rs : List (Bytes × CanisterRecord)). record (kept_of m.live) { canisters = rs }) (sym (put_images record_of id new cs));
         memories = memories split.front split.back count bytes ∙ sym (in_turn-append heap_bytes stable_bytes split.front ((id, new) ∷ split.back)) ∙ sym (ap bytes_in (split.put_is new));
         height = beside.height ∙ k.height;

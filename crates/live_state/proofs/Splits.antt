@@ -1,29 +1,15 @@
 -- Canisters with memories beside canisters without, entry by entry.
-use Rattle.std.proofs.Common.{◌≡◌, Bool, true, false, not, cond, T, List, [], ◌∷◌, ◌++◌, ◌&&◌, map, Some, refl, ◌∙◌, ap, sym, subst}
+use Rattle.std.proofs.Common.{◌≡◌, Bool, true, false, not, cond, List, [], ◌∷◌, ◌++◌, ◌&&◌, map, Some, refl, ◌∙◌, ap, sym, subst}
 use Rattle.std.specs.FinMap.{find, put, is_sorted}
-use Rattle.std.specs.FinMap.Entries.{below_all, by_order, is_sorted-put, is_sorted-where_key}
+use Rattle.std.specs.FinMap.Entries.{below_all, by_order}
 use Rattle.std.specs.Cmp.Lexicographic.{nat_list_cmp_total}
 use Rattle.std.specs.Option.{option_map}
 use Rattle.std.specs.Ordering.{is_lt, eq_by_cmp}
 use Rattle.std.specs.declared.cmp.Ordering.{Ordering}
 use Rattle.std.specs.declared.cmp.Ordering.TheVariants.{Less, Equal, Greater}
 use Rattle.format_spec.specs.Bytes.{Bytes, bytes_cmp}
-use Rattle.state_spec.proofs.Places.{parted, put_stands, put_absent, find_before, find_here, without_before, without_here, Below, Above}
+use Rattle.state_spec.proofs.Places.{parted, put_stands, put_absent, find_before, find_here, without_before, without_here, Below, Above, sorted_put}
 use Rattle.state_spec.specs.State.{without}
-
-as_true : (b : Bool) → T b → b ≡ true
-as_true true h = refl
-as_true false h = absurd h
-
-as_test : (b : Bool) → b ≡ true → T b
-as_test true h = tt
-as_test false h = absurd (cc h)
-
-pub sorted-put : {X : Type 0} (key : Bytes) (v : X) (es : List (Bytes × X)) → is_sorted bytes_cmp es ≡ true → is_sorted bytes_cmp (put bytes_cmp key v es) ≡ true
-sorted-put key v es h = as_true _ (is_sorted-put bytes_cmp nat_list_cmp_total key v es (as_test _ h))
-
-pub sorted-without : {X : Type 0} (key : Bytes) (es : List (Bytes × X)) → is_sorted bytes_cmp es ≡ true → is_sorted bytes_cmp (without bytes_cmp key es) ≡ true
-sorted-without key es h = as_true _ (is_sorted-where_key bytes_cmp (λ k. not (eq_by_cmp bytes_cmp key k)) es (as_test _ h))
 
 module _ {X Y : Type 0} (f : X → Y) where
   abbrev pub images : List (Bytes × X) → List (Bytes × Y)
@@ -102,7 +88,7 @@ module _ {X Y : Type 0} (f : X → Y) where
   comes key v es before after sorted split now =
       let c = cut es before after split in
       let new_sorted : is_sorted bytes_cmp (before ++ (key, f v) ∷ after) ≡ true =
-      ap (is_sorted bytes_cmp) (sym now ∙ sym (put_images key v es)) ∙ sorted_images (put bytes_cmp key v es) ∙ sorted-put key v es sorted in
+      ap (is_sorted bytes_cmp) (sym now ∙ sym (put_images key v es)) ∙ sorted_images (put bytes_cmp key v es) ∙ sorted_put bytes_cmp nat_list_cmp_total key v es sorted in
       let parts = parted bytes_cmp nat_list_cmp_total before (key, f v) after new_sorted in
       let below = below_from_images key c.front (subst (Below bytes_cmp nat_list_cmp_total key) (sym c.front_is) parts.0) in
       let above = above_from_images key c.back (subst (Above bytes_cmp nat_list_cmp_total key) (sym c.back_is) parts.1) in

@@ -1,49 +1,25 @@
 -- What a change of one canister leaves of what is so of each memory of a state.
-use Rattle.std.proofs.Common.{◌≡◌, Bool, true, false, cond, T, List, [], ◌∷◌, Some, refl, sym, subst, is_eq, not}
+use Rattle.std.proofs.Common.{◌≡◌, Bool, true, false, cond, List, [], ◌∷◌, Some, refl, sym, subst, not}
 use Rattle.std.specs.List.{AllByRecursion, flat_map}
-use Rattle.std.specs.FinMap.{find, put, is_sorted}
-use Rattle.std.specs.FinMap.Entries.{by_order, is_sorted-put, is_sorted-where_key}
+use Rattle.std.specs.FinMap.{find, put}
+use Rattle.std.specs.FinMap.Entries.{by_order}
 use Rattle.std.specs.Ordering.{eq_by_cmp}
 use Rattle.std.specs.declared.cmp.Ordering.{Ordering}
 use Rattle.std.specs.declared.cmp.Ordering.TheVariants.{Less, Equal, Greater}
 use Rattle.format_spec.specs.Bytes.{Bytes, bytes_cmp, same_bytes}
 use Rattle.state_spec.specs.State.{Canister, Memory, without}
-use Rattle.state_spec.proofs.Keys.{ids_apart, ids_total}
+use Rattle.state_spec.proofs.Keys.{ids_apart}
 use Rattle.sys_state.specs.declared.mem.Mem.{Mem}
 use Rattle.sys_state.specs.declared.mem.Mem.TheVariants.{Heap, Stable}
 use Rattle.machine_spec.specs.States.{NamedMemory, canister_memories, memory_of, with_memory}
-use Rattle.machine_spec.proofs.Lists.{some_is}
+use Rattle.std.proofs.lemmas.Option.{same_Some}
+use Rattle.format_spec.proofs.Readings.{same_bytes_is}
 
 abbrev pub Canisters : Type 0
 Canisters = List (Bytes × Canister)
 
 abbrev pub memories_in : Canisters → List NamedMemory
 memories_in cs = flat_map canister_memories cs
-
-equal : (o : Ordering) → is_eq o ≡ true → o ≡ Equal
-equal Less e = absurd cc
-equal Equal e = refl
-equal Greater e = absurd cc
-
-truth : (b : Bool) → T b → b ≡ true
-truth true h = refl
-truth false h = absurd h
-
-of_truth : (b : Bool) → b ≡ true → T b
-of_truth true h = tt
-of_truth false h = absurd cc
-
-same_id : (a b : Bytes) → same_bytes a b ≡ true → a ≡ b
-same_id a b e = ids_apart a b (equal (bytes_cmp a b) e)
-
--- ---- sorted canisters
-
-pub sorted_with : (id : Bytes) (c : Canister) (cs : Canisters) → is_sorted bytes_cmp cs ≡ true → is_sorted bytes_cmp (put bytes_cmp id c cs) ≡ true
-sorted_with id c cs h = truth (is_sorted bytes_cmp (put bytes_cmp id c cs)) (is_sorted-put bytes_cmp ids_total id c cs (of_truth (is_sorted bytes_cmp cs) h))
-
-pub sorted_without : (id : Bytes) (cs : Canisters) → is_sorted bytes_cmp cs ≡ true → is_sorted bytes_cmp (without bytes_cmp id cs) ≡ true
-sorted_without id cs h =
-    truth (is_sorted bytes_cmp (without bytes_cmp id cs)) (is_sorted-where_key bytes_cmp (λ (k : Bytes). not (eq_by_cmp bytes_cmp id k)) cs (of_truth (is_sorted bytes_cmp cs) h))
 
 -- ---- each memory
 
@@ -54,8 +30,8 @@ module _ (P : NamedMemory → Type 0) where
     where
       by : (find bytes_cmp id cs ≡ Some c → AllByRecursion P (canister_memories (id, c))) → (b : Bool) → same_bytes id d.0 ≡ b → cond b (Some d.1) (find bytes_cmp id cs) ≡ Some c → AllByRecursion P (canister_memories (id, c))
       by rest true is e =
-          let key : d.0 ≡ id = sym (same_id id d.0 is) in
-          let value : d.1 ≡ c = some_is d.1 c e in
+          let key : d.0 ≡ id = sym (same_bytes_is id d.0 is) in
+          let value : d.1 ≡ c = same_Some d.1 c e in
           let whole : d ≡ (id, c) = λ i. (key i, value i) in
           subst (λ (k : Bytes × Canister). AllByRecursion P (canister_memories k)) whole (all.0, (all.1.0, tt))
       by rest false is e = rest e

@@ -6,7 +6,7 @@ use Rattle.std.proofs.lemmas.List.{length-replicate}
 use Rattle.std.proofs.lemmas.List.Quantifiers.{position-Some}
 use Rattle.format_spec.specs.Bytes.{Bytes, IsBytes, page_at}
 use Rattle.format_spec.specs.declared.limits.TheConstants.{PAGE_SIZE}
-use Rattle.format_spec.proofs.Lists.{all_reversed}
+use Rattle.format_spec.proofs.Lists.{all_reversed, all_weaker}
 use Rattle.state_spec.specs.State.{CanisterPart, IsByteCanister, IsMemory, IsState, IsSystem, SystemPart, canisters_from, state_from, system_of}
 use Rattle.state_spec.specs.SystemText.{system_text}
 use Rattle.state_spec.specs.Files.{heap_name, stable_name}
@@ -17,11 +17,11 @@ use Rattle.store_spec.specs.Image.{Published, IsLayerOf, AreLayersOf, GivesHeigh
 use Rattle.page_spec.specs.Layers.{Layer, or_else, page_from, memory_from}
 use Rattle.store_spec.specs.Mark.{MarkMemory, FitsMemory}
 use Rattle.machine_spec.specs.Sound.{Ascend, AreHeights, MayBegin}
-use Rattle.machine_spec.proofs.Lists.{weaker}
 use Rattle.machine_spec.proofs.Canisters.{Canisters}
 use Rattle.machine_spec.proofs.Opened.{same_valid}
-use Rattle.machine_spec.proofs.TextBytes.{HasBytes, file_bytes, mark_bytes, memory_bytes, system_bytes}
+use Rattle.machine_spec.proofs.TextBytes.{file_bytes, mark_bytes, memory_bytes}
 use Rattle.machine_spec.proofs.Valid.{part}
+use Rattle.state_spec.proofs.TextBytes.{HasBytes, system_bytes}
 
 -- ---- numbers that ascend by places
 
@@ -34,7 +34,7 @@ ascend_of (x ∷ []) h = (tt, tt)
 ascend_of (x ∷ y ∷ ns) h =
     let first : x < y = h 0 (omega arith) in
     let rest = ascend_of (y ∷ ns) (λ k lt. next k (h (k + 1) (omega (arith, lt)))) in
-    ((first, weaker (λ n. y < n) (λ n. x < n) (λ n lt. omega (arith, first, lt)) ns rest.0), rest)
+    ((first, all_weaker (λ n. y < n) (λ n. x < n) (λ n lt. omega (arith, first, lt)) ns rest.0), rest)
   where
     next : (k : ℕ) → slice_index (x ∷ y ∷ ns) (k + 1) < slice_index (x ∷ y ∷ ns) (k + 1 + 1) → slice_index (y ∷ ns) k < slice_index (y ∷ ns) (k + 1)
     next k lt = omega (arith, lt, index_next x (y ∷ ns) k, index_next x (y ∷ ns) (k + 1))
@@ -162,8 +162,8 @@ pub opened_heights : (files : Files) (ps : List Published) → AreOfBytes files 
 opened_heights files ps all o = record {
   ascend = ascend_of (heights_of ps) o.marks.ascending;
   few = o.few;
-  each = weaker (GivesHeight files) MayBegin (given_begins files all) ps o.each;
+  each = all_weaker (GivesHeight files) MayBegin (given_begins files all) ps o.each;
 }
 
 pub standing_heights : (files : Files) (ps : List Published) → AreOfBytes files → StandsFor files ps → AreHeights ps
-standing_heights files ps all h = opened_heights files ps all (record { marks = h.marks; few = h.few; each = weaker (GivesTrueHeight files) (GivesHeight files) (λ p t. t.0) ps h.each })
+standing_heights files ps all h = opened_heights files ps all (record { marks = h.marks; few = h.few; each = all_weaker (GivesTrueHeight files) (GivesHeight files) (λ p t. t.0) ps h.each })

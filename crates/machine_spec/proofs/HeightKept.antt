@@ -1,4 +1,4 @@
--- Soundness is kept by the steps on heights, and by those that change nothing.
+-- Soundness is all_filtered by the steps on heights, and by those that change nothing.
 use Rattle.std.proofs.Common.{◌≡◌, ℕ, ◌+◌, ◌<◌, ◌≤◌, ◌==◌, Bool, true, false, not, cond, List, [], ◌∷◌, ◌++◌, map, filter, length, Some, None, is_some, refl, sym, ap, subst, arith, nat_le, nat_lt, length-append}
 use Rattle.std.specs.List.{AllByRecursion, last_or}
 use Rattle.std.proofs.lemmas.Bool.{leb-false}
@@ -15,9 +15,10 @@ use Rattle.machine_spec.specs.States.{memories_of}
 use Rattle.machine_spec.specs.HeightSteps.{round_step, forget_step, tree_root}
 use Rattle.machine_spec.specs.StoreSteps.{is_low, is_newest, checkpoint_step, purge_step, reset_step}
 use Rattle.machine_spec.specs.Sound.{IsSound, IsWholeState, IsWithin, IsBornBy, EachLater, Ascend, MayBegin}
-use Rattle.machine_spec.proofs.Lists.{weaker, joined, parts, kept, before_one, later_one, later_kept, of_map, to_map, later_of_map, later_to_map, last_holds}
+use Rattle.machine_spec.proofs.Lists.{before_one, later_one, later_kept, of_map, to_map, later_of_map, later_to_map, last_holds}
 use Rattle.machine_spec.proofs.LiveKept.{if_not_refused, if_some, live_within}
 use Rattle.machine_spec.proofs.StartKept.{resumed_is_sound}
+use Rattle.format_spec.proofs.Lists.{all_weaker, all_join, all_parts, all_filtered}
 
 abbrev Kept : Type 0
 Kept = ℕ × State
@@ -40,9 +41,9 @@ map_longer f [] y = refl
 map_longer {X} {Y} f (x ∷ xs) y = ap (λ (l : List Y). f x ∷ l) (map_longer f xs y)
 
 within_next : (h : ℕ) (s : State) → IsWithin (h, s) → IsWithin (h + 1, s)
-within_next h s all = weaker (IsBornBy h) (IsBornBy (h + 1)) (λ n b. record {
+within_next h s all = all_weaker (IsBornBy h) (IsBornBy (h + 1)) (λ n b. record {
   birth = omega (arith, b.birth);
-  rounds = weaker (λ r. r.1 ≤ h) (λ r. r.1 ≤ h + 1) (λ r le. omega (arith, le)) n.memory.rounds b.rounds;
+  rounds = all_weaker (λ r. r.1 ≤ h) (λ r. r.1 ≤ h + 1) (λ r le. omega (arith, le)) n.memory.rounds b.rounds;
 }) (memories_of s) all
 
 round_sound : (m : Machine) → IsSound m → length m.memory < MAX_HEIGHTS → IsSound (record m { height = m.height + 1; memory = m.memory ++ (m.height, m.live) ∷ [] })
@@ -51,14 +52,14 @@ round_sound m s few =
     let heights = before_one Below (0 ∷ map (λ k. k.0) m.memory) m.height s.ascends in
     record {
       live = s.live;
-      memory = joined (λ k. IsWholeState k.1) m.memory (e ∷ []) s.memory (s.live, tt);
-      within = joined IsWithin (m.memory ++ e ∷ []) ((m.height + 1, m.live) ∷ []) s.within (within_next m.height m.live (live_within m s), tt);
+      memory = all_join (λ k. IsWholeState k.1) m.memory (e ∷ []) s.memory (s.live, tt);
+      within = all_join IsWithin (m.memory ++ e ∷ []) ((m.height + 1, m.live) ∷ []) s.within (within_next m.height m.live (live_within m s), tt);
       ascends =
           subst (λ (ns : List ℕ). Ascend (0 ∷ (ns ++ (m.height + 1) ∷ []))) (sym (map_longer (λ (k : Kept). k.0) m.memory e))
           (later_one Below (0 ∷ (map (λ k. k.0) m.memory ++ m.height ∷ [])) (m.height + 1) s.ascends
-          (joined (λ h. h < m.height + 1) (0 ∷ map (λ k. k.0) m.memory) (m.height ∷ []) (weaker (λ h. h < m.height) (λ h. h < m.height + 1) (λ h lt. omega (arith, lt)) (0 ∷ map (λ k. k.0) m.memory) heights.1) (omega arith, tt)));
+          (all_join (λ h. h < m.height + 1) (0 ∷ map (λ k. k.0) m.memory) (m.height ∷ []) (all_weaker (λ h. h < m.height) (λ h. h < m.height + 1) (λ h lt. omega (arith, lt)) (0 ∷ map (λ k. k.0) m.memory) heights.1) (omega arith, tt)));
       published = s.published;
-      above = weaker (λ p. p.height < m.height) (λ p. p.height < m.height + 1) (λ p lt. omega (arith, lt)) m.published s.above;
+      above = all_weaker (λ p. p.height < m.height) (λ p. p.height < m.height + 1) (λ p lt. omega (arith, lt)) m.published s.above;
       few_in_memory = omega (arith, few, length-append m.memory (e ∷ []));
     }
 
@@ -82,18 +83,18 @@ forget_sound : (m : Machine) (h : ℕ) → IsSound m → IsSound (record m { mem
 forget_sound m h s =
     let keep : Kept → Bool = λ k. not (k.0 == h) in
     let live : Kept = (m.height, m.live) in
-    let inside = parts IsWithin m.memory (live ∷ []) s.within in
+    let inside = all_parts IsWithin m.memory (live ∷ []) s.within in
     let heights = before_one Below (0 ∷ map (λ k. k.0) m.memory) m.height s.ascends in
     let pairs : EachLater Lower m.memory = later_of_map (λ k. k.0) Below m.memory heights.0.1 in
     record {
       live = s.live;
-      memory = kept (λ k. IsWholeState k.1) keep m.memory s.memory;
-      within = joined IsWithin (filter keep m.memory) (live ∷ []) (kept IsWithin keep m.memory inside.0) inside.1;
+      memory = all_filtered (λ k. IsWholeState k.1) keep m.memory s.memory;
+      within = all_join IsWithin (filter keep m.memory) (live ∷ []) (all_filtered IsWithin keep m.memory inside.0) inside.1;
       ascends = later_one Below (0 ∷ map (λ k. k.0) (filter keep m.memory)) m.height (
-        to_map (λ k. k.0) (λ x. 0 < x) (filter keep m.memory) (kept (λ k. 0 < k.0) keep m.memory (of_map (λ k. k.0) (λ x. 0 < x) m.memory heights.0.0)),
+        to_map (λ k. k.0) (λ x. 0 < x) (filter keep m.memory) (all_filtered (λ k. 0 < k.0) keep m.memory (of_map (λ k. k.0) (λ x. 0 < x) m.memory heights.0.0)),
         later_to_map (λ k. k.0) Below (filter keep m.memory) (later_kept Lower keep m.memory pairs),
       )
-          (heights.1.0, to_map (λ k. k.0) (λ x. x < m.height) (filter keep m.memory) (kept (λ k. k.0 < m.height) keep m.memory (of_map (λ k. k.0) (λ x. x < m.height) m.memory heights.1.1)));
+          (heights.1.0, to_map (λ k. k.0) (λ x. x < m.height) (filter keep m.memory) (all_filtered (λ k. k.0 < m.height) keep m.memory (of_map (λ k. k.0) (λ x. x < m.height) m.memory heights.1.1)));
       published = s.published;
       above = s.above;
       few_in_memory = omega (arith, s.few_in_memory, fewer keep m.memory);
@@ -131,9 +132,9 @@ checkpoint_sound m k s last high few =
       published = record {
         ascend = subst Ascend (sym (map_longer (λ (p : Published). p.height) m.published p)) (later_one Below (heights_of m.published) k.0 s.published.ascend (to_map (λ p. p.height) (λ x. x < k.0) m.published over));
         few = omega (arith, few, length-append m.published (p ∷ []));
-        each = joined MayBegin m.published (p ∷ []) s.published.each (record { from_one = positive; valid = whole.valid }, tt);
+        each = all_join MayBegin m.published (p ∷ []) s.published.each (record { from_one = positive; valid = whole.valid }, tt);
       };
-      above = joined (λ p. p.height < m.height) m.published (p ∷ []) s.above (under, tt);
+      above = all_join (λ p. p.height < m.height) m.published (p ∷ []) s.above (under, tt);
       few_in_memory = s.few_in_memory;
     }
 
@@ -165,9 +166,9 @@ purge_sound m h s =
       published = record {
         ascend = later_to_map (λ p. p.height) Below (filter keep m.published) (later_kept less keep m.published (later_of_map (λ p. p.height) Below m.published s.published.ascend));
         few = omega (arith, s.published.few, fewer keep m.published);
-        each = kept MayBegin keep m.published s.published.each;
+        each = all_filtered MayBegin keep m.published s.published.each;
       };
-      above = kept (λ p. p.height < m.height) keep m.published s.above;
+      above = all_filtered (λ p. p.height < m.height) keep m.published s.above;
       few_in_memory = s.few_in_memory;
     }
 

@@ -1,7 +1,7 @@
 -- Where a key stands among entries in ascending order, by what is found of it.
 use Rattle.std.proofs.Common.{◌≡◌, ℕ, Bool, true, false, cond, List, [], ◌∷◌, ◌++◌, length, Some, None, refl, sym, ap, subst}
 use Rattle.std.proofs.lemmas.Bool.{and_parts}
-use Rattle.std.specs.Cmp.{IsTotalOrder}
+use Rattle.std.specs.Cmp.{IsTotalOrder, Equal-is}
 use Rattle.std.specs.FinMap.{find, is_sorted, IsAntisymmetric}
 use Rattle.std.specs.FinMap.Entries.{below_all}
 use Rattle.std.specs.List.{AllByRecursion}
@@ -10,12 +10,8 @@ use Rattle.std.specs.declared.cmp.Ordering.{Ordering}
 use Rattle.std.specs.declared.cmp.Ordering.TheVariants.{Less, Equal, Greater}
 use Rattle.state_spec.specs.Places.{Stands, IsAbsent}
 use Rattle.state_spec.proofs.Places.{above_from_sorted, absent, less_from_greater, parted, stands}
-use Rattle.machine_spec.proofs.Lists.{some_is, weaker}
-
-equal : (o : Ordering) → is_eq o ≡ true → o ≡ Equal
-equal Less e = absurd cc
-equal Equal e = refl
-equal Greater e = absurd cc
+use Rattle.format_spec.proofs.Lists.{all_weaker}
+use Rattle.std.proofs.lemmas.Option.{same_Some}
 
 -- the first entry of a key
 pub record Found {K X : Type 0} (key : K) (value : X) (es : List (K × X)) : Type 0 where
@@ -38,8 +34,8 @@ module _ {K X : Type 0} (R : K → K → Ordering) (same : IsAntisymmetric R) (k
     where
       by : (b : Bool) → eq_by_cmp R key d.0 ≡ b → (find R key es ≡ Some value → Found key value es) → cond b (Some d.1) (find R key es) ≡ Some value → Found key value (d ∷ es)
       by true is rest e =
-          let k : d.0 ≡ key = sym (same key d.0 (equal (R key d.0) is)) in
-          let v : d.1 ≡ value = some_is d.1 value e in
+          let k : d.0 ≡ key = sym (same key d.0 ((Equal-is (R key d.0)).0 is)) in
+          let v : d.1 ≡ value = same_Some d.1 value e in
           record { before = []; after = es; split = λ i. (k i, v i) ∷ es }
       by false is rest e = let f = rest e in record { before = d ∷ f.before; after = f.after; split = ap (λ (l : List (K × X)). d ∷ l) f.split }
 
@@ -60,7 +56,7 @@ module _ {K X : Type 0} (R : K → K → Ordering) (o : IsTotalOrder R) (same : 
         after = d ∷ es;
         split = refl;
         lower = tt;
-        higher = (is, weaker (λ (x : K × X). R d.0 x.0 ≡ Less) (λ (x : K × X). R key x.0 ≡ Less) (λ x lt. o.trans key d.0 x.0 is lt) es (above_from_sorted R o d.0 es (and_parts (below_all R d.0 es) (is_sorted R es) sorted).0));
+        higher = (is, all_weaker (λ (x : K × X). R d.0 x.0 ≡ Less) (λ (x : K × X). R key x.0 ≡ Less) (λ x lt. o.trans key d.0 x.0 is lt) es (above_from_sorted R o d.0 es (and_parts (below_all R d.0 es) (is_sorted R es) sorted).0));
       }
       by Equal is rest e = absurd cc
       by Greater is rest e =

@@ -18,11 +18,11 @@ use Rattle.machine_spec.specs.Machine.{Machine, Outcome, now_live, refused_if, u
 use Rattle.machine_spec.specs.States.{NamedMemory, canister_memories, memories_of, canister_in, with_canister, without_canister, newborn, memory_of, with_memory, pages_with, state_pages}
 use Rattle.machine_spec.specs.LiveSteps.{canister_step, drop_step, grow_step, write_step, module_step, certify_step, time_step, put_step, del_step}
 use Rattle.machine_spec.specs.Sound.{IsSound, IsWholeState, IsWithin, IsBornBy}
-use Rattle.machine_spec.proofs.Lists.{joined, parts}
 use Rattle.machine_spec.proofs.Canisters.{Canisters, of_found, with_one, without_one, with_other}
 use Rattle.machine_spec.proofs.Valid.{AreGood, IsGood, canisters_of, changed, created, entries_of, removed, time_of, valid_from}
 use Rattle.machine_spec.proofs.ValidSteps.{Follows, all_pages_are, entry_gone, entry_set, new_pages, newborn_good, with_certified, with_new, with_wasm, written_few, written_pages}
 use Rattle.machine_spec.proofs.WrittenRounds.{write_each_round}
+use Rattle.format_spec.proofs.Lists.{all_join, all_parts}
 
 -- ---- refusals change nothing
 
@@ -48,7 +48,7 @@ pub with_live : (m : Machine) (t : State) → IsSound m → IsWholeState t → I
 with_live m t s whole within = record {
   live = whole;
   memory = s.memory;
-  within = joined IsWithin m.memory ((m.height, t) ∷ []) (parts IsWithin m.memory ((m.height, m.live) ∷ []) s.within).0 (within, tt);
+  within = all_join IsWithin m.memory ((m.height, t) ∷ []) (all_parts IsWithin m.memory ((m.height, m.live) ∷ []) s.within).0 (within, tt);
   ascends = s.ascends;
   published = s.published;
   above = s.above;
@@ -56,7 +56,7 @@ with_live m t s whole within = record {
 }
 
 pub live_within : (m : Machine) → IsSound m → IsWithin (m.height, m.live)
-live_within m s = (parts IsWithin m.memory ((m.height, m.live) ∷ []) s.within).1.0
+live_within m s = (all_parts IsWithin m.memory ((m.height, m.live) ∷ []) s.within).1.0
 
 -- what is so of each memory of the live state
 pub with_memories : (m : Machine) (t : State) → IsSound m → IsWholeState t

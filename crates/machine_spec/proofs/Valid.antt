@@ -12,10 +12,11 @@ use Rattle.format_spec.specs.Bytes.{Bytes, bytes_cmp}
 use Rattle.format_spec.specs.declared.limits.TheConstants.{MAX_CANISTERS, MAX_STATE_PAGES}
 use Rattle.state_spec.specs.State.{State, Canister, CanisterPart, FitsCanister, IsSystem, IsMemory, IsByteCanister, AreEntries, IsState, all_pages, pages_in, part_of, system_of, without}
 use Rattle.state_spec.proofs.Keys.{ids_apart, ids_total, is_sorted-over}
-use Rattle.state_spec.proofs.Places.{parted, put_stands}
-use Rattle.machine_spec.proofs.Canisters.{Canisters, sorted_with, sorted_without}
+use Rattle.state_spec.proofs.Places.{parted, put_stands, sorted_put, sorted_without}
+use Rattle.machine_spec.proofs.Canisters.{Canisters}
 use Rattle.machine_spec.proofs.Keyed.{Found, found}
-use Rattle.machine_spec.proofs.Lists.{joined, kept, of_map, parts, to_map, weaker}
+use Rattle.machine_spec.proofs.Lists.{of_map, to_map}
+use Rattle.format_spec.proofs.Lists.{all_weaker, all_join, all_parts, all_filtered}
 
 abbrev pub Named : Type 0
 Named = Bytes × Canister
@@ -130,15 +131,15 @@ changed id c d cs good e step bound =
     let f : Found id c cs = found bytes_cmp ids_apart id c cs e in
     let apart = parted bytes_cmp ids_total f.before (id, c) f.after (subst (λ (l : Canisters). is_sorted bytes_cmp l ≡ true) f.split good.sorted) in
     let now : put bytes_cmp id d cs ≡ f.before ++ (id, d) ∷ f.after = ap (put bytes_cmp id d) f.split ∙ put_stands bytes_cmp ids_total id f.before d c f.after apart.0 in
-    let were = parts IsGood f.before ((id, c) ∷ f.after) (subst (AllByRecursion IsGood) f.split good.each) in
+    let were = all_parts IsGood f.before ((id, c) ∷ f.after) (subst (AllByRecursion IsGood) f.split good.each) in
     let old_sum : pages cs ≡ pages f.before + pages ((id, c) ∷ f.after) = ap pages f.split ∙ pages-join f.before ((id, c) ∷ f.after) in
     let new_sum : pages (put bytes_cmp id d cs) ≡ pages f.before + pages ((id, d) ∷ f.after) = ap pages now ∙ pages-join f.before ((id, d) ∷ f.after) in
     let old_one : pages ((id, c) ∷ f.after) ≡ pages_in (part_of c) + pages f.after = pages-join ((id, c) ∷ []) f.after ∙ ap (λ (n : ℕ). n + pages f.after) (pages-one (id, c)) in
     let new_one : pages ((id, d) ∷ f.after) ≡ pages_in (part_of d) + pages f.after = pages-join ((id, d) ∷ []) f.after ∙ ap (λ (n : ℕ). n + pages f.after) (pages-one (id, d)) in
     record {
       few = omega (arith, good.few, ap length f.split, length-append f.before ((id, c) ∷ f.after), ap length now, length-append f.before ((id, d) ∷ f.after));
-      sorted = sorted_with id d cs good.sorted;
-      each = subst (AllByRecursion IsGood) (sym now) (joined IsGood f.before ((id, d) ∷ f.after) were.0 (step were.1.0, were.1.1));
+      sorted = sorted_put bytes_cmp ids_total id d cs good.sorted;
+      each = subst (AllByRecursion IsGood) (sym now) (all_join IsGood f.before ((id, d) ∷ f.after) were.0 (step were.1.0, were.1.1));
       room = omega (arith, bound, old_sum, new_sum, old_one, new_one);
     }
 
@@ -174,7 +175,7 @@ put_pages id c (d ∷ cs) = by (bytes_cmp id d.0) (put_pages id c cs)
 pub created : (id : Bytes) (c : Canister) (cs : Canisters) → AreGood cs → IsGood (id, c) → pages_in (part_of c) ≡ 0 → length cs < MAX_CANISTERS → AreGood (put bytes_cmp id c cs)
 created id c cs good new none few = record {
   few = omega (arith, few, put_length id c cs);
-  sorted = sorted_with id c cs good.sorted;
+  sorted = sorted_put bytes_cmp ids_total id c cs good.sorted;
   each = put_each IsGood id c cs good.each new;
   room = omega (arith, good.room, none, put_pages id c cs);
 }
@@ -195,8 +196,8 @@ removed id cs good =
     let less = fewer_canisters t cs in
     record {
       few = omega (arith, good.few, less.0);
-      sorted = sorted_without id cs good.sorted;
-      each = kept IsGood t cs good.each;
+      sorted = sorted_without bytes_cmp ids_total id cs good.sorted;
+      each = all_filtered IsGood t cs good.each;
       room = omega (arith, good.room, less.1);
     }
 
@@ -214,7 +215,7 @@ module _ (f : Canister → Canister) (alike : (c : Canister) → part_of (f c) �
   over_good step cs good = record {
     few = omega (arith, good.few, length-map cs over);
     sorted = is_sorted-over bytes_cmp f cs ∙ good.sorted;
-    each = to_map over IsGood cs (weaker IsGood (λ c. IsGood (over c)) step cs good.each);
+    each = to_map over IsGood cs (all_weaker IsGood (λ c. IsGood (over c)) step cs good.each);
     room = omega (arith, good.room, ap all_pages (parts_over cs));
   }
 
@@ -222,6 +223,6 @@ module _ (f : Canister → Canister) (alike : (c : Canister) → part_of (f c) �
   back_good step cs good = record {
     few = omega (arith, good.few, length-map cs over);
     sorted = sym (is_sorted-over bytes_cmp f cs) ∙ good.sorted;
-    each = weaker (λ c. IsGood (over c)) IsGood step cs (of_map over IsGood cs good.each);
+    each = all_weaker (λ c. IsGood (over c)) IsGood step cs (of_map over IsGood cs good.each);
     room = omega (arith, good.room, ap all_pages (parts_over cs));
   }

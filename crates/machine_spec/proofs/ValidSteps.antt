@@ -1,15 +1,15 @@
 -- What a line changes of a valid state is valid.
-use Rattle.std.proofs.Common.{◌≡◌, ◌==◌, max, ℕ, zero, suc, ◌+◌, ◌*◌, ◌<◌, ◌≤◌, false, not, ◌&&◌, List, [], ◌∷◌, length, Option, Some, None, IfSome, is_some, refl, sym, ap, subst, ◌∙◌, arith, nat_le, nat_lt}
-use Rattle.std.proofs.lemmas.Bool.{and_from, le-leb, leb-false, lt-ltb}
+use Rattle.std.proofs.Common.{◌≡◌, ◌==◌, max, ℕ, zero, suc, ◌+◌, ◌*◌, ◌<◌, ◌≤◌, false, not, ◌&&◌, List, [], ◌∷◌, length, Option, Some, None, IfSome, is_some, refl, sym, ap, subst, ◌∙◌, arith, nat_le}
+use Rattle.std.proofs.lemmas.Bool.{leb-false}
 use Rattle.std.proofs.lemmas.Bool.Decides.{nat_tests}
 use Rattle.std.proofs.lemmas.List.{get_or_at}
 use Rattle.std.specs.FinMap.{find, put}
 use Rattle.std.proofs.lemmas.Grind.{div_ceil_times}
 use Rattle.std.specs.Prelude.{IsTrue, get_or}
 use Rattle.format_spec.specs.Bytes.{Bytes, IsBytes, AreByteStrings, path_cmp}
-use Rattle.format_spec.specs.declared.limits.TheConstants.{MAX_ENTRIES, MAX_ID, MAX_MEMORY_PAGES, MAX_MODULE, MAX_CERTIFIED, MAX_VALUE, PAGE_SIZE}
+use Rattle.format_spec.specs.declared.limits.TheConstants.{MAX_ENTRIES, MAX_MEMORY_PAGES, MAX_MODULE, MAX_CERTIFIED, MAX_VALUE, PAGE_SIZE}
 use Rattle.format_spec.proofs.ByteStrings.{by_test}
-use Rattle.state_spec.specs.State.{State, AreEntries, Canister, Memory, IsMemory, has_conflict, is_id, is_path, is_reserved, pages_in, pages_of, part_of, system_of, without}
+use Rattle.state_spec.specs.State.{State, AreEntries, Canister, Memory, IsMemory, has_conflict, is_path, is_reserved, pages_in, pages_of, part_of, system_of, without}
 use Rattle.state_spec.specs.Memory.{pages_for, write}
 use Rattle.state_spec.proofs.Memories.{write_none, write_pages}
 use Rattle.state_spec.specs.Id.{IsId}
@@ -20,6 +20,7 @@ use Rattle.state_spec.proofs.Keys.{paths_apart, paths_total}
 use Rattle.machine_spec.specs.States.{memory_of, newborn, pages_with, state_pages, with_memory}
 use Rattle.machine_spec.proofs.Keyed.{absent_there, stands_there}
 use Rattle.machine_spec.proofs.Valid.{Entry, IsGood, pages}
+use Rattle.state_spec.proofs.Names.{id_test}
 
 -- ---- entries
 
@@ -50,9 +51,6 @@ module _ (es : List Entry) (good : AreEntries es) (path : List Bytes) where
 
 empty : IsBytes []
 empty = by_test [] refl
-
-id_test : (id : Bytes) → IsId id → IsTrue (is_id id)
-id_test id is = and_from (nat_lt 0 (length id)) (nat_le (length id) MAX_ID) (lt-ltb 0 (length id) is.0) (le-leb (length id) MAX_ID is.1)
 
 pub newborn_good : (id : Bytes) (height : ℕ) → IsId id → IsBytes id → IsGood (id, newborn height)
 newborn_good id height is bytes = record {

@@ -1,57 +1,8 @@
 -- A byte string in parts of one size: its first part, and the parts of the rest.
-use Rattle.std.proofs.Common.{◌≡◌, ℕ, zero, suc, ◌+◌, ◌-◌, ◌*◌, ◌^◌, ◌<◌, ◌≤◌, min, List, [], ◌∷◌, ◌++◌, length, map, take, drop, refl, sym, ap, ◌∙◌, append_assoc, arith, inl, inr}
-use Rattle.std.specs.List.{range_with_len}
-use Rattle.std.proofs.lemmas.Bool.{cases_lt}
-use Rattle.std.proofs.lemmas.List.{append-nil, length-map, length-append, length-drop, drop-drop, take_at, drop_at, take_all, drop_all, nil_from_length}
+use Rattle.std.proofs.Common.{◌≡◌, ℕ, ◌+◌, ◌-◌, ◌*◌, ◌^◌, ◌<◌, ◌≤◌, min, List, [], ◌∷◌, ◌++◌, length, map, sym, ap, ◌∙◌, append_assoc, arith}
+use Rattle.std.proofs.lemmas.List.{append-nil, length-map}
 use Rattle.format_spec.specs.Bytes.{Bytes, parts, part_count}
-use Rattle.format_spec.proofs.Parts.{parts_length}
-
--- one part more where there is a byte more
-abbrev pub CountsFirst : ℕ → Type 0
-CountsFirst n = (x : ℕ) → 0 < x → part_count n x ≡ suc (part_count n (x - n))
-
-pub counts_pieces : CountsFirst 4096
-counts_pieces x some = omega arith
-
-shifted : {X : Type 0} (f g : ℕ → X) → ((i : ℕ) → f (i + 1) ≡ g i) → (k a : ℕ) → map f (range_with_len (a + 1) k) ≡ map g (range_with_len a k)
-shifted f g same zero a = refl
-shifted f g same (suc k) a = let h = same a in let t = shifted f g same k (a + 1) in rw (h, t) refl
-
--- the first part and what is behind it
-front_is : (n : ℕ) (chunk rest : Bytes) → length chunk ≡ min n (length (chunk ++ rest)) → (take n (chunk ++ rest) ≡ chunk) × (drop n (chunk ++ rest) ≡ rest)
-front_is n chunk rest size =
-    let len = length-append chunk rest in
-    elim (cases_lt (length (chunk ++ rest)) n) [
-      | inl short ↦
-          let none : rest ≡ [] = nil_from_length rest (omega arith) in
-          rw (none, append-nil) (take_all n chunk (omega arith), drop_all n chunk (omega arith))
-      | inr long ↦ (take_at chunk rest n (omega arith), drop_at chunk rest n (omega arith))
-    ]
-
-pub parts_first : (n : ℕ) → CountsFirst n → (all chunk rest : Bytes) → all ≡ chunk ++ rest → length chunk ≡ min n (length all) → 0 < length all → parts n all ≡ chunk ∷ parts n rest
-unfolding parts
-parts_first n counts all chunk rest is size some =
-    let f = front_is n chunk rest (size ∙ ap (λ (s : Bytes). min n (length s)) is) in
-    let first : take n all ≡ chunk = ap (λ (s : Bytes). take n s) is ∙ f.0 in
-    let behind : drop n all ≡ rest = ap (λ (s : Bytes). drop n s) is ∙ f.1 in
-    let len : length all - n ≡ length rest = sym (length-drop n all) ∙ ap length behind in
-    let count : part_count n (length all) ≡ suc (part_count n (length rest)) = counts (length all) some ∙ ap (λ (k : ℕ). suc (part_count n k)) len in
-    let zero_times : 0 * n ≡ 0 = omega arith in
-    let more = shifted (λ i. take n (drop (i * n) all)) (λ i. take n (drop (i * n) (drop n all))) (λ i. let e : (i + 1) * n ≡ n + i * n = omega arith in rw e (ap (λ (s : Bytes). take n s) (sym (drop-drop (i * n) n all)))) (part_count n (length rest)) 0 in
-    ap (λ (k : ℕ). map (λ i. take n (drop (i * n) all)) (range_with_len 0 k)) count
-    ∙ ap (λ (t : List Bytes). take n (drop (0 * n) all) ∷ t) more
-    ∙ rw (zero_times, first, behind) refl
-
-no_part : (n : ℕ) (s : Bytes) (k : ℕ) → k ≡ 0 → map (λ i. take n (drop (i * n) s)) (range_with_len 0 k) ≡ []
-no_part n s k none = rw none refl
-
-pub parts_none : (n : ℕ) (rest : Bytes) → length rest ≡ 0 → parts n rest ≡ []
-unfolding parts
-parts_none n rest none = no_part n rest (part_count n (length rest)) (rw none (nothing n))
-  where
-    nothing : (n : ℕ) → part_count n 0 ≡ 0
-    nothing zero = refl
-    nothing (suc n) = omega (arith)
+use Rattle.format_spec.proofs.Parts.{parts_length, CountsFirst, parts_first, parts_none}
 
 -- ---- each part hashed
 

@@ -1,5 +1,5 @@
 -- A text is at most one page file, and is known by its index and its length.
-use Rattle.std.proofs.Common.{◌≡◌, ℕ, suc, ◌+◌, ◌*◌, ◌^◌, ◌<◌, ◌≤◌, Bool, true, false, cond, List, [], ◌∷◌, ◌++◌, length, take, drop, codes, refl, sym, ap, ◌∙◌, arith, length-drop, is_lt, nat_lt, ltb-true, eqb-true, Less, Equal, Greater, take-append-drop}
+use Rattle.std.proofs.Common.{◌≡◌, ℕ, suc, ◌+◌, ◌*◌, ◌^◌, ◌<◌, ◌≤◌, Bool, true, false, cond, List, [], ◌∷◌, ◌++◌, length, take, drop, codes, refl, sym, ap, ◌∙◌, arith, length-drop, is_lt, eqb-true, take-append-drop}
 use Rattle.std.specs.Prelude.{◌==◌}
 use Rattle.std.specs.List.{AllByRecursion, list_all, flat_map, range_with_len}
 use Rattle.std.specs.Ordering.{nat_cmp}
@@ -7,7 +7,7 @@ use Rattle.std.proofs.lemmas.Bool.{and_parts}
 use Rattle.format_spec.specs.Bytes.{Bytes, be32, be64, ascending}
 use Rattle.format_spec.proofs.Cuts.{cons_same, cut_front, be32_same}
 use Rattle.page_spec.specs.PageFile.{PageIndex, IsIndex, before_runs, runs_of, ranges_text, kind_of, index_length, file_length, index_text, IsPageFile}
-use Rattle.format_spec.proofs.Lists.{every}
+use Rattle.format_spec.proofs.Lists.{every, below_is}
 
 -- ---- runs
 
@@ -64,17 +64,6 @@ before_few page (run ∷ runs) = by (run.0 == page + 1)
 runs_few : (pages : List ℕ) → length (runs_of pages) ≤ length pages
 runs_few [] = omega arith
 runs_few (page ∷ pages) = omega (arith, before_few page (runs_of pages), runs_few pages)
-
-pub below_is : (a b : ℕ) → is_lt (nat_cmp a b) ≡ true → a < b
-below_is a b h = by (nat_lt a b) refl
-  where
-    by : (t : Bool) → nat_lt a b ≡ t → a < b
-    by true e = ltb-true a b e
-    by false e = absurd (none (a == b) (ap (λ (t : Bool). is_lt (cond t Less (cond (a == b) Equal Greater))) (sym e) ∙ h))
-      where
-        none : (t : Bool) → is_lt (cond t Equal Greater) ≡ true → ⊥
-        none true f = cc
-        none false f = cc
 
 above : (page : ℕ) (pages : List ℕ) → list_all (λ j. is_lt (nat_cmp page j)) pages ≡ true → AllByRecursion (λ p. suc page ≤ p) pages
 above page [] h = tt

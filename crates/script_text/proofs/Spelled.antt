@@ -1,6 +1,6 @@
 -- Each line that is a command spells one in the sizes of its form, whose fields are what their types hold.
-use Rattle.std.proofs.Common.{◌≡◌, ℕ, ◌+◌, ◌*◌, ◌%◌, ◌^◌, ◌<◌, ◌≤◌, Bool, true, false, ◌&&◌, cond, List, [], ◌∷◌, length, drop, Option, Some, None, Result, Ok, Err, refl, subst, arith, nat_le, nat_lt}
-use Rattle.std.proofs.lemmas.Bool.{and_parts, leb-true, ltb-true}
+use Rattle.std.proofs.Common.{◌≡◌, ℕ, ◌^◌, ◌<◌, ◌≤◌, Bool, true, false, ◌&&◌, cond, List, [], ◌∷◌, length, drop, Option, Some, None, Result, Ok, Err, refl, subst, arith, nat_le, nat_lt, inl, inr}
+use Rattle.std.proofs.lemmas.Bool.{and_parts, leb-true, ltb-true, cases_Bool}
 use Rattle.std.specs.List.{AllByRecursion, list_all, slice_split, starts_with}
 use Rattle.std.specs.Option.{option_map, option_and_then}
 use Rattle.std.specs.Str.Parse.{digits_value}
@@ -8,8 +8,7 @@ use Rattle.std.specs.Prelude.{◌==◌, if◌then◌else◌, IsTrue, codes, nat_
 use Rattle.std.specs.Result.{result_ok}
 use Rattle.std.specs.Str.{bytes_eq}
 use Rattle.hex.specs.declared.error.FromHexError.{FromHexError}
-use Rattle.hex.specs.declared.error.FromHexError.TheVariants.{OddLength}
-use Rattle.hex.specs.Hex.{decode_pairs, digit_or_error, hex_digit_value, pair_value, value_at, ◌>>=◌}
+use Rattle.hex.specs.Hex.{decode_of}
 use Rattle.format_spec.specs.Bytes.{Bytes, IsBytes, AreByteStrings}
 use Rattle.format_spec.specs.declared.limits.TheConstants.{MAX_CERTIFIED, MAX_ID, MAX_MODULE, MAX_PATHS, MAX_READ, MAX_VALUE}
 use Rattle.format_spec.proofs.ByteStrings.{by_test, one_byte}
@@ -23,11 +22,10 @@ use Rattle.script_text.specs.Commands.{canister_of, certify_of, check_of, del_of
 use Rattle.script_text.specs.Commands.{Form, FoundSpells, IsCommand, SpellsCommand, alone, command_by, command_of, command_of_words, forms, parsed_line, parsed_by}
 use Rattle.script_text.specs.Script.{is_silent, words}
 use Rattle.script_text.specs.Words.{each_of, hash_of, height_of, height_or_live, hex_of, hex_up_to, id_of, is_label_byte, is_number, is_path_count, label_of, mem_of, module_of, number_of, number_up_to, onto, path_of, path_of_parts, paths_of, plain_label, such_that}
+use Rattle.std.proofs.lemmas.Option.{same_Some}
+use Rattle.hex.proofs.HexLemmas.{decode_of-ok}
 
 -- ---- values that are read
-
-some_is : {A : Type 0} (x y : A) → Some x ≡ Some y → x ≡ y
-some_is x y e = cc
 
 module _ {A : Type 0} (test : A → Bool) where
   passes : (o : Option A) (x : A) → such_that test o ≡ Some x → (o ≡ Some x) × (test x ≡ true)
@@ -35,55 +33,27 @@ module _ {A : Type 0} (test : A → Bool) where
   passes (Some y) x e = by (test y) refl e
     where
       by : (b : Bool) → test y ≡ b → cond b (Some y) None ≡ Some x → (Some y ≡ Some x) × (test x ≡ true)
-      by true is e = (e, subst (λ (z : A). test z ≡ true) (some_is y x e) is)
+      by true is e = (e, subst (λ (z : A). test z ≡ true) (same_Some y x e) is)
       by false is e = absurd cc
 
 -- ---- bytes in hexadecimal
 
-small_value : (c v : ℕ) → hex_digit_value c ≡ Some v → v < 16
-small_value c v h = grind arith
-
-bound : {A B : Type 0} (r : Result A FromHexError) (f : A → Result B FromHexError) (y : B) → (r >>= f) ≡ Ok y → (x : A) × (r ≡ Ok x) × (f x ≡ Ok y)
-bound (Ok x) f y h = (x, refl, h)
-bound (Err e) f y h = absurd cc
-
-digit_small : (c i : ℕ) (o : Option ℕ) (v : ℕ) → hex_digit_value c ≡ o → digit_or_error c i o ≡ Ok v → v < 16
-digit_small c i (Some w) v e h = let same : w ≡ v = cc h in small_value c v (rw same at e)
-digit_small c i None v e h = absurd cc
-
-pairs_are : (i : ℕ) (s bytes : Bytes) → decode_pairs i s ≡ Ok bytes → IsBytes bytes
-unfolding decode_pairs
-pairs_are i [] bytes h = let none : [] ≡ bytes = cc h in rw (← none) (by_test [] refl)
-pairs_are i (a ∷ []) bytes h = absurd cc
-pairs_are i (a ∷ b ∷ rest) bytes h =
-    let p0 = bound (pair_value a b i) (λ v. decode_pairs (i + 2) rest >>= (λ more. Ok (v ∷ more))) bytes h in
-    let p1 = bound (value_at a i) (λ high. value_at b (i + 1) >>= (λ low. Ok (high * 16 + low))) p0.0 p0.1 in
-    let p2 = bound (value_at b (i + 1)) (λ low. Ok (p1.0 * 16 + low)) p0.0 p1.2 in
-    let p3 = bound (decode_pairs (i + 2) rest) (λ more. Ok (p0.0 ∷ more)) bytes p0.2 in
-    let high : p1.0 < 16 = digit_small a i (hex_digit_value a) p1.0 refl p1.1 in
-    let low : p2.0 < 16 = digit_small b (i + 1) (hex_digit_value b) p2.0 refl p2.1 in
-    let byte : p1.0 * 16 + p2.0 ≡ p0.0 = cc p2.2 in
-    let whole : p0.0 ∷ p3.0 ≡ bytes = cc p3.2 in
-    rw (← whole) (one_byte p0.0 p3.0 (omega (arith, high, low, byte)) (pairs_are (i + 2) rest p3.0 p3.1))
-
 hex_bytes : (word bytes : Bytes) → bytes_of_hex word ≡ Some bytes → IsBytes bytes
-hex_bytes word bytes e = by (list_all is_lower_digit word) (length word % 2 == 1) e
+hex_bytes word bytes e = elim (cases_Bool (list_all is_lower_digit word)) [
+  | inl lower ↦ (decode_of-ok word bytes (is_ok (decode_of word) (rw lower at e))).3
+  | inr upper ↦ absurd (let none : None ≡ Some bytes = rw upper at e in let no : ⊥ = cc in no)
+]
   where
     is_ok : (r : Result Bytes FromHexError) → result_ok r ≡ Some bytes → r ≡ Ok bytes
     is_ok (Ok x) e = cc e
     is_ok (Err x) e = absurd cc
-
-    by : (b odd : Bool) → cond b (result_ok (cond odd (Err OddLength) (decode_pairs 0 word))) None ≡ Some bytes → IsBytes bytes
-    by false odd e = absurd cc
-    by true true e = absurd cc
-    by true false e = pairs_are 0 word bytes (is_ok (decode_pairs 0 word) e)
 
 read_bytes : (word bytes : Bytes) → hex_of word ≡ Some bytes → IsBytes bytes
 read_bytes [] bytes e = absurd cc
 read_bytes (first ∷ rest) bytes e = by (bytes_eq (first ∷ rest) (codes "-")) e
   where
     by : (b : Bool) → cond b (Some []) (bytes_of_hex (first ∷ rest)) ≡ Some bytes → IsBytes bytes
-    by true e = let none : [] ≡ bytes = some_is [] bytes e in rw (← none) (by_test [] refl)
+    by true e = let none : [] ≡ bytes = same_Some [] bytes e in rw (← none) (by_test [] refl)
     by false e = hex_bytes (first ∷ rest) bytes e
 
 few_bytes : (most : ℕ) (word bytes : Bytes) → hex_up_to most word ≡ Some bytes → (length bytes ≤ most) × IsBytes bytes
@@ -103,7 +73,7 @@ module_is id word (Some m) e = by (bytes_eq word (codes "none")) e
   where
     inner : (o : Option Bytes) → option_map (λ (bytes : Bytes). Some bytes) o ≡ Some (Some m) → o ≡ Some m
     inner None e = absurd cc
-    inner (Some x) e = some_is (Some x) (Some m) e
+    inner (Some x) e = same_Some (Some x) (Some m) e
 
     by : (b : Bool) → cond b (Some None) (option_map (λ (bytes : Bytes). Some bytes) (hex_up_to MAX_MODULE word)) ≡ Some (Some m) → IsCommand (commands.Module id (Some m))
     by true e = absurd cc
@@ -130,7 +100,7 @@ plain_is : (word l : Bytes) → plain_label word ≡ Some l → IsBytes l
 plain_is word l e = by (is_label word && list_all is_label_byte word) refl e
   where
     by : (b : Bool) → (is_label word && list_all is_label_byte word) ≡ b → cond b (Some word) None ≡ Some l → IsBytes l
-    by true is e = let same : word ≡ l = some_is word l e in rw (← same) (plain_bytes word (and_parts (is_label word) (list_all is_label_byte word) is).1)
+    by true is e = let same : word ≡ l = same_Some word l e in rw (← same) (plain_bytes word (and_parts (is_label word) (list_all is_label_byte word) is).1)
     by false is e = absurd cc
 
 label_is : (word l : Bytes) → label_of word ≡ Some l → IsBytes l
@@ -141,13 +111,13 @@ label_is word l e = by (starts_with nat_eq word (codes "0x")) e
     by false e = plain_is word l e
 
 labels_are : (ws ls : List Bytes) → each_of label_of ws ≡ Some ls → AreByteStrings ls
-labels_are [] ls e = let none : [] ≡ ls = some_is [] ls e in rw (← none) tt
+labels_are [] ls e = let none : [] ≡ ls = same_Some [] ls e in rw (← none) tt
 labels_are (w ∷ ws) ls e = by (label_of w) refl (each_of label_of ws) refl (labels_are ws) e
   where
     by : (o : Option Bytes) → label_of w ≡ o → (p : Option (List Bytes)) → each_of label_of ws ≡ p → ((ms : List Bytes) → each_of label_of ws ≡ Some ms → AreByteStrings ms) → option_and_then (λ x. onto x p) o ≡ Some ls → AreByteStrings ls
     by None one p others rest e = absurd cc
     by (Some l) one None others rest e = absurd cc
-    by (Some l) one (Some ms) others rest e = let whole : l ∷ ms ≡ ls = some_is (l ∷ ms) ls e in rw (← whole) (label_is w l one, rest ms others)
+    by (Some l) one (Some ms) others rest e = let whole : l ∷ ms ≡ ls = same_Some (l ∷ ms) ls e in rw (← whole) (label_is w l one, rest ms others)
 
 path_is : (word : Bytes) (p : List Bytes) → path_of word ≡ Some p → IsTrue (is_path p) × AreByteStrings p
 path_is word p e = parts_are (slice_split (λ byte. byte == 47) word) e

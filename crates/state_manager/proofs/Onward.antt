@@ -1,9 +1,6 @@
 -- Lines on the live state leave the states in memory, and rounds go on.
 use Rattle.std.proofs.Common.{◌≡◌, ◌==◌, ◌≤◌, ◌<◌, ◌+◌, ℕ, Bool, true, false, not, ◌&&◌, nat_le, nat_lt, List, [], ◌∷◌, ◌++◌, length, Some, None, Result, Ok, Err, refl, ap, ◌∙◌, arith}
 use Rattle.std.proofs.lemmas.Bool.Decides.{nat_tests}
-use Rattle.std.proofs.Common.{inl, inr}
-use Rattle.std.proofs.lemmas.Bool.{cases_Bool}
-use Rattle.std.specs.List.{AllByRecursion}
 use Rattle.std.specs.Prelude.{filter}
 use Rattle.std.specs.Option.{is_some}
 use Rattle.byte_codec.specs.declared.error.NoMemory.{NoMemory}
@@ -70,13 +67,6 @@ carried a m n live height k = record {
 }
 
 -- ---- `forget H`
-
-pub all_filtered : {X : Type 0} (P : X → Type 0) (test : X → Bool) (xs : List X) → AllByRecursion P xs → AllByRecursion P (filter test xs)
-all_filtered P test [] each = tt
-all_filtered P test (x ∷ xs) each = elim (cases_Bool (test x)) [
-  | inl stays ↦ rw stays (each.0, all_filtered P test xs each.1)
-  | inr goes ↦ rw goes (all_filtered P test xs each.1)
-]
 
 pub forgets_none : (held : ManagerView) (m : Machine) → KeepsStates held m → (h : ℕ) → None ≡ held_at held (Height h) → Performs (Ok (replies.Refused refusals.NoHeight)) held m (commands.Forget h)
 forgets_none held m k h e = rw (at_none held m k (Height h) e) (refl, k, refl)

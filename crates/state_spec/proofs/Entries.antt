@@ -1,7 +1,7 @@
 -- Changes of one entry of a valid state.
 use Rattle.std.proofs.lemmas.List.{append-nil}
 use Rattle.format_spec.proofs.Ascending.{sorted_more}
-use Rattle.format_spec.proofs.Lists.{all_join}
+use Rattle.format_spec.proofs.Lists.{all_join, all_parts}
 use Rattle.state_spec.specs.SystemText.{path_fits}
 use Rattle.std.proofs.Common.{◌≡◌, ℕ, ◌+◌, ◌<◌, ◌≤◌, Bool, true, false, not, ◌&&◌, ◌||◌, List, [], ◌∷◌, ◌++◌, length, get_or, set, refl, sym, ap, subst, ◌∙◌, arith, length-set, length-append}
 use Rattle.std.specs.List.{AllByRecursion, insert, remove, list_any, list_all}
@@ -14,7 +14,6 @@ use Rattle.format_spec.specs.declared.limits.TheConstants.{MAX_ENTRIES, MAX_VALU
 use Rattle.state_spec.specs.State.{AreEntries, FitsEntry, IsByteEntry, is_path, is_reserved, is_prefix, has_conflict, are_apart, without}
 use Rattle.state_spec.specs.Places.{Stands, IsAbsent}
 use Rattle.state_spec.proofs.Keys.{paths_total}
-use Rattle.state_spec.proofs.Lists.{all_parts}
 use Rattle.state_spec.proofs.Paths.{Entry, begins_path, goes_on, conflicts_with, conflicts_before, conflicts_after, place_within}
 use Rattle.state_spec.proofs.Places.{entry_there, sorted_put, set_split, set_is_put, insert_split, insert_is_put, remove_split, remove_is_without, remove_sorted, below_stands, above_stands}
 

@@ -1,11 +1,10 @@
 -- Paths in order, of which none begins another: what stands next to a place tells what conflicts.
 use Rattle.state_spec.specs.Places.{IsAbsent}
-use Rattle.state_spec.proofs.Lists.{all_parts}
 use Rattle.std.proofs.lemmas.List.Folds.{list_any-append}
 use Rattle.std.proofs.Common.{◌≡◌, ℕ, ◌<◌, ◌≤◌, Bool, true, false, not, ◌&&◌, ◌||◌, List, [], ◌∷◌, ◌++◌, length, take, refl, sym, ap, subst, ◌∙◌, arith, ◌+◌, get_or, drop, length-append}
 use Rattle.std.specs.List.{AllByRecursion, list_any, list_all}
 use Rattle.std.specs.Cmp.Lexicographic.{lists_ties}
-use Rattle.std.specs.Cmp.{tied_itself, tied_back}
+use Rattle.std.specs.Cmp.{tied_itself, tied_back, Equal-is}
 use Rattle.std.specs.FinMap.{is_sorted}
 use Rattle.std.specs.FinMap.Entries.{below_all}
 use Rattle.std.specs.Ordering.{is_eq, is_lt, ordering_then}
@@ -17,6 +16,7 @@ use Rattle.format_spec.specs.Bytes.{Bytes, bytes_cmp, same_bytes, path_cmp}
 use Rattle.state_spec.specs.State.{is_prefix, is_proper_prefix, has_conflict, are_apart}
 use Rattle.state_spec.proofs.Keys.{ids_total, ids_apart, paths_total}
 use Rattle.state_spec.proofs.Places.{greater_from_less, above_from_sorted}
+use Rattle.format_spec.proofs.Lists.{all_parts}
 
 -- ---- the test of a prefix
 
@@ -24,11 +24,6 @@ pub prefix_by_cmp : (p q : List Bytes) → is_prefix p q ≡ is_eq (path_cmp p (
 prefix_by_cmp p q = lists_ties bytes_cmp (λ x y. refl) p (take (length p) q)
 
 -- ---- between a path and its extensions there are only extensions
-
-tied : (o : Ordering) → is_eq o ≡ true → o ≡ Equal
-tied Less h = absurd cc
-tied Equal h = refl
-tied Greater h = absurd cc
 
 -- l is at most m, and m at most l
 pub squeezed : (l m : Bytes) (r s : Ordering) → ordering_then (bytes_cmp l m) r ≡ Less → ordering_then (bytes_cmp m l) s ≡ Less → (l ≡ m) × (r ≡ Less) × (s ≡ Less)
@@ -45,7 +40,7 @@ prefix_between (l ∷ q) [] z h k m = absurd cc
 prefix_between (l ∷ q) (n ∷ y) [] h k m = absurd cc
 prefix_between (l ∷ q) (n ∷ y) (o ∷ z) h k m =
     let p = and_parts (same_bytes l o) (is_prefix q z) h in
-    let same : l ≡ o = ids_apart l o (tied (bytes_cmp l o) p.0) in
+    let same : l ≡ o = ids_apart l o ((Equal-is (bytes_cmp l o)).0 p.0) in
     let s = squeezed l n (path_cmp q y) (path_cmp y z) k (subst (λ (x : Bytes). ordering_then (bytes_cmp n x) (path_cmp y z) ≡ Less) (sym same) m) in
     and_from (same_bytes l n) (is_prefix q y) (ap (same_bytes l) (sym s.0) ∙ ap is_eq (tied_itself ids_total l)) (prefix_between q y z p.1 s.1 s.2)
 
@@ -104,7 +99,7 @@ after_prefix p q lt = not_true (is_prefix p q) (λ h. by_prefix p q h lt)
     by_prefix (l ∷ p) [] h lt = absurd cc
     by_prefix (l ∷ p) (m ∷ q) h lt =
         let t = and_parts (same_bytes l m) (is_prefix p q) h in
-        let same : bytes_cmp m l ≡ Equal = tied_back ids_total l m (tied (bytes_cmp l m) t.0) in
+        let same : bytes_cmp m l ≡ Equal = tied_back ids_total l m ((Equal-is (bytes_cmp l m)).0 t.0) in
         by_prefix p q t.1 (subst (λ o. ordering_then o (path_cmp q p) ≡ Less) same lt)
 
 abbrev pub begins_path : List Bytes → Entry → Bool

@@ -14,10 +14,9 @@ use Rattle.std.proofs.lemmas.List.Sorted.{searchable_from_sorted}
 use Rattle.std.proofs.lemmas.List.Sums.{sum_by-append}
 use Rattle.std.proofs.Math.Seq.{split_at}
 use Rattle.format_spec.proofs.Ascending.{less_is}
-use Rattle.format_spec.proofs.Lists.{from_T}
+use Rattle.format_spec.proofs.Lists.{from_T, all_parts}
 use Rattle.state_spec.specs.Places.{place_of, Replaces, Stands, IsAbsent, Places}
 use Rattle.state_spec.specs.State.{without}
-use Rattle.state_spec.proofs.Lists.{all_parts}
 
 pub greater_from_less : {K : Type 0} (R : K → K → Ordering) → IsTotalOrder R → (x y : K) → R x y ≡ Less → R y x ≡ Greater
 greater_from_less R o x y lt = o.antisymm y x ∙ ap ordering_reverse lt
@@ -195,6 +194,9 @@ module _ {K X : Type 0} (R : K → K → Ordering) (o : IsTotalOrder R) where
   pub sorted_put : (k : K) (v : X) (es : List (K × X)) → is_sorted R es ≡ true → is_sorted R (put R k v es) ≡ true
   sorted_put k v es sorted = from_T (is_sorted R (put R k v es)) (is_sorted-put R o k v es (subst T (sym sorted) tt))
 
+  pub sorted_without : (key : K) (es : List (K × X)) → is_sorted R es ≡ true → is_sorted R (without R key es) ≡ true
+  sorted_without key es sorted = from_T (is_sorted R (without R key es)) (is_sorted-where_key R (λ k. not (eq_by_cmp R key k)) es (subst T (sym sorted) tt))
+
   module _ (key : K) (es : List (K × X)) (sorted : is_sorted R es ≡ true) where
     pub entry_there : (i : ℕ) (s : Stands R key es i) (x : K × X) → x ≡ get_or es i x → x ≡ (key, s.value)
     entry_there i s x read = read ∙ ap (λ l. get_or l i x) s.at.split ∙ get_or_at s.at.before (key, s.value) s.at.after x i s.at.count
@@ -228,8 +230,7 @@ module _ {K X : Type 0} (R : K → K → Ordering) (o : IsTotalOrder R) where
 
     pub remove_sorted : (i : ℕ) (s : Stands R key es i) → is_sorted R (remove es i) ≡ true
     remove_sorted i s =
-        ap (is_sorted R) (remove_is_without i s)
-        ∙ from_T (is_sorted R (without R key es)) (is_sorted-where_key R (λ k. not (eq_by_cmp R key k)) es (subst T (sym sorted) tt))
+        ap (is_sorted R) (remove_is_without i s) ∙ sorted_without key es sorted
 
     pub remove_replaces : (i : ℕ) (s : Stands R key es i) → Replaces es (remove es i) (place_of R key es) ((key, s.value) ∷ []) []
     remove_replaces i s = record { before = s.at.before; after = s.at.after; old_is = s.at.split; new_is = remove_split i s; count = s.at.count ∙ sym s.place }

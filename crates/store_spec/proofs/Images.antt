@@ -17,9 +17,10 @@ use Rattle.store_spec.specs.Mark.{Mark, MarkMemory, IsMarkText}
 use Rattle.page_spec.specs.PageFile.{IsPageFile}
 use Rattle.store_spec.specs.Image.{Published, IsLayerOf, AreLayersOf, memories_from, GivesHeight, GivesTrueHeight, heights_of, OpensAt, StandsFor, SamePublished}
 use Rattle.page_spec.specs.Layers.{Layer}
-use Rattle.page_spec.proofs.PageFiles.{below_is, page_file_once}
+use Rattle.page_spec.proofs.PageFiles.{page_file_once}
 use Rattle.store_spec.proofs.Marks.{mark_once}
 use Rattle.std.proofs.lemmas.Option.{same_Some}
+use Rattle.format_spec.proofs.Lists.{below_is}
 
 -- ---- ascending numbers, by which numbers are among them
 

@@ -21,7 +21,6 @@ use Rattle.sync_spec.specs.Local.{local_hits, manifests_of}
 use Rattle.sync_spec.specs.Install.{bytes_had, chunks_had, file_bytes, system_number, system_for}
 use Rattle.sync_spec.specs.Sync.{Sync, Stage, at_meta, at_pieces, at_chunks, at_system, at_memories, Heights, outcome_with, known_at, is_right_at, is_for, content_bytes, sync_after_asks, outcome_of_look, outcome_of_message, outcome_of_answer, outcome_of_verdict, outcome_after_item, outcome_of_list, outcome_of_meta, outcome_of_manifest, outcome_of_chunks, outcome_of_turn, outcome_at, sync_step, outcome_of_system, outcome_of_memory, with_hits, system_had, pieces_had, item_string, strings_of_sync, steps_left}
 use Rattle.sync_spec.specs.Sync.{Told, none_came, wrong, late, took, install_left, bad_manifest, bad_system, peer_fault, ready}
-use Rattle.sync_soundness.proofs.Texts.{behind_byte}
 use Rattle.sync_spec.specs.SyncLaws.{IsAtStage, IsHeld, IsMissingOrHeld, KnowsMeta, KnowsManifest, IsByteGiven, AreByteEvents, item_by, message_item, given_item, item_in, sync_at_end, FailsByClash}
 use Rattle.sync_spec.proofs.Missing.{has_items}
 use Rattle.sync_spec.proofs.Bringing.{turn_same, all_asks}
@@ -262,7 +261,7 @@ content_is_bytes message a string e = by a.content (cut_bytes (ask_text a.ask) _
       where
         none : IsBytes []
         none i = omega arith
-    by (here bytes) h = behind_byte 1 bytes h
+    by (here bytes) h = λ i. h (suc i)
 
 pub still_missing : (s : Sync) (asked : List Asked) (i : Item) → has_item s.core.missing i ≡ has_item (core_after_asks (core_after_turn s.core) asked).missing i
 still_missing s asked i =

@@ -1,12 +1,11 @@
 -- Chunks that published heights have are right by the rows that they are found for.
-use Rattle.std.proofs.Common.{◌≡◌, ℕ, zero, suc, ◌+◌, ◌-◌, ◌*◌, ◌/◌, ◌<◌, ◌==◌, ◌||◌, min, cond, Bool, true, false, List, [], ◌∷◌, ◌++◌, length, map, find, take, drop, slice_get, Option, Some, None, nat_lt, refl, sym, ap, ◌∙◌, subst, arith}
+use Rattle.std.proofs.Common.{◌≡◌, ℕ, zero, suc, ◌+◌, ◌-◌, ◌*◌, ◌/◌, ◌==◌, ◌||◌, min, cond, Bool, true, false, List, [], ◌∷◌, ◌++◌, length, map, find, take, drop, slice_get, Option, Some, None, refl, sym, ap, ◌∙◌, subst, arith}
 use Rattle.std.specs.List.{flat_map, AllByRecursion, list_any, enumerate_from, range_with_len}
 use Rattle.std.specs.Option.{option_map, option_map_or, option_and_then}
 use Rattle.std.specs.FinMap.{is_sorted}
 use Rattle.std.specs.FinMap.Entries.{below_all}
 use Rattle.std.specs.Ordering.{nat_cmp, is_lt}
-use Rattle.std.specs.declared.cmp.Ordering.TheVariants.{Less, Equal, Greater}
-use Rattle.std.proofs.lemmas.Bool.{and_parts, and_from, eqb-true, eq-eqb, ltb-true}
+use Rattle.std.proofs.lemmas.Bool.{and_parts, and_from, eqb-true, eq-eqb, ne_eqb}
 use Rattle.std.proofs.lemmas.List.{length-take, length-drop}
 use Rattle.format_spec.specs.Bytes.{Bytes, IsBytes, AreByteStrings, parts, part_count, same_bytes}
 use Rattle.format_spec.specs.Hashes.{ChunkSum, chunk_hash, chunk_string}
@@ -25,57 +24,16 @@ use Rattle.sync_spec.specs.SyncLaws.{ArePublished}
 use Rattle.sync_soundness.specs.Held.{Holds}
 use Rattle.sync_soundness.proofs.Failing.{holds_new, holds_still}
 use Rattle.sync_soundness.proofs.Files.{row_in}
+use Rattle.format_spec.proofs.Lists.{all_parts, all_join, below_is}
+use Rattle.sync_spec.proofs.Lasting.{all_map, found}
 
 abbrev File : Type 0
 File = Bytes × Bytes
-
--- ---- lists
-
-all_front : {X : Type 0} (P : X → Type 0) (xs ys : List X) → AllByRecursion P (xs ++ ys) → AllByRecursion P xs × AllByRecursion P ys
-all_front P [] ys h = (tt, h)
-all_front P (x ∷ xs) ys h = let r = all_front P xs ys h.1 in ((h.0, r.0), r.1)
-
-all_joined : {X : Type 0} (P : X → Type 0) (xs ys : List X) → AllByRecursion P xs → AllByRecursion P ys → AllByRecursion P (xs ++ ys)
-all_joined P [] ys p q = q
-all_joined P (x ∷ xs) ys p q = (p.0, all_joined P xs ys p.1 q)
-
-all_mapped : {X Y : Type 0} (P : X → Type 0) (Q : Y → Type 0) (f : X → Y) → ((x : X) → P x → Q (f x)) → (xs : List X) → AllByRecursion P xs → AllByRecursion Q (map f xs)
-all_mapped P Q f h [] all = tt
-all_mapped P Q f h (x ∷ xs) all = (h x all.0, all_mapped P Q f h xs all.1)
-
-found : {X : Type 0} (P : X → Type 0) (p : X → Bool) (xs : List X) (x : X) → AllByRecursion P xs → find p xs ≡ Some x → (p x ≡ true) × P x
-found P p [] x all e = absurd cc
-found {X} P p (y ∷ xs) x all e = by (p y) refl e (λ f. found P p xs x all.1 f)
-  where
-    some : Some y ≡ Some x → y ≡ x
-    some f = cc
-
-    by : (b : Bool) → p y ≡ b → cond b (Some y) (find p xs) ≡ Some x → (find p xs ≡ Some x → (p x ≡ true) × P x) → (p x ≡ true) × P x
-    by true is f rest = subst (λ (z : X). (p z ≡ true) × P z) (some f) (is, all.0)
-    by false is f rest = rest f
 
 -- ---- each published height is found by its number
 
 abbrev Height : Type 0
 Height = ℕ × State
-
-is_below : (a b : ℕ) → is_lt (nat_cmp a b) ≡ true → a < b
-is_below a b e = by (nat_lt a b) refl e
-  where
-    none : (c : Bool) → is_lt (cond c Equal Greater) ≡ true → a < b
-    none true f = absurd cc
-    none false f = absurd cc
-
-    by : (c : Bool) → nat_lt a b ≡ c → is_lt (cond c Less (cond (a == b) Equal Greater)) ≡ true → a < b
-    by true is f = ltb-true a b is
-    by false is f = none (a == b) f
-
-differ : (a b : ℕ) → a < b → (a == b) ≡ false
-differ a b below = by (a == b) refl
-  where
-    by : (c : Bool) → (a == b) ≡ c → c ≡ false
-    by false e = refl
-    by true e = absurd (omega (arith, eqb-true a b e, below))
 
 abbrev IsFound : List Height → Height → Type 0
 IsFound heights p = find (λ q. q.0 == p.0) heights ≡ Some p
@@ -84,7 +42,7 @@ found_later : (p : Height) (ps qs : List Height) → below_all nat_cmp p.0 qs �
 found_later p ps [] below all = tt
 found_later p ps (q ∷ qs) below all =
     let b = and_parts (is_lt (nat_cmp p.0 q.0)) (below_all nat_cmp p.0 qs) below in
-    (ap (λ c. cond c (Some p) (find (λ (r : Height). r.0 == q.0) ps)) (differ p.0 q.0 (is_below p.0 q.0 b.0)) ∙ all.0, found_later p ps qs b.1 all.1)
+    (ap (λ c. cond c (Some p) (find (λ (r : Height). r.0 == q.0) ps)) (ne_eqb p.0 q.0 (λ e. omega (arith, e, below_is p.0 q.0 b.0))) ∙ all.0, found_later p ps qs b.1 all.1)
 
 each_found : (heights : List Height) → is_sorted nat_cmp heights ≡ true → AllByRecursion (IsFound heights) heights
 each_found [] h = tt
@@ -147,8 +105,8 @@ files_lead : (all fs : List File) (n : ℕ) → ((k : ℕ) → slice_get all (n 
 files_lead all [] n same strings = tt
 files_lead all (f ∷ fs) n same strings =
     let here : n + 0 ≡ n = omega arith in
-    let s = all_front IsBytes (map chunk_string (parts CHUNK_SIZE f.1)) (flat_map (λ g. map chunk_string (parts CHUNK_SIZE g.1)) fs) strings in
-    all_joined (Leads all) (map (row_in n) (chunk_sums (sums_of f))) (chunk_rows (suc n) (map sums_of fs))
+    let s = all_parts IsBytes (map chunk_string (parts CHUNK_SIZE f.1)) (flat_map (λ g. map chunk_string (parts CHUNK_SIZE g.1)) fs) strings in
+    all_join (Leads all) (map (row_in n) (chunk_sums (sums_of f))) (chunk_rows (suc n) (map sums_of fs))
     (file_leads all n f (ap (slice_get all) (sym here) ∙ same 0) (uncovered (parts CHUNK_SIZE f.1) s.0))
     (files_lead all fs (suc n) (λ k. let e : suc n + k ≡ n + suc k = omega arith in ap (slice_get all) e ∙ same (suc k)) s.1)
 
@@ -156,7 +114,7 @@ rows_lead : (s : State) → IsState s → AllByRecursion (Leads (files s)) (mani
 unfolding manifest_of manifest_from hashed_strings
 rows_lead s valid =
     files_lead (files s) (files s) 0 (λ k. let e : 0 + k ≡ k = omega arith in ap (slice_get (files s)) e)
-    (all_front IsBytes (flat_map (λ f. map chunk_string (parts CHUNK_SIZE f.1)) (files s)) _ (all_front IsBytes _ _ (all_front IsBytes _ _ (state_strings s valid)).0).0).0
+    (all_parts IsBytes (flat_map (λ f. map chunk_string (parts CHUNK_SIZE f.1)) (files s)) _ (all_parts IsBytes _ _ (all_parts IsBytes _ _ (state_strings s valid)).0).0).0
 
 -- ---- sources
 
@@ -165,7 +123,7 @@ IsSource heights x = Fits x.0 (bytes_at heights x.1)
 
 in_height : (heights : List Height) (p : Height) → IsFound heights p → IsState p.1 → AllByRecursion (IsSource heights) (sources_in (p.0, manifest_of p.1))
 in_height heights p there valid =
-    all_mapped (Leads (files p.1)) (IsSource heights) (λ (r : ChunkRow). (r.sum, record { height = p.0; file = r.file; from = r.sum.offset / CHUNK_SIZE })) one (manifest_of p.1).chunks (rows_lead p.1 valid)
+    all_map (Leads (files p.1)) (IsSource heights) (λ (r : ChunkRow). (r.sum, record { height = p.0; file = r.file; from = r.sum.offset / CHUNK_SIZE })) one (manifest_of p.1).chunks (rows_lead p.1 valid)
   where
     one : (r : ChunkRow) → Leads (files p.1) r → IsSource heights (r.sum, record { height = p.0; file = r.file; from = r.sum.offset / CHUNK_SIZE })
     one r l =
@@ -177,7 +135,7 @@ in_height heights p there valid =
 in_heights : (heights ps : List Height) → AllByRecursion (IsFound heights) ps → AllByRecursion (λ p. IsState p.1) ps → AllByRecursion (IsSource heights) (flat_map sources_in (manifests_of ps))
 in_heights heights [] there valid = tt
 in_heights heights (p ∷ ps) there valid =
-    all_joined (IsSource heights) (sources_in (p.0, manifest_of p.1)) (flat_map sources_in (manifests_of ps)) (in_height heights p there.0 valid.0) (in_heights heights ps there.1 valid.1)
+    all_join (IsSource heights) (sources_in (p.0, manifest_of p.1)) (flat_map sources_in (manifests_of ps)) (in_height heights p there.0 valid.0) (in_heights heights ps there.1 valid.1)
 
 -- ---- hits
 

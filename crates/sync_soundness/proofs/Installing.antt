@@ -9,7 +9,7 @@ use Rattle.format_spec.specs.Hashes.{piece_hash}
 use Rattle.format_spec.specs.declared.limits.TheConstants.{PAGE_SIZE, PIECE_SIZE}
 use Rattle.format_spec.proofs.ByteStrings.{by_test, flat_bytes}
 use Rattle.format_spec.proofs.Cuts.{heads}
-use Rattle.format_spec.proofs.Parts.{joined}
+use Rattle.format_spec.proofs.Parts.{joined, counts_pieces}
 use Rattle.format_spec.proofs.Readings.{same_bytes_is}
 use Rattle.state_spec.specs.State.{CanisterPart, SystemPart, IsMemory, IsByteCanister, is_id, part_of, canisters_from}
 use Rattle.state_spec.specs.Files.{memory_files, heap_name, stable_name, system_name}
@@ -27,8 +27,8 @@ use Rattle.sync_spec.specs.Install.{bytes_had, disagreement, disagreement_from, 
 use Rattle.sync_spec.specs.Sync.{pieces_had}
 use Rattle.sync_soundness.specs.Held.{HoldsManifest}
 use Rattle.sync_soundness.proofs.Pieces.{right, bytes}
-use Rattle.sync_soundness.proofs.Parted.{AreParts, parted, counts_pieces}
-use Rattle.sync_soundness.proofs.Texts.{IsBytePart}
+use Rattle.sync_soundness.proofs.Parted.{AreParts, parted}
+use Rattle.state_spec.proofs.TextBytes.{HasBytes}
 
 abbrev File : Type 0
 File = Bytes × Bytes
@@ -124,7 +124,7 @@ same_id a b p q e = some (sym (id_in_name a _ p) ∙ ap id_in e ∙ id_in_name b
 
 -- the canisters that are made of the parts and the bytes of the memories
 pub record Made (birth : ℕ) (cs : List (Bytes × CanisterPart)) (fs : List FileRow) (memories : List Bytes) (text : Bytes) : Type 0 where
-  pub files : flat_map memory_files (canisters_from birth cs memories) ++ (system_name, text) ∷ [] ≡ zip (map (λ r. r.name) fs) (memories ++ text ∷ [])
+  pub files : memory_files (canisters_from birth cs memories) ++ (system_name, text) ∷ [] ≡ zip (map (λ r. r.name) fs) (memories ++ text ∷ [])
   pub parts : map (λ c. (c.0, part_of c.1)) (canisters_from birth cs memories) ≡ cs
   pub whole : AllByRecursion (λ c. IsMemory c.1.heap × IsMemory c.1.stable) (canisters_from birth cs memories)
   pub byte_strings : AllByRecursion IsByteCanister (canisters_from birth cs memories)
@@ -137,7 +137,7 @@ memory_good k b e = record { whole_pages = omega (arith, e) }
 
 pub made : (birth at : ℕ) (cs : List (Bytes × CanisterPart)) (ids : List Bytes) (fs : List FileRow) (memories : List Bytes) (text : Bytes)
     → map (λ r. r.name) fs ≡ file_names ids → IsTrue (list_all (λ id. is_id id && are_bytes id) ids) → 2 * length cs + 1 ≡ length fs → map (λ r. r.size) fs ≡ map (λ b. length b) (memories ++ text ∷ [])
-    → AreByteStrings memories → AllByRecursion IsBytePart cs → disagreement_from at cs fs ≡ None → Made birth cs fs memories text
+    → AreByteStrings memories → AllByRecursion HasBytes cs → disagreement_from at cs fs ≡ None → Made birth cs fs memories text
 made birth at [] ids [] memories text names good count sizes strings spelled agree = absurd (omega (arith, count))
 made birth at [] ids (f ∷ g ∷ fs) memories text names good count sizes strings spelled agree = absurd (omega (arith, count))
 made birth at [] ids (f ∷ []) (b ∷ memories) text names good count sizes strings spelled agree =

@@ -21,8 +21,8 @@ use Rattle.sync_soundness.proofs.Failing.{held, holds_manifest}
 use Rattle.sync_soundness.proofs.Files.{Pair}
 use Rattle.sync_soundness.proofs.Pieces.{all_range}
 use Rattle.sync_soundness.proofs.Remade.{Fit, fits, joined_files, Remade, remade}
-use Rattle.sync_soundness.proofs.Texts.{IsBytePart, spelled_bytes}
 use Rattle.sync_soundness.proofs.Installing.{Agrees, agreed, Made, made, manifest_is, same_root}
+use Rattle.state_spec.proofs.TextBytes.{HasBytes, system_bytes}
 
 -- a file of byte strings is one
 file_of_bytes : (rs : List ChunkRow) (cs : List Bytes) (n : ℕ) → AreByteStrings cs → IsBytes (file_bytes rs cs n)
@@ -72,8 +72,8 @@ module _ (height : ℕ) (m : Manifest) (had : List (Item × Bytes)) (good : IsMa
       let one_more : length m.files ≡ system_number m + 1 = omega (arith, agree.1.count) in
       ap (λ (n : ℕ). map bytes_of_file (range_with_len 0 n)) one_more ∙ map-range_with_len_more bytes_of_file 0 (system_number m) (system_number m) (omega arith)
 
-  part_strings : AllByRecursion IsBytePart parts.canisters × AllByRecursion IsByteEntry parts.entries
-  part_strings = spelled_bytes parts (subst IsBytes spelled.0 (file_of_bytes m.chunks (chunks_had m had) (system_number m) strings))
+  part_strings : AllByRecursion HasBytes parts.canisters × AllByRecursion IsByteEntry parts.entries
+  part_strings = system_bytes parts (subst IsBytes spelled.0 (file_of_bytes m.chunks (chunks_had m had) (system_number m) strings))
 
   canisters : Made height parts.canisters m.files memories (bytes_of_file (system_number m))
   canisters =
@@ -88,7 +88,7 @@ module _ (height : ℕ) (m : Manifest) (had : List (Item × Bytes)) (good : IsMa
   files_are : files state ≡ joined_files 0 m.files bytes_of_file
   unfolding installed_state state_from files
   files_are =
-      ap (λ (t : Bytes). flat_map memory_files (canisters_from height parts.canisters memories) ++ (system_name, t) ∷ []) (ap system_text parts_are ∙ sym spelled.0)
+      ap (λ (t : Bytes). memory_files (canisters_from height parts.canisters memories) ++ (system_name, t) ∷ []) (ap system_text parts_are ∙ sym spelled.0)
       ∙ canisters.files
       ∙ ap (zip (map (λ (r : FileRow). r.name) m.files)) (sym all_bytes)
 

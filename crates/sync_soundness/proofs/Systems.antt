@@ -1,5 +1,5 @@
 -- Right chunks, against the valid state whose manifest they were judged by.
-use Rattle.std.proofs.Common.{◌≡◌, ◌⊎◌, ℕ, zero, suc, ◌+◌, ◌-◌, ◌*◌, ◌%◌, ◌<◌, ◌&&◌, ◌==◌, not, if◌then◌else◌, Bool, true, false, List, [], ◌∷◌, ◌++◌, length, map, Option, Some, None, Ok, Err, Result, IsTrue, Contains, slice_get, slice_index_or, get_or, refl, sym, ap, ◌∙◌, subst, inl, inr, arith, length-append}
+use Rattle.std.proofs.Common.{◌≡◌, ◌⊎◌, ℕ, zero, suc, ◌+◌, ◌-◌, ◌*◌, ◌<◌, ◌&&◌, ◌==◌, not, if◌then◌else◌, Bool, true, false, List, [], ◌∷◌, ◌++◌, length, map, Option, Some, None, Ok, Err, Result, IsTrue, Contains, slice_get, slice_index_or, get_or, refl, sym, ap, ◌∙◌, subst, inl, inr, arith, length-append}
 use Rattle.std.specs.List.{flat_map, AllByRecursion, range_with_len}
 use Rattle.std.proofs.lemmas.Bool.{eq-eqb}
 use Rattle.std.proofs.lemmas.List.{length-map}
@@ -8,8 +8,8 @@ use Rattle.format_spec.specs.Bytes.{Bytes, IsBytes, AreByteStrings, same_bytes, 
 use Rattle.format_spec.specs.Hashes.{Clash, chunk_string, chunk_hash}
 use Rattle.format_spec.specs.declared.limits.TheConstants.{PAGE_SIZE, CHUNK_SIZE}
 use Rattle.format_spec.proofs.Readings.{same_bytes_is, bytes_same}
-use Rattle.state_spec.specs.State.{State, Canister, CanisterPart, Memory, SystemPart, IsState, IsMemory, part_of, pages_of, system_of}
-use Rattle.state_spec.specs.Files.{files, memory_files, heap_name, system_name}
+use Rattle.state_spec.specs.State.{State, Canister, CanisterPart, SystemPart, IsState, IsMemory, part_of, pages_of, system_of}
+use Rattle.state_spec.specs.Files.{files, memory_files, heap_file, stable_file, heap_name, system_name}
 use Rattle.state_spec.specs.SystemText.{system_text, canister_text}
 use Rattle.state_spec.specs.Manifest.{FileRow, ChunkRow, manifest_of, manifest_from, file_row, sums_of}
 use Rattle.state_spec.specs.Root.{hashed_strings}
@@ -24,11 +24,10 @@ use Rattle.sync_spec.specs.Sync.{item_string}
 use Rattle.sync_soundness.specs.Held.{Holds}
 use Rattle.sync_soundness.proofs.Pieces.{all_range, in_all, in_map, map_twice, clash_within}
 use Rattle.sync_soundness.proofs.Files.{file_at}
+use Rattle.state_spec.proofs.FileOrder.{length-in_turn}
+use Rattle.state_spec.proofs.FileSums.{whole_pages}
 
 -- ---- the text of a state agrees with the rows of its files
-
-whole_pages : (m : Memory) → IsMemory m → pages_of m * PAGE_SIZE ≡ length m.bytes
-whole_pages m good = let even : length m.bytes % PAGE_SIZE ≡ 0 = good.whole_pages in omega (arith, even)
 
 pass : (a b c : Bool) (x y z r : Option ℕ) → a ≡ true → b ≡ true → c ≡ true → (if not a then x else if not b then y else if not c then z else r) ≡ r
 pass a b c x y z r ea eb ec =
@@ -42,18 +41,14 @@ file_rows fs = map file_row (map sums_of fs)
 abbrev in_parts : List (Bytes × Canister) → List (Bytes × CanisterPart)
 in_parts cs = map (λ c. (c.0, part_of c.1)) cs
 
-agrees : (at : ℕ) (cs : List (Bytes × Canister)) (end : List (Bytes × Bytes)) → AllByRecursion (λ c. IsMemory c.1.heap × IsMemory c.1.stable) cs → disagreement_from at (in_parts cs) (file_rows (flat_map memory_files cs ++ end)) ≡ None
+agrees : (at : ℕ) (cs : List (Bytes × Canister)) (end : List (Bytes × Bytes)) → AllByRecursion (λ c. IsMemory c.1.heap × IsMemory c.1.stable) cs → disagreement_from at (in_parts cs) (file_rows (memory_files cs ++ end)) ≡ None
 agrees at [] end good = refl
 agrees at (c ∷ cs) end good =
     pass (same_bytes (heap_name c.0) (heap_name c.0)) (pages_of c.1.heap * PAGE_SIZE == length c.1.heap.bytes) (pages_of c.1.stable * PAGE_SIZE == length c.1.stable.bytes)
     (Some at) (Some (at + length (canister_text (c.0, part_of c.1)) - 8)) (Some (at + length (canister_text (c.0, part_of c.1)) - 4))
-    (disagreement_from (at + length (canister_text (c.0, part_of c.1))) (in_parts cs) (file_rows (flat_map memory_files cs ++ end)))
+    (disagreement_from (at + length (canister_text (c.0, part_of c.1))) (in_parts cs) (file_rows (memory_files cs ++ end)))
     (bytes_same (heap_name c.0)) (eq-eqb _ _ (whole_pages c.1.heap good.0.0)) (eq-eqb _ _ (whole_pages c.1.stable good.0.1))
     ∙ agrees (at + length (canister_text (c.0, part_of c.1))) cs end good.1
-
-count_files : (cs : List (Bytes × Canister)) → length (flat_map memory_files cs) ≡ 2 * length cs
-count_files [] = refl
-count_files (c ∷ cs) = let ih : length (flat_map memory_files cs) ≡ 2 * length cs = count_files cs in omega (arith, ih)
 
 count_rows : (fs : List (Bytes × Bytes)) → length (file_rows fs) ≡ length fs
 count_rows fs = length-map (map sums_of fs) file_row ∙ length-map fs sums_of
@@ -62,8 +57,8 @@ rows_agree : (s : State) → IsState s → disagreement (system_of s) (file_rows
 unfolding disagreement files system_of
 rows_agree s valid =
     let end : List (Bytes × Bytes) = (system_name, system_text (system_of s)) ∷ [] in
-    let all : List (Bytes × Bytes) = flat_map memory_files s.canisters ++ end in
-    let n : length (file_rows all) ≡ 2 * length s.canisters + 1 = count_rows all ∙ length-append (flat_map memory_files s.canisters) end ∙ ap (λ k. k + 1) (count_files s.canisters) in
+    let all : List (Bytes × Bytes) = memory_files s.canisters ++ end in
+    let n : length (file_rows all) ≡ 2 * length s.canisters + 1 = count_rows all ∙ length-append (memory_files s.canisters) end ∙ ap (λ k. k + 1) (length-in_turn heap_file stable_file s.canisters) in
     let many : 2 * length (in_parts s.canisters) + 1 ≡ length (file_rows all) = ap (λ k. 2 * k + 1) (length-map s.canisters (λ c. (c.0, part_of c.1))) ∙ sym n in
     ap (λ b. if not b then Some 16 else disagreement_from 20 (in_parts s.canisters) (file_rows all)) (eq-eqb _ _ many)
     ∙ agrees 20 s.canisters end valid.memories
@@ -76,7 +71,7 @@ at_seam (x ∷ xs) y d = at_seam xs y d
 system_bytes : (s : State) → file_bytes (manifest_of s).chunks (flat_map (λ f. parts CHUNK_SIZE f.1) (files s)) (system_number (manifest_of s)) ≡ system_text (system_of s)
 unfolding manifest_of manifest_from files
 system_bytes s =
-    let mems : List (Bytes × Bytes) = flat_map memory_files s.canisters in
+    let mems : List (Bytes × Bytes) = memory_files s.canisters in
     let last : Bytes × Bytes = (system_name, system_text (system_of s)) in
     let n : length (mems ++ last ∷ []) ≡ length mems + 1 = length-append mems (last ∷ []) in
     let r : length (file_rows (mems ++ last ∷ [])) ≡ length (mems ++ last ∷ []) = count_rows (mems ++ last ∷ []) in

@@ -4,7 +4,7 @@ use Rattle.state_spec.specs.Manifest.{Manifest}
 use Rattle.state_spec.specs.Root.{MetaManifest, read_meta}
 use Rattle.sync_spec.specs.Messages.{Item, meta, Content, Answer, read_answer}
 use Rattle.sync_spec.specs.Serving.{Known}
-use Rattle.sync_spec.specs.Core.{Core, Wanted, Heard, same_item, has_item, verdict_if, core_after_message, core_after_verdict, core_after_turn, core_after_send, core_after_failure, verdict, next_ask}
+use Rattle.sync_spec.specs.Core.{Core, Wanted, Heard, same_item, core_after_message, core_after_turn, core_after_send, core_after_failure, verdict, next_ask}
 use Rattle.sync_spec.specs.Core as core
 use Rattle.sync_spec.specs.CoreLaws.{turns, sends, fails, delivers, items_missing}
 use Rattle.sync_spec.specs.Events.{Events, Asked, Given, came, nothing, failed, all_went_out, core_after_asks, core_after_ask}
@@ -12,9 +12,7 @@ use Rattle.sync_spec.specs.Install.{bytes_had}
 use Rattle.sync_spec.specs.Sync.{Sync, Stage, at_meta, at_pieces, at_chunks, at_system, at_memories, Heights, outcome_with, late, peer_fault, content_bytes, known_at, is_right_at, is_for, sync_after_asks, outcome_of_look, outcome_of_message, outcome_of_answer, outcome_of_verdict, outcome_after_item, outcome_of_list, outcome_of_meta, outcome_of_manifest, outcome_of_chunks, outcome_of_turn, outcome_at, sync_step}
 use Rattle.sync_spec.specs.SyncLaws.{brings_right, given_brings, message_brings}
 use Rattle.sync_spec.proofs.Missing.{step, filter_all}
-
-some_inj : {X : Type 0} (x y : X) → Some x ≡ Some y → x ≡ y
-some_inj x y e = cc
+use Rattle.std.proofs.lemmas.Option.{same_Some}
 
 none_some : {X : Type 0} (y : X) → None ≡ Some y → ⊥
 none_some y e = cc
@@ -47,10 +45,10 @@ all_asks c (a ∷ asked) = all_asks (core_after_ask c a.went_out (next_ask c)) a
 
 module _ (heights : Heights) (t : Sync) where
   same_core : (s : Sync) → Some s ≡ Some t → t.core ≡ s.core
-  same_core s e = ap (λ (x : Sync). x.core) (sym (some_inj s t e))
+  same_core s e = ap (λ (x : Sync). x.core) (sym (same_Some s t e))
 
   same_stage : (s : Sync) → Some s ≡ Some t → s.stage ≡ t.stage
-  same_stage s e = ap (λ (x : Sync). x.stage) (some_inj s t e)
+  same_stage s e = ap (λ (x : Sync). x.stage) (same_Some s t e)
 
   pieces_not_meta : (m : MetaManifest) → at_pieces m ≡ at_meta → ⊥
   pieces_not_meta m e = cc

@@ -10,6 +10,7 @@ use Rattle.sync_spec.specs.Messages.{Item, meta, piece, chunk}
 use Rattle.sync_spec.specs.Core.{Core, Flight, Wanted, Heard, took, wrong, late, same_item, has_item, unasked_item, all_pieces, chunks_without, core_at_start, with_items, with_strike, is_old, without_ask, with_strike_for_ask, pardoned_strikes, core_after_turn, is_asked_of, asks_of, may_be_asked, peers_of, is_unasked, ask_for, next_ask, with_ask_now, core_after_send, core_after_failure, verdict_if, core_without_item, core_after_fault, core_after_verdict, core_after_message}
 use Rattle.sync_spec.specs.CoreLaws.{IsCore, Call, turns, sends, fails, delivers, core_after_call, IsDueCall}
 use Rattle.sync_spec.specs.Events.{Asked, core_after_ask, core_after_asks}
+use Rattle.format_spec.proofs.Lists.{all_filtered, all_weaker}
 
 -- ---- counts
 
@@ -57,25 +58,13 @@ count_once k a (suc n) = by (a == k) refl (count_once k (a + 1) n)
 
 -- ---- lists
 
-all_map : {X Y : Type 0} (P : X → Type 0) (Q : Y → Type 0) (f : X → Y) → ((x : X) → P x → Q (f x)) → (xs : List X) → AllByRecursion P xs → AllByRecursion Q (map f xs)
+pub all_map : {X Y : Type 0} (P : X → Type 0) (Q : Y → Type 0) (f : X → Y) → ((x : X) → P x → Q (f x)) → (xs : List X) → AllByRecursion P xs → AllByRecursion Q (map f xs)
 all_map P Q f h [] all = tt
 all_map P Q f h (x ∷ xs) all = (h x all.0, all_map P Q f h xs all.1)
 
 all_any : {X Y : Type 0} (Q : Y → Type 0) (f : X → Y) → ((x : X) → Q (f x)) → (xs : List X) → AllByRecursion Q (map f xs)
 all_any Q f h [] = tt
 all_any Q f h (x ∷ xs) = (h x, all_any Q f h xs)
-
-all_filter : {X : Type 0} (P : X → Type 0) (q : X → Bool) (xs : List X) → AllByRecursion P xs → AllByRecursion P (filter q xs)
-all_filter P q [] all = tt
-all_filter P q (x ∷ xs) all = by (q x) (all_filter P q xs all.1)
-  where
-    by : (b : Bool) → AllByRecursion P (filter q xs) → AllByRecursion P (cond b (x ∷ filter q xs) (filter q xs))
-    by true h = (all.0, h)
-    by false h = h
-
-all_changed : {X : Type 0} (P Q : X → Type 0) → ((x : X) → P x → Q x) → (xs : List X) → AllByRecursion P xs → AllByRecursion Q xs
-all_changed P Q f [] h = tt
-all_changed P Q f (x ∷ xs) h = (f x h.0, all_changed P Q f xs h.1)
 
 set_long : (xs : List ℕ) (i v : ℕ) → length (slice_set xs i v) ≡ length xs
 set_long [] i v = refl
@@ -132,7 +121,7 @@ record AreGood (peers turn : ℕ) (ws : List Wanted) : Type 0 where
   pub once : (i : Item) → count_by (λ w. same_item w.item i) ws ≤ 1
 
 asks_moved : (peers more turn later : ℕ) → peers ≡ more → turn ≤ later → (ws : List Wanted) → AreAsks peers turn ws → AreAsks more later ws
-asks_moved peers more turn later e up ws h = all_changed (λ (w : Wanted). IfSome w.ask (λ a. (a.peer < peers) × (a.turn ≤ turn))) (λ (w : Wanted). IfSome w.ask (λ a. (a.peer < more) × (a.turn ≤ later))) (λ w k. one w.ask k) ws h
+asks_moved peers more turn later e up ws h = all_weaker (λ (w : Wanted). IfSome w.ask (λ a. (a.peer < peers) × (a.turn ≤ turn))) (λ (w : Wanted). IfSome w.ask (λ a. (a.peer < more) × (a.turn ≤ later))) (λ w k. one w.ask k) ws h
   where
     one : (a : Option Flight) → IfSome a (λ (x : Flight). (x.peer < peers) × (x.turn ≤ turn)) → IfSome a (λ (x : Flight). (x.peer < more) × (x.turn ≤ later))
     one None k = tt
@@ -164,7 +153,7 @@ good_without peers turn test ws g = record {
 good_filter : (peers turn : ℕ) (q : Wanted → Bool) (ws : List Wanted) → AreGood peers turn ws → AreGood peers turn (filter q ws)
 good_filter peers turn q ws g = record {
   few = λ peer. let less = count_filter (is_asked_of peer) q ws in omega (arith, less, g.few peer);
-  asks = all_filter (λ (w : Wanted). IfSome w.ask (λ a. (a.peer < peers) × (a.turn ≤ turn))) q ws g.asks;
+  asks = all_filtered (λ (w : Wanted). IfSome w.ask (λ a. (a.peer < peers) × (a.turn ≤ turn))) q ws g.asks;
   once = λ i. let less = count_filter (λ (w : Wanted). same_item w.item i) q ws in omega (arith, less, g.once i);
 }
 
@@ -233,7 +222,7 @@ unsent_good c peer h =
     let a = struck_one peer c.strikes h.few_strikes in
     core_of (core_after_failure c peer) (omega (arith, a.long, h.few_peers)) a.few (good_moved (length c.strikes) (length (with_strike peer c.strikes)) c.turn c.turn (sym a.long) (omega arith) c.missing (good_of c h))
 
-found : {X : Type 0} (P : X → Type 0) (p : X → Bool) (xs : List X) (x : X) → AllByRecursion P xs → find p xs ≡ Some x → (p x ≡ true) × P x
+pub found : {X : Type 0} (P : X → Type 0) (p : X → Bool) (xs : List X) (x : X) → AllByRecursion P xs → find p xs ≡ Some x → (p x ≡ true) × P x
 found P p [] x all e = absurd cc
 found {X} P p (y ∷ xs) x all e = by (p y) refl e (λ f. found P p xs x all.1 f)
   where
@@ -246,7 +235,7 @@ found {X} P p (y ∷ xs) x all e = by (p y) refl e (λ f. found P p xs x all.1 f
 
 all_below : (a n : ℕ) → AllByRecursion (λ j. j < a + n) (range_with_len a n)
 all_below a zero = tt
-all_below a (suc n) = (omega arith, all_changed (λ j. j < a + 1 + n) (λ j. j < a + suc n) (λ j h. omega (arith, h)) (range_with_len (a + 1) n) (all_below (a + 1) n))
+all_below a (suc n) = (omega arith, all_weaker (λ j. j < a + 1 + n) (λ j. j < a + suc n) (λ j h. omega (arith, h)) (range_with_len (a + 1) n) (all_below (a + 1) n))
 
 is_due : (c : Core) (due : ℕ × Item) → next_ask c ≡ Some due → (due.0 < length c.strikes) × (asks_of c.missing due.0 < MAX_ASKS)
 unfolding next_ask

@@ -1,23 +1,20 @@
 -- Changes of one canister.
-use Rattle.std.proofs.Common.{◌≡◌, ℕ, ◌+◌, ◌^◌, ◌<◌, ◌≤◌, IsTrue, nat_lt, nat_le, true, List, [], ◌∷◌, ◌++◌, length, get_or, set, sym, ap, subst, ◌∙◌, arith, length-set, length-append, refl, Option, IfSome}
+use Rattle.std.proofs.Common.{◌≡◌, ℕ, ◌+◌, ◌^◌, ◌<◌, ◌≤◌, IsTrue, true, List, [], ◌∷◌, ◌++◌, length, get_or, set, sym, ap, subst, ◌∙◌, arith, length-set, length-append, refl, Option, IfSome}
 use Rattle.std.specs.List.{AllByRecursion, insert, remove}
 use Rattle.std.specs.FinMap.{is_sorted, put}
-use Rattle.std.proofs.lemmas.Bool.{and_from, lt-ltb, le-leb}
 use Rattle.std.proofs.lemmas.List.Edits.{length-insert}
 use Rattle.format_spec.specs.Bytes.{Bytes, IsBytes, bytes_cmp}
-use Rattle.format_spec.specs.declared.limits.TheConstants.{MAX_CANISTERS, MAX_ID, MAX_MEMORY_PAGES, MAX_STATE_PAGES, MAX_CERTIFIED, MAX_MODULE}
+use Rattle.format_spec.specs.declared.limits.TheConstants.{MAX_CANISTERS, MAX_MEMORY_PAGES, MAX_STATE_PAGES, MAX_CERTIFIED, MAX_MODULE}
 use Rattle.state_spec.specs.State.{is_id}
 use Rattle.sys_state.specs.declared.mem.Mem.{Mem}
 use Rattle.sys_state.specs.declared.mem.Mem.TheVariants.{Heap, Stable}
 use Rattle.sys_state.specs.declared.record.CanisterRecord.{CanisterRecord}
 use Rattle.sys_state.specs.Calls.{all_pages_of, pages_of, with_more_pages, newborn, with_certified, with_module, Changes, Creates, Removes}
-use Rattle.state_spec.specs.Id.{IsId}
 use Rattle.state_spec.specs.Places.{Stands, IsAbsent}
 use Rattle.sys_state.specs.System.{System, IsWithinLimits}
 use Rattle.state_spec.proofs.Keys.{ids_total}
 use Rattle.sys_state.proofs.Kept.{ids_sorted, few_canisters, Good, goods, kept_with, pages, pages-join, pages-one}
-use Rattle.format_spec.proofs.Lists.{all_join}
-use Rattle.state_spec.proofs.Lists.{all_parts}
+use Rattle.format_spec.proofs.Lists.{all_join, all_parts}
 use Rattle.state_spec.proofs.Places.{entry_there, sorted_put, set_split, set_is_put, set_replaces, insert_split, insert_is_put, insert_replaces, remove_split, remove_is_without, remove_sorted, remove_replaces}
 
 abbrev Named : Type 0
@@ -141,9 +138,6 @@ module _ (s : System) (kept : IsWithinLimits s) (id : Bytes) (i : ℕ) (at : Sta
       }
 
 -- ---- a new canister
-
-pub id_test : (id : Bytes) → IsId id → IsTrue (is_id id)
-id_test id h = and_from (nat_lt 0 (length id)) (nat_le (length id) MAX_ID) (lt-ltb 0 (length id) h.0) (le-leb (length id) MAX_ID h.1)
 
 pub record Created (old new : System) (id : Bytes) (birth : ℕ) : Type 0 where
   pub kept : IsWithinLimits new

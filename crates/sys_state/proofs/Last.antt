@@ -1,7 +1,7 @@
 -- The last of some entries.
 use Rattle.sys_state.specs.declared.record.CanisterRecord.{CanisterRecord}
 use Rattle.sys_state.specs.System.{parts, part_of_record}
-use Rattle.std.proofs.Common.{◌≡◌, ℕ, ◌+◌, ◌-◌, ◌<◌, Bool, true, false, not, ◌&&◌, ◌||◌, List, [], ◌∷◌, ◌++◌, length, take, map, Option, Some, None, slice_get, refl, sym, ap, subst, ◌∙◌, arith}
+use Rattle.std.proofs.Common.{◌≡◌, ℕ, ◌+◌, ◌-◌, ◌<◌, Bool, true, false, not, ◌&&◌, ◌||◌, List, [], ◌∷◌, ◌++◌, length, take, map, Some, None, slice_get, refl, sym, ap, subst, ◌∙◌, arith}
 use Rattle.std.specs.List.{last_or, list_all, list_any}
 use Rattle.std.specs.FinMap.{is_sorted}
 use Rattle.std.specs.FinMap.Entries.{below_all}
@@ -13,9 +13,9 @@ use Rattle.format_spec.specs.Bytes.{Bytes, path_cmp, is_after, last_key}
 use Rattle.format_spec.proofs.Ascending.{less_is}
 use Rattle.state_spec.specs.State.{is_prefix, are_apart}
 use Rattle.state_spec.proofs.Keys.{paths_total}
-use Rattle.state_spec.proofs.Lists.{all_parts}
 use Rattle.state_spec.proofs.Paths.{Entry, Lower, begins_path, only_last}
 use Rattle.state_spec.proofs.Places.{above_from_sorted}
+use Rattle.format_spec.proofs.Lists.{all_parts, last_or-push}
 
 -- the entries, cut before the last one
 pub record EndsIn {X : Type 0} (es : List X) (e : X) : Type 0 where
@@ -29,13 +29,9 @@ ends_in es e is =
     let whole : take (k + 1) es ≡ es = take_all (k + 1) es (omega arith) in
     record { front = take k es; split = sym whole ∙ take_more es k e within ∙ ap (λ x. take k es ++ x ∷ []) (get_or_from_slice_get es k e e is) }
 
-last_or_push : {K : Type 0} (o : Option K) (ks : List K) (k : K) → last_or o (ks ++ k ∷ []) ≡ Some k
-last_or_push o [] k = refl
-last_or_push o (j ∷ ks) k = last_or_push (Some j) ks k
-
 pub last_key_is : {K X : Type 0} (es : List (K × X)) (e : K × X) → EndsIn es e → last_key es ≡ Some e.0
 last_key_is es e end =
-    ap last_key end.split ∙ ap (last_or None) (map_push (λ x. x.0) end.front e) ∙ last_or_push None (map (λ x. x.0) end.front) e.0
+    ap last_key end.split ∙ ap (last_or None) (map_push (λ x. x.0) end.front e) ∙ last_or-push None (map (λ x. x.0) end.front) e.0
 
 -- beside another value
 pub last_part_is : (cs : List (Bytes × CanisterRecord)) (c : Bytes × CanisterRecord) → EndsIn cs c → last_key (parts cs) ≡ Some c.0

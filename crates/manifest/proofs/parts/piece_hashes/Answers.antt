@@ -2,8 +2,9 @@ use Rattle.std.proofs.Common.{◌∙◌, ap, rules, map, ℕ, min, length}
 use Rattle.std.specs.Slice.Iter.{chunks_rest}
 use Rattle.format_spec.specs.Bytes.{parts}
 use Rattle.format_spec.specs.Hashes.{piece_hash}
-use Rattle.manifest.proofs.Cutting.{hashed_more, hashed_all, counts_pieces}
+use Rattle.manifest.proofs.Cutting.{hashed_more, hashed_all}
 use Rattle.manifest.proofs.parts.piece_hashes.Goals as goal
+use Rattle.format_spec.proofs.Parts.{counts_pieces}
 
 pub loop-piece-preserved : goal.loop-piece-preserved
 loop-piece-preserved c =

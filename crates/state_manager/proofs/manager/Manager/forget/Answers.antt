@@ -6,9 +6,10 @@ use Rattle.machine_spec.specs.Machine.{Machine}
 use Rattle.script_text.specs.declared.command.Command.TheVariants as commands
 use Rattle.script_text.specs.declared.reply.Reply.TheVariants as replies
 use Rattle.script_text.specs.declared.reply.Refusal.TheVariants as refusals
-use Rattle.state_manager.proofs.Onward.{all_filtered, forgets, forgets_none}
+use Rattle.state_manager.proofs.Onward.{forgets, forgets_none}
 use Rattle.state_manager.specs.Kept.{ManagerView, KeepsStates, Performs}
 use Rattle.state_manager.proofs.manager.Manager.forget.Goals as goal
+use Rattle.format_spec.proofs.Lists.{all_filtered}
 
 pub returns-in-Some-clause-step : goal.returns-in-Some-clause-step
 returns-in-Some-clause-step c = λ m k.

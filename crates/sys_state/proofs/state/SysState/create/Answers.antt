@@ -1,8 +1,9 @@
 use Rattle.std.proofs.Common.{◌≡◌, ap, sym, ◌∙◌, arith}
 use Rattle.std.specs.List.{insert}
 use Rattle.sys_state.specs.Calls.{newborn}
-use Rattle.sys_state.proofs.Canisters.{creates, id_test}
+use Rattle.sys_state.proofs.Canisters.{creates}
 use Rattle.sys_state.proofs.state.SysState.create.Goals as goal
+use Rattle.state_spec.proofs.Names.{id_test}
 
 pub invariant_of-self-2 : goal.invariant_of-self-2
 invariant_of-self-2 c =
