@@ -267,18 +267,24 @@ asked_good c (a ∷ asked) h = asked_good (core_after_ask c a.went_out (next_ask
     one true (Some due) e = sent_good c due e h
     one false (Some due) e = unsent_good c due.0 h
 
+pub had_good : (c : Core) (item : Item) → IsCore c → IsCore (core_without_item c item)
+had_good c item h = core_of (core_without_item c item) h.few_peers h.few_strikes (good_filter (length c.strikes) c.turn (λ w. not (same_item w.item item)) c.missing (good_of c h))
+
+pub fault_good : (c : Core) (peer : ℕ) (item : Item) → IsCore c → IsCore (core_after_fault c peer item)
+fault_good c peer item h =
+    let a = struck_one peer c.strikes h.few_strikes in
+    let test : Wanted → Bool = λ w. same_item w.item item && is_asked_of peer w in
+    core_of (core_after_fault c peer item) (omega (arith, a.long, h.few_peers)) a.few
+    (good_moved (length c.strikes) (length (with_strike peer c.strikes)) c.turn c.turn (sym a.long) (omega arith) (map (without_ask test) c.missing) (good_without (length c.strikes) c.turn test c.missing (good_of c h)))
+
 pub delivered_good : (c : Core) (peer : ℕ) (item : Option Item) (right : Bool) → IsCore c → IsCore (core_after_message c peer item right)
 unfolding core_after_message
 delivered_good c peer None right h = unsent_good c peer h
 delivered_good c peer (Some item) right h = by (verdict_if (has_item c.missing item) right)
   where
     by : (k : Heard) → IsCore (core_after_verdict k c peer item)
-    by took = core_of (core_without_item c item) h.few_peers h.few_strikes (good_filter (length c.strikes) c.turn (λ w. not (same_item w.item item)) c.missing (good_of c h))
-    by wrong =
-        let a = struck_one peer c.strikes h.few_strikes in
-        let test : Wanted → Bool = λ w. same_item w.item item && is_asked_of peer w in
-        core_of (core_after_fault c peer item) (omega (arith, a.long, h.few_peers)) a.few
-        (good_moved (length c.strikes) (length (with_strike peer c.strikes)) c.turn c.turn (sym a.long) (omega arith) (map (without_ask test) c.missing) (good_without (length c.strikes) c.turn test c.missing (good_of c h)))
+    by took = had_good c item h
+    by wrong = fault_good c peer item h
     by late = h
 
 -- ---- a new list
