@@ -5,7 +5,7 @@ use Rattle.std.proofs.lemmas.List.Folds.{flat_map-map}
 use Rattle.std.proofs.Common.{sym, ◌∙◌, ap, arith}
 use Rattle.format_spec.specs.Bytes.{Bytes}
 use Rattle.format_spec.specs.declared.limits.TheConstants.{PAGE_SIZE}
-use Rattle.state_spec.specs.State.{State, Canister, CanisterPart, SystemPart, bytes_in, system_of, memory_bytes, state_from, canister_from, canisters_from, canister_without_history, without_history, SameState}
+use Rattle.state_spec.specs.State.{State, Canister, CanisterPart, SystemPart, bytes_in, system_of, memory_bytes, state_from, canisters_from, canister_without_history, without_history, SameState}
 use Rattle.state_spec.specs.State as State
 use Rattle.state_spec.specs.Files.{heap_pages, stable_pages, memory_pages}
 use Rattle.state_spec.proofs.FileOrder.{by_two, by_canisters}

@@ -1,14 +1,12 @@
 -- The manifest and the root of the live state.
-use Rattle.std.proofs.Common.{◌≡◌, ◌*◌, ℕ, List, [], ◌∷◌, length, map, refl, ◌∙◌, ap, sym, subst}
+use Rattle.std.proofs.Common.{◌≡◌, ℕ, List, length, refl, ◌∙◌, ap, sym, subst}
 use Rattle.format_spec.specs.Bytes.{Bytes}
-use Rattle.format_spec.specs.declared.limits.TheConstants.{PAGE_SIZE}
 use Rattle.manifest.specs.Fits.{FitMemories}
 use Rattle.manifest.specs.declared.counts.Counts.{Counts}
 use Rattle.manifest.specs.Counts.{counts_by, counts_in}
 use Rattle.manifest.proofs.Counting.{by_state}
 use Rattle.format_spec.specs.Hashes.{piece_hash}
 use Rattle.std.proofs.lemmas.List.{length-map}
-use Rattle.state_spec.specs.Files.{memories_in}
 use Rattle.state_spec.specs.Manifest.{Manifest, manifest_of}
 use Rattle.state_spec.specs.ManifestText.{manifest_text}
 use Rattle.state_spec.specs.Root.{MetaManifest, meta_of, pieces_of, root_of, root_of_meta}
@@ -22,7 +20,6 @@ use Rattle.tree_spec.specs.Witness.{witness}
 use Rattle.tree_spec.specs.Labelled.{state_tree}
 use Rattle.tree_spec.specs.Tree.{Tree, reconstruct}
 use Rattle.sys_state.specs.System.{System, part_of, kept_of}
-use Rattle.sys_state.specs.declared.record.CanisterRecord.{CanisterRecord}
 use Rattle.live_state.proofs.MemoryLines.{parts_of_state}
 use Rattle.live_state.specs.StateKept.{StateView, KeepsState}
 use Rattle.live_state.specs.Sizes.{HaveSizes}

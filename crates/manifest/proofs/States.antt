@@ -3,12 +3,12 @@ use Rattle.std.proofs.Common.{◌≡◌, ℕ, ◌*◌, ◌^◌, ◌<◌, ◌≤�
 use Rattle.std.proofs.lemmas.List.{length-map, take_all}
 use Rattle.format_spec.specs.Bytes.{Bytes, part_count, parts}
 use Rattle.format_spec.specs.declared.limits.TheConstants.{CHUNK_SIZE, PAGE_SIZE}
-use Rattle.state_spec.specs.State.{State, Canister, CanisterPart, SystemPart, IsSystem, Memory, pages_of, system_of, memory_bytes}
+use Rattle.state_spec.specs.State.{State, Canister, CanisterPart, SystemPart, IsSystem, system_of, memory_bytes}
 use Rattle.state_spec.specs.State as State
 use Rattle.state_spec.specs.SystemText.{system_text}
 use Rattle.state_spec.specs.Files.{system_name, memories_in}
 use Rattle.state_spec.proofs.FileSums.{manifest_by_sizes}
-use Rattle.state_spec.specs.Manifest.{Manifest, FileSums, sums_of, chunk_hashes, memory_sums, file_sums, file_row, manifest_from, manifest_of}
+use Rattle.state_spec.specs.Manifest.{Manifest, FileSums, sums_of, chunk_hashes, file_sums, file_row, manifest_from, manifest_of}
 use Rattle.sys_state.specs.declared.record.CanisterRecord.{CanisterRecord}
 use Rattle.sys_state.specs.System.{kept_of, part_of, record_of, part_of_record}
 use Rattle.manifest.specs.Fits.{FitSums, FitMemories}

@@ -1,6 +1,6 @@
 -- The manifest of a valid state is one that its text spells.
 use Rattle.std.proofs.Common.{◌≡◌, ℕ, suc, ◌+◌, ◌*◌, ◌/◌, ◌%◌, ◌<◌, ◌≤◌, ◌==◌, ◌&&◌, Bool, true, false, cond, List, [], ◌∷◌, ◌++◌, length, map, take, drop, filter, refl, sym, ap, ◌∙◌, subst, arith, append_assoc, append-nil, eqb, is_lt}
-use Rattle.std.specs.List.{flat_map, AllByRecursion, list_all, enumerate_from, range_with_len}
+use Rattle.std.specs.List.{AllByRecursion, list_all, enumerate_from, range_with_len}
 use Rattle.std.specs.FinMap.{is_sorted}
 use Rattle.std.specs.FinMap.Entries.{below_all}
 use Rattle.std.proofs.lemmas.Bool.{and_parts, and_from, eq-eqb, ne_eqb}
