@@ -1,0 +1,10 @@
+pub mod Errors
+pub mod Maps
+pub mod Reads
+pub mod Changes
+pub mod Pieces
+pub mod Calls
+pub mod Owned
+pub mod Plain
+pub mod Memories
+pub mod Laws
