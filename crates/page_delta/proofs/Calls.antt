@@ -1,6 +1,6 @@
 -- What a call of `Deltas` does to what a contract sees.
 use Rattle.std.proofs.Common.{◌≡◌, ◌≢◌, inl, inr, ℕ, zero, suc, ◌<◌, List, [], ◌∷◌, ◌++◌, length, replicate, get_or, Option, Some, None, IsSome, refl, sym, ap, subst, ◌∙◌, arith}
-use Rattle.std.proofs.lemmas.Bool.{cases_eq, eq-eqb}
+use Rattle.std.proofs.lemmas.Bool.{cases_eq, eq-eqb, ne_eqb}
 use Rattle.std.proofs.lemmas.List.{get_or-set_same, get_or-set_other}
 use Rattle.page_pool.specs.Pool.{Pool, Page, page_at, count_at, bytes_at, count_in as count_of, bytes_in, with_room, with_new}
 use Rattle.page_delta.specs.Delta.{Pages, pages_in, find, read_of, uses, Sets, Drops}
@@ -10,7 +10,6 @@ use Rattle.page_delta.specs.declared.entry.Entry.{Entry}
 use Rattle.page_delta.specs.declared.node.Node.{Node}
 use Rattle.page_delta.specs.declared.roots.Root.{Root}
 use Rattle.page_delta.proofs.Sharing.{one-same, one-other}
-use Rattle.page_delta.proofs.Counting.{other-test}
 use Rattle.page_delta.proofs.Seen.{seen, map-seen, live-seen, reads-same, find-held, own-put}
 
 room-more : (slots : List (Option Page)) (n k : ℕ) → get_or (slots ++ replicate n None) k None ≡ get_or slots k None
@@ -77,10 +76,10 @@ module _ (pool mid now : Pool) (slot n : ℕ) (bytes : List ℕ) (room : mid ≡
             ∙ ap (λ (b : List ℕ). let r : Option (List ℕ × ℕ) = Some (b, entry.stamp) in r) (ap (λ i. bytes_at end i) is ∙ (keeps slot (subst (λ i. 0 < count_at end i) is (find-held n1 ids1 end (λ s. 0) (root_at ids1 id) page entry h1 at))).1 ∙ new-bytes)
             ∙ ap (λ s. let r : Option (List ℕ × ℕ) = Some (bytes, s) in r) is_stamp;
         rest = λ other ne.
-            reads-same n0 n1 ids0 ids1 pool end (λ s. 0) id other (p.found other ∙ rw (other-test other page ne) refl) h1
+            reads-same n0 n1 ids0 ids1 pool end (λ s. 0) id other (p.found other ∙ rw (ne_eqb other page ne) refl) h1
             (λ e has still. kept e.slot (find-held n0 ids0 pool (λ s. 0) (root_at ids0 id) other e h0 has) still);
         entries = λ other ne.
-            ap (λ (m : Option Pages). find other (pages_in m)) (map-seen n1 ids1 id) ∙ p.found other ∙ rw (other-test other page ne) refl
+            ap (λ (m : Option Pages). find other (pages_in m)) (map-seen n1 ids1 id) ∙ p.found other ∙ rw (ne_eqb other page ne) refl
             ∙ sym (ap (λ (m : Option Pages). find other (pages_in m)) (map-seen n0 ids0 id));
         others = λ other ne. map-seen n1 ids1 other ∙ p.others other ne ∙ sym (map-seen n0 ids0 other);
         elsewhere = λ other place ne.

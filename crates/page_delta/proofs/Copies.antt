@@ -55,7 +55,7 @@ entry-live xs pool hands loose k d e s is =
     let count = s.held e.slot in
     live-of-count pool e.slot (omega arith)
 
-width-recount : (node : Node) (c : ℕ) → width (recount node c) ≡ width node
+pub width-recount : (node : Node) (c : ℕ) → width (recount node c) ≡ width node
 width-recount (Branch b l ks) c = refl
 width-recount (Leaf b es) c = refl
 
@@ -104,7 +104,8 @@ module _ (xs mid ys : NodeList) (counts counts' hands loose : ℕ → ℕ) (k fr
 
   pub looks-copy : SameLooks xs ys
   looks-copy level m q live =
-      looks-insert mid ys counts (λ m. hands m + names m (Some (recount node 1))) loose fresh raised p.puts.gone p.puts.rest level m q (subst (λ (o : Option Node). IsSome o) (sym (p.each m)) (alive (node_at xs m) (count_in (node_at xs m) + names m (Some (recount node 1))) live)) ∙ looks_raised level m q live
+      looks-insert mid ys counts (λ m. hands m + names m (Some (recount node 1))) loose fresh raised p.puts.gone p.puts.rest level m q
+      (subst (λ (o : Option Node). IsSome o) (sym (p.each m)) (alive (node_at xs m) (count_in (node_at xs m) + names m (Some (recount node 1))) live)) ∙ looks_raised level m q live
     where
       alive : (o : Option Node) (c : ℕ) → IsSome o → IsSome (node_with_count o c)
       alive None c l = l

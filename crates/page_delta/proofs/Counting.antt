@@ -1,6 +1,6 @@
 -- Places counted one after another.
-use Rattle.std.proofs.Common.{◌≡◌, ◌≢◌, inl, inr, ℕ, zero, suc, ◌+◌, ◌^◌, ◌<◌, ◌≤◌, List, [], ◌∷◌, ◌++◌, length, take, get_or, set, Option, Some, None, IsSome, is_some, count_by, cond, eqb, false, refl, sym, ap, subst, ◌∙◌, arith, length-take}
-use Rattle.std.proofs.lemmas.Bool.{cases_eq, cases_Bool, eq-eqb, eqb-true}
+use Rattle.std.proofs.Common.{◌≡◌, inl, inr, ℕ, zero, suc, ◌+◌, ◌^◌, ◌<◌, ◌≤◌, List, [], ◌∷◌, ◌++◌, length, take, get_or, set, Option, Some, None, IsSome, is_some, count_by, cond, eqb, refl, sym, ap, subst, ◌∙◌, arith, length-take}
+use Rattle.std.proofs.lemmas.Bool.{cases_eq, eq-eqb, ne_eqb}
 use Rattle.std.proofs.lemmas.List.{get_or-set_same, get_or-set_other, get_or_default, take_more}
 use Rattle.page_delta.specs.Totals.{total}
 use Rattle.page_delta.specs.Nodes.{node_at, count_in, node_with_count, once}
@@ -9,9 +9,6 @@ use Rattle.page_delta.specs.declared.node.Node.TheVariants.{Branch, Leaf}
 use Rattle.page_delta.proofs.Sums.{total-same, total-length, total-present, present}
 use Rattle.page_delta.proofs.Sharing.{not-some, one, one-same, one-other}
 use Rattle.page_delta.proofs.Changes.{Recounts, Raises}
-
-pub other-test : (a b : ℕ) → a ≢ b → eqb a b ≡ false
-other-test a b ne = elim (cases_Bool (eqb a b)) [ inl h ↦ absurd (ne (eqb-true a b h)) | inr h ↦ h ]
 
 total-append : {X : Type 0} (w : Option X → ℕ) (xs : List (Option X)) (o : Option X) → total w (xs ++ o ∷ []) ≡ total w xs + w o
 total-append w [] o = omega arith
@@ -64,7 +61,7 @@ recounted-at xs ys now key c each live m = elim (cases_eq m key) [
   | inl e ↦
       ap (λ i. node_at (set ys key (node_with_count (node_at ys key) c)) i) e ∙ get_or-set_same ys key (node_with_count (node_at ys key) c) None (live-below ys key live)
       ∙ ap (λ o. node_with_count o c) (each key) ∙ recounted-again (node_at xs key) (now key) c ∙ ap (λ i. node_with_count (node_at xs i) c) (sym e) ∙ sym (rw (eq-eqb m key e) refl)
-  | inr ne ↦ get_or-set_other ys key m (node_with_count (node_at ys key) c) None ne ∙ each m ∙ sym (rw (other-test m key ne) refl)
+  | inr ne ↦ get_or-set_other ys key m (node_with_count (node_at ys key) c) None ne ∙ each m ∙ sym (rw (ne_eqb m key ne) refl)
 ]
 
 pub len-recounted : (xs ys : List (Option Node)) (now : ℕ → ℕ) → Recounts xs ys now → count_by is_some ys ≡ count_by is_some xs
@@ -88,7 +85,7 @@ raise-step xs ys kids i child each is below live m =
           omega arith
       | inr ne ↦
           let one_is = one-other child m ne in
-          let pick : cond (eqb m child) (count_in (node_at ys child) + 1) (count_in (node_at xs m) + total (once m) (take i kids)) ≡ count_in (node_at xs m) + total (once m) (take i kids) = rw (other-test m child ne) refl in
+          let pick : cond (eqb m child) (count_in (node_at ys child) + 1) (count_in (node_at xs m) + total (once m) (take i kids)) ≡ count_in (node_at xs m) + total (once m) (take i kids) = rw (ne_eqb m child ne) refl in
           omega arith
     ])
 

@@ -1,6 +1,6 @@
 -- A tree is built of the entries of another whose stamp is above a bound.
 use Rattle.std.proofs.Common.{◌≡◌, ◌≢◌, inl, inr, ℕ, zero, suc, ◌+◌, ◌-◌, ◌*◌, ◌/◌, ◌%◌, ◌^◌, ◌<◌, ◌≤◌, List, ◌++◌, length, get_or, set, replicate, Option, Some, None, IsSome, is_some, count_by, refl, sym, ap, subst, ◌∙◌, arith, length-set}
-use Rattle.std.proofs.lemmas.Bool.{cases_eq}
+use Rattle.std.proofs.lemmas.Bool.{cases_eq, ne_eqb}
 use Rattle.std.proofs.lemmas.List.{get_or-set_same, get_or-set_other, ext_get_or}
 use Rattle.page_pool.specs.Pool.{Pool, count_at}
 use Rattle.page_delta.specs.Delta.{Pages, pages_after, if_after}
@@ -13,7 +13,6 @@ use Rattle.page_delta.specs.declared.roots.Root.{Root}
 use Rattle.page_delta.proofs.Sums.{total-place}
 use Rattle.page_delta.proofs.Sharing.{some-none, not-some, some-live, named, fresh-not-named, one-same, one-other, shared-as, shared-link}
 use Rattle.page_delta.proofs.Looks.{look-agree, look-option, child-live}
-use Rattle.page_delta.proofs.Counting.{other-test}
 use Rattle.page_delta.proofs.Pools.{keeps-trans}
 use Rattle.page_delta.proofs.Owning.{IsEmpty, empty-place, names-child, branch-of}
 use Rattle.page_delta.proofs.RootCalls.{PutsEmpty, shared-empty, places-empty}
@@ -120,11 +119,10 @@ looks-below xs ys counts hands loose node level s is rest l m q low =
     (λ i d t below e. let step = s.steps i d t e in omega arith) l m q low
 
 -- one tree after another is added
-pub tree-next : (xs mid ys : List (Option Node)) (pool0 pool1 pool2 : Pool) (kept : Option ℕ) → KeepsTree xs mid pool0 pool1 None
-    → KeepsTree mid ys pool1 pool2 kept → KeepsTree xs ys pool0 pool2 kept
-tree-next xs mid ys pool0 pool1 pool2 kept a b = record {
-  shared = λ hands loose s. b.shared hands loose (shared-as mid (count_at pool1) (λ m. hands m + once m None) hands loose loose
-      (a.shared hands loose s) (λ m. omega arith) (λ slot. refl));
+tree-joined : (xs mid ys : List (Option Node)) (pool0 pool1 pool2 : Pool) (first second kept : Option ℕ) → KeepsTree xs mid pool0 pool1 first → KeepsTree mid ys pool1 pool2 second
+    → ((hands loose : ℕ → ℕ) → IsShared xs (count_at pool0) hands loose → IsShared ys (count_at pool2) (λ m. hands m + once m kept) loose) → KeepsTree xs ys pool0 pool2 kept
+tree-joined xs mid ys pool0 pool1 pool2 first second kept a b shared = record {
+  shared = shared;
   stays = stays-trans xs mid ys a.stays b.stays;
   places = places-trans xs mid ys a.places b.places;
   few = b.few;
@@ -132,19 +130,17 @@ tree-next xs mid ys pool0 pool1 pool2 kept a b = record {
   keeps = keeps-trans pool0 pool1 pool2 a.keeps b.keeps;
 }
 
+pub tree-next : (xs mid ys : List (Option Node)) (pool0 pool1 pool2 : Pool) (kept : Option ℕ) → KeepsTree xs mid pool0 pool1 None
+    → KeepsTree mid ys pool1 pool2 kept → KeepsTree xs ys pool0 pool2 kept
+tree-next xs mid ys pool0 pool1 pool2 kept a b = tree-joined xs mid ys pool0 pool1 pool2 None kept kept a b (λ hands loose s.
+    b.shared hands loose (shared-as mid (count_at pool1) (λ m. hands m + once m None) hands loose loose (a.shared hands loose s) (λ m. omega arith) (λ slot. refl)))
+
 -- nothing was added since
 pub tree-after : (xs mid ys : List (Option Node)) (pool0 pool1 pool2 : Pool) (kept : Option ℕ) → KeepsTree xs mid pool0 pool1 kept
     → KeepsTree mid ys pool1 pool2 None → KeepsTree xs ys pool0 pool2 kept
-tree-after xs mid ys pool0 pool1 pool2 kept a b = record {
-  shared = λ hands loose s.
-      shared-as ys (count_at pool2) (λ m. hands m + once m kept + once m None) (λ m. hands m + once m kept) loose loose
-      (b.shared (λ m. hands m + once m kept) loose (a.shared hands loose s)) (λ m. omega arith) (λ slot. refl);
-  stays = stays-trans xs mid ys a.stays b.stays;
-  places = places-trans xs mid ys a.places b.places;
-  few = b.few;
-  counted = b.counted;
-  keeps = keeps-trans pool0 pool1 pool2 a.keeps b.keeps;
-}
+tree-after xs mid ys pool0 pool1 pool2 kept a b = tree-joined xs mid ys pool0 pool1 pool2 kept None kept a b (λ hands loose s.
+    shared-as ys (count_at pool2) (λ m. hands m + once m kept + once m None) (λ m. hands m + once m kept) loose loose
+    (b.shared (λ m. hands m + once m kept) loose (a.shared hands loose s)) (λ m. omega arith) (λ slot. refl))
 
 -- a tree that was added is released
 pub tree-released : (xs mid ys : List (Option Node)) (pool0 pool1 pool2 : Pool) (node : ℕ) (hands loose : ℕ → ℕ)
@@ -191,7 +187,7 @@ module _ (xs ys : List (Option Node)) (pool : Pool) (key : ℕ) (node : Node) (l
   }
     where
       branch : (l : ℕ) → 0 < l → empty_node l ≡ Branch 1 l (replicate 32 None)
-      branch l above = rw (other-test l 0 (λ e. omega arith)) refl
+      branch l above = rw (ne_eqb l 0 (λ e. omega arith)) refl
 
 look-step : (level : ℕ) (nodes : List (Option Node)) (key q : ℕ) → 0 < level
     → look level nodes (Some key) q ≡ look (level - 1) nodes (child_in (node_at nodes key) ((q / 32 ^ level) % 32)) q

@@ -1,6 +1,6 @@
 -- A page that no other map has is written where it stands.
 use Rattle.std.proofs.Common.{◌≡◌, ◌≢◌, inl, inr, ℕ, suc, ◌+◌, ◌/◌, ◌%◌, ◌^◌, ◌<◌, ◌≤◌, List, set, Option, Some, None, IsSome, is_some, count_by, refl, sym, ap, subst, ◌∙◌, arith}
-use Rattle.std.proofs.lemmas.Bool.{cases_eq, cases_lt, eq-eqb}
+use Rattle.std.proofs.lemmas.Bool.{cases_eq, cases_lt, eq-eqb, ne_eqb}
 use Rattle.std.proofs.lemmas.List.{get_or-set_same, get_or-set_other}
 use Rattle.page_pool.specs.Pool.{Pool, Page, page_at, count_at, bytes_at, count_in as count_of, bytes_in, with_bytes, IsLive}
 use Rattle.page_delta.specs.Totals.{total}
@@ -13,7 +13,7 @@ use Rattle.page_delta.specs.declared.node.Node.{Node}
 use Rattle.page_delta.specs.declared.roots.Root.{Root}
 use Rattle.page_delta.proofs.Sums.{total-has}
 use Rattle.page_delta.proofs.Sharing.{some-none, cases-option, some-live, one, one-same, one-other, shared-counts}
-use Rattle.page_delta.proofs.Counting.{other-test, live-below}
+use Rattle.page_delta.proofs.Counting.{live-below}
 use Rattle.page_delta.proofs.Copies.{entry-used}
 use Rattle.page_delta.proofs.Places.{stands-found}
 use Rattle.page_delta.proofs.Looks.{digits}
@@ -256,10 +256,10 @@ module _ (xs : List (Option Node)) (ids : List (Option Root)) (pool : Pool) (id 
               ∙ ap (λ (b : List ℕ). let r : Option (List ℕ × ℕ) = Some (b, entry.stamp) in r)
               (ap (λ i. bytes_at end i) is ∙ ap bytes_in page_here);
           rest = λ other ne.
-              reads-same xs ys ids ids pool end (λ s. 0) id other (put.found other ∙ rw (other-test other page ne) refl) held-in-place
+              reads-same xs ys ids ids pool end (λ s. 0) id other (put.found other ∙ rw (ne_eqb other page ne) refl) held-in-place
               (λ e has still. bytes_there e.slot (only_here id other e has (λ same at_page. ne at_page)));
           entries = λ other ne.
-              ap (λ (m : Option Pages). find other (pages_in m)) (map-seen ys ids id) ∙ put.found other ∙ rw (other-test other page ne) refl
+              ap (λ (m : Option Pages). find other (pages_in m)) (map-seen ys ids id) ∙ put.found other ∙ rw (ne_eqb other page ne) refl
               ∙ sym (ap (λ (m : Option Pages). find other (pages_in m)) (map-seen xs ids id));
           others = λ other ne. map-seen ys ids other ∙ put.others other ne ∙ sym (map-seen xs ids other);
           elsewhere = λ other place ne.

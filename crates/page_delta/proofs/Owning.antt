@@ -1,6 +1,6 @@
 -- A branch gets a child of its own: a new node, or a copy.
-use Rattle.std.proofs.Common.{◌≡◌, ◌≢◌, ◌⊎◌, inl, inr, ℕ, zero, suc, ◌+◌, ◌-◌, ◌/◌, ◌%◌, ◌^◌, ◌<◌, ◌≤◌, List, [], ◌∷◌, length, replicate, get_or, set, Option, Some, None, IsSome, eqb, cond, false, refl, sym, ap, subst, ◌∙◌, arith}
-use Rattle.std.proofs.lemmas.Bool.{cases_eq, cases_Bool, eq-eqb, eqb-true, eqb-false}
+use Rattle.std.proofs.Common.{◌≡◌, ◌≢◌, ◌⊎◌, inl, inr, ℕ, zero, suc, ◌+◌, ◌-◌, ◌/◌, ◌%◌, ◌^◌, ◌<◌, ◌≤◌, List, [], ◌∷◌, length, replicate, get_or, set, Option, Some, None, IsSome, eqb, cond, refl, sym, ap, subst, ◌∙◌, arith}
+use Rattle.std.proofs.lemmas.Bool.{cases_eq, cases_Bool, eq-eqb, eqb-true, eqb-false, ne_eqb}
 use Rattle.std.proofs.lemmas.List.{get_or-set_same, get_or-set_other}
 use Rattle.page_delta.specs.Totals.{total}
 use Rattle.page_delta.specs.Nodes.{node_at, child_in, entry_in, count_in, level_in, node_with_count, once, names, width, look, with_child, empty_node}
@@ -235,9 +235,6 @@ module _ (xs mid ys zs : NodeList) (parent d child fresh : ℕ) (counts hands lo
   pub some_left : 0 < count_in (node_at ys child)
   some_left = let is = count_ys in omega (arith, p.many)
 
-  test-other : (a b : ℕ) → a ≢ b → eqb a b ≡ false
-  test-other a b ne = elim (cases_Bool (eqb a b)) [ inl h ↦ absurd (ne (eqb-true a b h)) | inr h ↦ h ]
-
   pub shared-split : (counts' hands' loose' : ℕ → ℕ) → IsShared mid counts' (λ m. hands' m + one fresh m) loose' → IsShared zs counts' hands' loose'
   shared-split counts' hands' loose' t =
       let linked = shared-link mid ys counts' hands' loose' parent branch_s.0 branch_s.1 d fresh branch_s.2 t sets_copy (sym (ap level_in branch_s.3) ∙ step ∙ ap (λ n. n + 1) (sym (ap level_in p.copied ∙ level-recounted (node_at xs child) 1))) in
@@ -251,7 +248,7 @@ module _ (xs mid ys zs : NodeList) (parent d child fresh : ℕ) (counts hands lo
             let count = linked.counted m in
             omega arith
         | inr ne ↦
-            let pick : cond (eqb m child) (count_in (node_at ys child) - 1) (count_in (node_at ys m)) ≡ count_in (node_at ys m) = rw (test-other m child ne) refl in
+            let pick : cond (eqb m child) (count_in (node_at ys child) - 1) (count_in (node_at ys m)) ≡ count_in (node_at ys m) = rw (ne_eqb m child ne) refl in
             let h = hand m in let o = one-other child m ne in
             omega arith
       ])
@@ -262,7 +259,7 @@ module _ (xs mid ys zs : NodeList) (parent d child fresh : ℕ) (counts hands lo
             let more = count_ys in
             omega (arith, p.many)
         | inr ne ↦
-            let pick : cond (eqb m child) (count_in (node_at ys child) - 1) (count_in (node_at ys m)) ≡ count_in (node_at ys m) = rw (test-other m child ne) refl in
+            let pick : cond (eqb m child) (count_in (node_at ys child) - 1) (count_in (node_at ys m)) ≡ count_in (node_at ys m) = rw (ne_eqb m child ne) refl in
             let pos = linked.alive m live in
             omega arith
       ])

@@ -28,7 +28,8 @@ alone xs ids id other root root' k is is' once ne e =
     let b_is = one-same root.node root.node refl in
     omega arith
 
-module _ (xs ys : List (Option Node)) (ids : List (Option Root)) (id page : ℕ) (root : Root) (entry : Entry) (k : AreSound xs ids) (is : root_at ids id ≡ Some root) (once : count_in (node_at xs root.node) ≡ 1) (d : Differs 3 xs ys root.node page entry) (levels : KeepsLevels xs ys) (low : page < 2 ^ 20) where
+module _ (xs ys : List (Option Node)) (ids : List (Option Root)) (id page : ℕ) (root : Root) (entry : Entry) (k : AreSound xs ids) (is : root_at ids id ≡ Some root)
+    (once : count_in (node_at xs root.node) ≡ 1) (d : Differs 3 xs ys root.node page entry) (levels : KeepsLevels xs ys) (low : page < 2 ^ 20) where
   look_page : look 3 ys (Some root.node) page ≡ Some entry
   look_page = d.there page (refl, (refl, (refl, refl)))
 

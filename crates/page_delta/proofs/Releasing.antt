@@ -1,6 +1,6 @@
 -- A node is counted once less, or removed with what only it has.
-use Rattle.std.proofs.Common.{◌≡◌, ◌≢◌, inl, inr, ℕ, zero, suc, ◌+◌, ◌-◌, ◌<◌, ◌≤◌, List, [], ◌∷◌, length, drop, get_or, set, Option, Some, None, IsSome, is_some, count_by, cond, eqb, false, refl, sym, ap, subst, ◌∙◌, arith}
-use Rattle.std.proofs.lemmas.Bool.{cases_eq, cases_Bool, eq-eqb, eqb-true}
+use Rattle.std.proofs.Common.{◌≡◌, ◌≢◌, inl, inr, ℕ, zero, suc, ◌+◌, ◌-◌, ◌<◌, ◌≤◌, List, [], ◌∷◌, length, drop, get_or, set, Option, Some, None, IsSome, is_some, count_by, cond, eqb, refl, sym, ap, subst, ◌∙◌, arith}
+use Rattle.std.proofs.lemmas.Bool.{cases_eq, eq-eqb, ne_eqb}
 use Rattle.page_delta.specs.Totals.{total}
 use Rattle.page_delta.specs.Delta.{uses}
 use Rattle.page_delta.specs.Nodes.{node_at, child_in, entry_in, count_in, level_in, node_with_count, once, names, look}
@@ -14,9 +14,6 @@ use Rattle.page_delta.proofs.Looks.{look-agree, child-live}
 use Rattle.page_delta.proofs.Counting.{recounted-at, recounted-same, len-recounted}
 use Rattle.page_delta.proofs.Inserting.{counted-live}
 use Rattle.page_delta.proofs.Changes.{SameBut}
-
-other-test : (a b : ℕ) → a ≢ b → eqb a b ≡ false
-other-test a b ne = elim (cases_Bool (eqb a b)) [ inl h ↦ absurd (ne (eqb-true a b h)) | inr h ↦ h ]
 
 -- a node in hand is there
 pub in-hand : (xs : List (Option Node)) (counts hands loose : ℕ → ℕ) (k : ℕ) → IsShared xs counts (λ m. hands m + once m (Some k)) loose → (0 < count_in (node_at xs k)) × IsSome (node_at xs k)
@@ -49,14 +46,14 @@ module _ (xs : List (Option Node)) (k : ℕ) (live : IsSome (node_at xs k)) wher
             let count = s.counted m in
             omega arith
         | inr ne ↦
-            let pick : lowered_now m ≡ count_in (node_at xs m) = rw (other-test m k ne) refl in
+            let pick : lowered_now m ≡ count_in (node_at xs m) = rw (ne_eqb m k ne) refl in
             let o : once m (Some k) ≡ 0 = one-other k m ne in
             omega arith
       ])
       (λ m none. let count = s.counted m in let z : count_in (node_at xs m) ≡ 0 = ap count_in none in omega arith)
       (λ m here. elim (cases_eq m k) [
         | inl e ↦ let pick : lowered_now m ≡ count_in (node_at xs k) - 1 = rw (eq-eqb m k e) refl in omega arith
-        | inr ne ↦ let pick : lowered_now m ≡ count_in (node_at xs m) = rw (other-test m k ne) refl in let pos = s.alive m here in omega arith
+        | inr ne ↦ let pick : lowered_now m ≡ count_in (node_at xs m) = rw (ne_eqb m k ne) refl in let pos = s.alive m here in omega arith
       ])
 
   pub len-lower : count_by is_some lowered ≡ count_by is_some xs
@@ -112,7 +109,8 @@ total-drop {X} w (x ∷ xs) (suc i) below =
 pub hand-over : (xs : List (Option Node)) (counts hands loose : ℕ → ℕ) (kids : List (Option ℕ)) (i child : ℕ) → i < length kids → get_or kids i None ≡ Some child
     → IsShared xs counts (λ m. hands m + total (once m) (drop i kids)) loose → IsShared xs counts (λ m. hands m + total (once m) (drop (i + 1) kids) + once m (Some child)) loose
 hand-over xs counts hands loose kids i child below is s =
-    shared-as xs counts (λ m. hands m + total (once m) (drop i kids)) (λ m. hands m + total (once m) (drop (i + 1) kids) + once m (Some child)) loose loose s (λ m. let t = total-drop (once m) kids i below in let o : once m (get_or kids i None) ≡ once m (Some child) = ap (once m) is in omega arith) (λ slot. refl)
+    shared-as xs counts (λ m. hands m + total (once m) (drop i kids)) (λ m. hands m + total (once m) (drop (i + 1) kids) + once m (Some child)) loose loose s
+    (λ m. let t = total-drop (once m) kids i below in let o : once m (get_or kids i None) ≡ once m (Some child) = ap (once m) is in omega arith) (λ slot. refl)
 
 pub pass-over : (xs : List (Option Node)) (counts hands loose : ℕ → ℕ) (kids : List (Option ℕ)) (i : ℕ) → i < length kids → get_or kids i None ≡ None
     → IsShared xs counts (λ m. hands m + total (once m) (drop i kids)) loose → IsShared xs counts (λ m. hands m + total (once m) (drop (i + 1) kids)) loose

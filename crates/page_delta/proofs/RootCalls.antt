@@ -1,19 +1,18 @@
 -- Ids made and dropped.
 use Rattle.std.proofs.Common.{[], ◌≡◌, ◌≢◌, inl, inr, ℕ, zero, suc, ◌+◌, ◌/◌, ◌%◌, ◌^◌, ◌≤◌, List, length, set, Option, Some, None, IsSome, is_some, count_by, cond, eqb, refl, sym, ap, subst, ◌∙◌, arith}
-use Rattle.std.proofs.lemmas.Bool.{cases_eq, eq-eqb}
+use Rattle.std.proofs.lemmas.Bool.{cases_eq, eq-eqb, ne_eqb}
 use Rattle.page_pool.specs.Pool.{Pool, count_at}
 use Rattle.page_delta.specs.Totals.{total}
 use Rattle.page_delta.specs.Delta.{Pages}
-use Rattle.page_delta.specs.Nodes.{node_at, child_in, count_in, level_in, names, node_with_count, empty_node, look, pairs_from, entry_and_rest, pages_below}
+use Rattle.page_delta.specs.Nodes.{node_at, child_in, count_in, level_in, names, node_with_count, empty_node, look, pages_below}
 use Rattle.page_delta.specs.Shared.{slots_in, IsShared, KeepsPlaces, SameLooks, Shrinks}
 use Rattle.page_delta.specs.Roots.{root_at, map_below, roots, AreSound, IsHeld, AddsRoot}
-use Rattle.page_delta.specs.declared.entry.Entry.{Entry}
 use Rattle.page_delta.specs.declared.node.Node.{Node}
 use Rattle.page_delta.specs.declared.roots.Root.{Root}
 use Rattle.page_delta.proofs.Sums.{total-has, total-moved, total-same, total-none, total-place, present, total-present}
 use Rattle.page_delta.proofs.Sharing.{some-none, not-some, cases-option, some-live, one, one-same, one-other, shared-as, shared-insert, shared-recounted, slots-recounted, level-recounted}
 use Rattle.page_delta.proofs.Looks.{looks-recounted, looks-insert}
-use Rattle.page_delta.proofs.Counting.{recounted-at, recounted-same, len-recounted, other-test}
+use Rattle.page_delta.proofs.Counting.{recounted-at, recounted-same, len-recounted}
 use Rattle.page_delta.proofs.Places.{placed-next, places-put, places-recounted, places-shrink}
 use Rattle.page_delta.proofs.Owning.{stands-empty, IsEmpty, is_empty, names-child}
 use Rattle.page_delta.proofs.Inserting.{high-live, counted-live}
@@ -21,12 +20,7 @@ use Rattle.page_delta.proofs.Releasing.{looks-shrink}
 use Rattle.page_delta.proofs.Rooted.{Follows, follows-map, kept-live, kept-next, pages-same, shared-self, shared-with}
 use Rattle.std.proofs.lemmas.Option.{same_Some}
 use Rattle.page_delta.proofs.Changes.{Puts}
-
-pairs-none : (n start : ℕ) (f : ℕ → Option Entry) → ((k : ℕ) → f k ≡ None) → pairs_from n start f ≡ []
-unfolding pairs_from
-pairs-none zero start f none = refl
-pairs-none (suc n) start f none = ap (λ (o : Option Entry). entry_and_rest start o (pairs_from n (start + 1) f)) (none start)
-    ∙ pairs-none n (start + 1) f none
+use Rattle.page_delta.proofs.Walks.{pairs-none}
 
 pub pages-none : (xs : List (Option Node)) (root : ℕ) → ((q : ℕ) → look 3 xs (Some root) q ≡ None) → pages_below xs root ≡ []
 unfolding pages_below
@@ -197,7 +191,7 @@ module _ (xs : List (Option Node)) (key : ℕ) (live : IsSome (node_at xs key)) 
             let o = one-same key m e in
             omega arith
         | inr ne ↦
-            let pick : raised_now m ≡ count_in (node_at xs m) = rw (other-test m key ne) refl in
+            let pick : raised_now m ≡ count_in (node_at xs m) = rw (ne_eqb m key ne) refl in
             let o = one-other key m ne in
             omega arith
       ])
@@ -206,7 +200,7 @@ module _ (xs : List (Option Node)) (key : ℕ) (live : IsSome (node_at xs key)) 
       let o = one-other key m (λ e. not-some (node_at xs key) (ap (λ i. node_at xs i) (sym e) ∙ none) live) in omega arith)
       (λ m here. elim (cases_eq m key) [
         | inl e ↦ let pick : raised_now m ≡ count_in (node_at xs key) + 1 = rw (eq-eqb m key e) refl in omega arith
-        | inr ne ↦ let pick : raised_now m ≡ count_in (node_at xs m) = rw (other-test m key ne) refl in let pos = s.alive m here in
+        | inr ne ↦ let pick : raised_now m ≡ count_in (node_at xs m) = rw (ne_eqb m key ne) refl in let pos = s.alive m here in
             omega arith
       ])
 

@@ -1,6 +1,6 @@
 -- What a contract sees of nodes and ids.
 use Rattle.std.proofs.Common.{◌≡◌, ◌≢◌, inl, inr, ℕ, zero, suc, ◌+◌, ◌/◌, ◌%◌, ◌^◌, ◌<◌, ◌≤◌, List, [], ◌∷◌, map, get_or, Option, Some, None, IsSome, is_some, count_by, refl, sym, ap, subst, ◌∙◌, arith}
-use Rattle.std.proofs.lemmas.Bool.{cases_eq, cases_lt}
+use Rattle.std.proofs.lemmas.Bool.{cases_eq, cases_lt, ne_eqb}
 use Rattle.page_pool.specs.Pool.{Pool, Page, count_at, bytes_at, used_in, IsLive as IsLiveSlot}
 use Rattle.page_delta.specs.Totals.{total}
 use Rattle.page_delta.specs.Delta.{Deltas, Pages, map_of, IsLive, pages_in, pages_of, find, read_of, reads, uses_in, RiseFrom, Holds, Adds, IsOwn}
@@ -12,7 +12,6 @@ use Rattle.page_delta.specs.declared.node.Node.{Node}
 use Rattle.page_delta.specs.declared.roots.Root.{Root}
 use Rattle.page_delta.proofs.Sums.{total-has}
 use Rattle.page_delta.proofs.Sharing.{some-none, cases-option, some-live}
-use Rattle.page_delta.proofs.Counting.{other-test}
 use Rattle.page_delta.proofs.Copies.{entry-used}
 use Rattle.page_delta.proofs.Places.{once-placed, places-nodes}
 use Rattle.page_delta.proofs.Lookups.{find-below, find-past, below-rises}
@@ -58,6 +57,10 @@ held-seen nodes ids pool h = record {
       let same = places-nodes slot (map leaf_of nodes) (h.once slot) in omega arith;
   counted = h.live;
 }
+
+-- where a contract sees these nodes and ids as `deltas`
+pub held-viewed : (nodes : List (Option Node)) (ids : List (Option Root)) (pool : Pool) {deltas : Deltas} → seen nodes ids ≡ deltas → Holds pool deltas → IsHeld nodes pool (λ slot. 0)
+held-viewed nodes ids pool is h = held-seen nodes ids pool (subst (λ d. Holds pool d) (sym is) h)
 
 pub seen-adds : (n n' : List (Option Node)) (ids ids' : List (Option Root)) (id : ℕ) (pages : Pages) → AddsRoot n n' ids ids' id pages
     → Adds (seen n ids) (seen n' ids') id pages
@@ -192,7 +195,7 @@ own-put n n' ids ids' id page entry p alone here = record {
     | inl a ↦ elim (cases_eq place page) [
       | inl b ↦ (a, b)
       | inr far ↦
-          let test = other-test place page far in
+          let test = ne_eqb place page far in
           let before : find place (pages_in (map_below n (root_at ids id))) ≡ Some e = sym (p.found place ∙ rw test refl)
           ∙ sym (at id place) ∙ ap (λ i. find place (pages_of (seen n' ids') i)) (sym a) ∙ has in
           absurd (alone id place e before (λ _ b. far b) same)

@@ -26,7 +26,7 @@ one-pair : (s : ℕ) (f : ℕ → Option Entry) → pairs_from 1 s f ≡ entry_a
 unfolding pairs_from
 one-pair s f = refl
 
-pairs-none : (n s : ℕ) (f : ℕ → Option Entry) → ((k : ℕ) → f k ≡ None) → pairs_from n s f ≡ []
+pub pairs-none : (n s : ℕ) (f : ℕ → Option Entry) → ((k : ℕ) → f k ≡ None) → pairs_from n s f ≡ []
 unfolding pairs_from
 pairs-none zero s f none = refl
 pairs-none (suc n) s f none = ap (λ (o : Option Entry). entry_and_rest s o (pairs_from n (s + 1) f)) (none s) ∙ pairs-none n (s + 1) f none

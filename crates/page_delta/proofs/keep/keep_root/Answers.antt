@@ -2,8 +2,9 @@ use Rattle.std.proofs.Common.{◌≡◌, ◌∙◌, List, Option, Some, None, re
 use Rattle.page_delta.specs.Roots.{root_at, AreSound}
 use Rattle.page_delta.specs.declared.roots.Root.{Root}
 use Rattle.page_delta.proofs.RootCopies.{stands-kept}
-use Rattle.page_delta.proofs.RootCalls.{added-at}
+use Rattle.page_delta.proofs.RootCalls.{Added, added-at}
 use Rattle.page_delta.proofs.KeepCalls.{held-tree, kept-tree, maps-tree, kept-newer, keeps-root}
+use Rattle.page_delta.proofs.keep.keep_root.Goals.{After-insert_reserved}
 use Rattle.page_delta.proofs.keep.keep_root.Goals as goal
 use Rattle.format_spec.proofs.Lists.{on_err}
 
@@ -27,16 +28,19 @@ returns-in_err-root-clause-err c =
     (maps-tree c.args.nodes.now.slots c.keep_tree.new.nodes.slots c.args.ids.now.slots c.args.pool.now c.keep_tree.new.pool None
     c.requires.kept c.requires.held c.in_err-root.ensures.err))
 
+added : (c : After-insert_reserved) → Added c.args.ids.now.slots c.insert_reserved.new.self.slots c.in_ok-kept.kept c.in_ok-root.root
+added c =
+    let new = c.insert_reserved.ensures in
+    added-at c.args.ids.now.slots c.make_id.new.ids.slots c.insert_reserved.new.self.slots c.insert_reserved.result c.in_ok-kept.kept c.in_ok-root.root
+    (omega (arith, new.key, c.in_ok-kept.ensures.id)) c.make_id.ensures.ids new.was_vacant new.updates.changed new.updates.others
+
 pub returns-clause-kept : goal.returns-clause-kept
 returns-clause-kept c =
     let is = sym (ap (λ (ids : List (Option Root)). root_at ids c.args.id) c.make_id.ensures.ids) ∙ c.index.ensures in
-    let key : c.insert_reserved.result ≡ c.in_ok-kept.kept = omega (arith, c.insert_reserved.ensures.key, c.in_ok-kept.ensures.id) in
-    let a = added-at c.args.ids.now.slots c.make_id.new.ids.slots c.insert_reserved.new.self.slots c.insert_reserved.result
-    c.in_ok-kept.kept c.in_ok-root.root key c.make_id.ensures.ids c.insert_reserved.ensures.was_vacant
-    c.insert_reserved.ensures.updates.changed c.insert_reserved.ensures.updates.others in
     kept-newer c.args.nodes.now.slots c.keep_tree.new.nodes.slots c.args.ids.now.slots c.insert_reserved.new.self.slots c.args.pool.now
     c.keep_tree.new.pool c.args.id c.in_ok-kept.kept c.args.b c.index.result.now c.in_ok-root.root c.requires.kept c.requires.held is
-    c.in_ok-root.ensures.keeps c.in_ok-root.ensures.newer a (rw c.make_id.ensures.ids at c.in_ok-kept.ensures.few)
+    c.in_ok-root.ensures.keeps c.in_ok-root.ensures.newer (added (goal.at.returns-clause-kept c).After-insert_reserved)
+    (rw c.make_id.ensures.ids at c.in_ok-kept.ensures.few)
 
 pub returns-clause-held : goal.returns-clause-held
 returns-clause-held c = held-tree c.args.nodes.now.slots c.keep_tree.new.nodes.slots c.args.ids.now.slots c.args.pool.now
@@ -45,10 +49,7 @@ returns-clause-held c = held-tree c.args.nodes.now.slots c.keep_tree.new.nodes.s
 pub returns-clause-added : goal.returns-clause-added
 returns-clause-added c =
     let is = sym (ap (λ (ids : List (Option Root)). root_at ids c.args.id) c.make_id.ensures.ids) ∙ c.index.ensures in
-    let key : c.insert_reserved.result ≡ c.in_ok-kept.kept = omega (arith, c.insert_reserved.ensures.key, c.in_ok-kept.ensures.id) in
-    let a = added-at c.args.ids.now.slots c.make_id.new.ids.slots c.insert_reserved.new.self.slots c.insert_reserved.result
-    c.in_ok-kept.kept c.in_ok-root.root key c.make_id.ensures.ids c.insert_reserved.ensures.was_vacant
-    c.insert_reserved.ensures.updates.changed c.insert_reserved.ensures.updates.others in
     keeps-root c.args.nodes.now.slots c.keep_tree.new.nodes.slots c.args.ids.now.slots c.insert_reserved.new.self.slots c.args.pool.now
     c.keep_tree.new.pool c.args.id c.in_ok-kept.kept c.args.b c.index.result.now c.in_ok-root.root c.requires.kept c.requires.held is
-    c.in_ok-root.ensures.keeps c.in_ok-root.ensures.newer a (rw c.make_id.ensures.ids at c.in_ok-kept.ensures.few)
+    c.in_ok-root.ensures.keeps c.in_ok-root.ensures.newer (added (goal.at.returns-clause-added c).After-insert_reserved)
+    (rw c.make_id.ensures.ids at c.in_ok-kept.ensures.few)

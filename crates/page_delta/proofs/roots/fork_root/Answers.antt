@@ -1,4 +1,4 @@
-use Rattle.std.proofs.Common.{◌≡◌, ℕ, ap, subst, arith}
+use Rattle.std.proofs.Common.{ℕ, ap, subst, arith}
 use Rattle.slab.specs.Slab.{Slab}
 use Rattle.page_delta.specs.Totals.{total}
 use Rattle.page_delta.specs.Nodes.{pages_below}
@@ -8,13 +8,20 @@ use Rattle.page_delta.specs.declared.node.Node.{Node}
 use Rattle.page_delta.specs.declared.roots.Root.{Root}
 use Rattle.page_delta.proofs.Rooted.{kept-live}
 use Rattle.page_delta.proofs.RootCopies.{same-root, few-kept}
-use Rattle.page_delta.proofs.RootCalls.{added-at, kept-added, adds-root, raised, shared-raise, places-raise, len-raise, held-raise, pages-raised, root-raised}
+use Rattle.page_delta.proofs.RootCalls.{Added, added-at, kept-added, adds-root, raised, shared-raise, places-raise, len-raise, held-raise, pages-raised, root-raised}
+use Rattle.page_delta.proofs.roots.fork_root.Goals.{After-insert_reserved}
 use Rattle.page_delta.proofs.roots.fork_root.Goals as goal
 
 pub raise-requires-clause-room : goal.raise-requires-clause-room
 raise-requires-clause-room c =
     let few = few-kept c.args.nodes.now.slots c.args.ids.now.slots c.index-root.result.now.node c.requires.kept in
     omega (arith, few)
+
+added : (c : After-insert_reserved) → Added c.args.ids.now.slots c.insert_reserved.new.self.slots c.in_ok-fork.fork c.index-root.result.now
+added c =
+    let new = c.insert_reserved.ensures in
+    added-at c.args.ids.now.slots c.make_id.new.ids.slots c.insert_reserved.new.self.slots c.insert_reserved.result c.in_ok-fork.fork c.index-root.result.now
+    (omega (arith, new.key, c.in_ok-fork.ensures.id)) c.make_id.ensures.ids new.was_vacant new.updates.changed new.updates.others
 
 pub returns-clause-kept : goal.returns-clause-kept
 returns-clause-kept c =
@@ -23,10 +30,7 @@ returns-clause-kept c =
     let root = c.index-root.result.now in
     let is = rw c.make_id.ensures.ids at c.index-root.ensures in
     let live = kept-live xs ids c.args.id root c.requires.kept is in
-    let key : c.insert_reserved.result ≡ c.in_ok-fork.fork = omega (arith, c.insert_reserved.ensures.key, c.in_ok-fork.ensures.id) in
-    let new = c.insert_reserved.ensures in
-    let a = added-at ids c.make_id.new.ids.slots c.insert_reserved.new.self.slots c.insert_reserved.result c.in_ok-fork.fork root key
-    c.make_id.ensures.ids new.was_vacant new.updates.changed new.updates.others in
+    let a = added (goal.at.returns-clause-kept c).After-insert_reserved in
     let counts : ℕ → ℕ = λ slot. total (slots_in slot) xs in
     let now = ap (λ (n : Slab Node). n.slots) c.raise.ensures in
     rw now (
@@ -44,10 +48,7 @@ returns-clause-added c = λ r r_is.
     let root = c.index-root.result.now in
     let is = rw c.make_id.ensures.ids at c.index-root.ensures in
     let live = kept-live xs ids c.args.id root c.requires.kept is in
-    let key : c.insert_reserved.result ≡ c.in_ok-fork.fork = omega (arith, c.insert_reserved.ensures.key, c.in_ok-fork.ensures.id) in
-    let new = c.insert_reserved.ensures in
-    let a = added-at ids c.make_id.new.ids.slots c.insert_reserved.new.self.slots c.insert_reserved.result c.in_ok-fork.fork root key
-    c.make_id.ensures.ids new.was_vacant new.updates.changed new.updates.others in
+    let a = added (goal.at.returns-clause-added c).After-insert_reserved in
     let now = ap (λ (n : Slab Node). n.slots) c.raise.ensures in
     let eq = same-root root r _ is r_is in
     rw now (

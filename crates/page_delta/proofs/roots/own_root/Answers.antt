@@ -32,7 +32,8 @@ copied c = record {
 }
 
 pub lower-requires-clause-some : goal.lower-requires-clause-some
-lower-requires-clause-some c = root-some c.args.nodes.now.slots c.copy-own.new.nodes.slots c.args.ids.now.slots c.args.id c.copy-own.result c.index.result.now c.index_mut.result.now (copied c)
+lower-requires-clause-some c = root-some c.args.nodes.now.slots c.copy-own.new.nodes.slots c.args.ids.now.slots c.args.id c.copy-own.result c.index.result.now c.index_mut.result.now
+    (copied (goal.at.lower-requires-clause-some c).After-index_mut)
 
 pub returns-clause-kept : goal.returns-clause-kept
 returns-clause-kept c =

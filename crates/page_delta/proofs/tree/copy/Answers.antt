@@ -1,16 +1,11 @@
-use Rattle.std.proofs.Common.{◌≡◌, ◌∙◌, ℕ, Some, refl, sym, ap}
+use Rattle.std.proofs.Common.{◌∙◌, Some, sym, ap}
 use Rattle.page_pool.specs.Pool.{count_at}
-use Rattle.page_delta.specs.Nodes.{child_in, entry_in, width, recount}
-use Rattle.page_delta.specs.declared.node.Node.{Node}
-use Rattle.page_delta.specs.declared.node.Node.TheVariants.{Branch, Leaf}
+use Rattle.page_delta.specs.Nodes.{child_in, entry_in, width}
 use Rattle.page_delta.proofs.Sharing.{child-recounted, entry-recounted}
 use Rattle.page_delta.proofs.Looks.{child-live}
-use Rattle.page_delta.proofs.Copies.{entry-live, shared-copy, looks-copy, alike-copy}
+use Rattle.page_delta.proofs.Copies.{IsCopied, entry-live, shared-copy, looks-copy, alike-copy, width-recount}
+use Rattle.page_delta.proofs.tree.copy.Goals.{After-put}
 use Rattle.page_delta.proofs.tree.copy.Goals as goal
-
-width-recount : (node : Node) (count : ℕ) → width (recount node count) ≡ width node
-width-recount (Branch before level children) count = refl
-width-recount (Leaf before entries) count = refl
 
 pub share-requires-clause-wide : goal.share-requires-clause-wide
 share-requires-clause-wide c =
@@ -26,26 +21,24 @@ share-requires-clause-entries c = λ d entry e.
     entry-live c.args.nodes.now.slots c.args.pool.now c.requires.stands.hands c.requires.stands.loose c.args.node d entry c.requires.stands.shared
     (ap (λ o. entry_in o d) c.index.ensures ∙ sym (entry-recounted (Some c.index.result.now) 1 d) ∙ ap (λ n. entry_in (Some n) d) (sym c.copied-copy.ensures) ∙ e)
 
+copied : (c : After-put) → IsCopied c.args.nodes.now.slots c.share.new.nodes.slots c.put.new.nodes.slots (count_at c.args.pool.now) (count_at c.share.new.pool) c.args.node c.put.result c.index.result.now
+copied c = record {
+  is = c.index.ensures;
+  each = rw c.copied-copy.ensures at c.share.ensures.each;
+  slots = rw c.copied-copy.ensures at c.share.ensures.counts;
+  puts = record { gone = c.put.ensures.fresh; here = rw c.copied-copy.ensures at c.put.ensures.here; rest = c.put.ensures.rest };
+}
+
 pub returns-clause-shared : goal.returns-clause-shared
 returns-clause-shared c = λ hands loose s.
-    let each = rw c.copied-copy.ensures at c.share.ensures.each in
-    let counts = rw c.copied-copy.ensures at c.share.ensures.counts in
-    let here = rw c.copied-copy.ensures at c.put.ensures.here in
-    shared-copy c.args.nodes.now.slots c.share.new.nodes.slots c.put.new.nodes.slots (count_at c.args.pool.now) (count_at c.share.new.pool) hands loose c.args.node c.put.result c.index.result.now s
-    record { is = c.index.ensures; each = each; slots = counts; puts = record { gone = c.put.ensures.fresh; here = here; rest = c.put.ensures.rest } }
+    shared-copy c.args.nodes.now.slots c.share.new.nodes.slots c.put.new.nodes.slots (count_at c.args.pool.now) (count_at c.share.new.pool) hands loose c.args.node c.put.result c.index.result.now s (copied (goal.at.returns-clause-shared c).After-put)
 
 pub returns-clause-looks : goal.returns-clause-looks
 returns-clause-looks c =
-    let each = rw c.copied-copy.ensures at c.share.ensures.each in
-    let counts = rw c.copied-copy.ensures at c.share.ensures.counts in
-    let here = rw c.copied-copy.ensures at c.put.ensures.here in
     looks-copy c.args.nodes.now.slots c.share.new.nodes.slots c.put.new.nodes.slots (count_at c.args.pool.now) (count_at c.share.new.pool) c.requires.stands.hands c.requires.stands.loose c.args.node c.put.result c.index.result.now c.requires.stands.shared
-    record { is = c.index.ensures; each = each; slots = counts; puts = record { gone = c.put.ensures.fresh; here = here; rest = c.put.ensures.rest } }
+    (copied (goal.at.returns-clause-looks c).After-put)
 
 pub returns-clause-alike : goal.returns-clause-alike
 returns-clause-alike c =
-    let each = rw c.copied-copy.ensures at c.share.ensures.each in
-    let counts = rw c.copied-copy.ensures at c.share.ensures.counts in
-    let here = rw c.copied-copy.ensures at c.put.ensures.here in
     alike-copy c.args.nodes.now.slots c.share.new.nodes.slots c.put.new.nodes.slots (count_at c.args.pool.now) (count_at c.share.new.pool) c.requires.stands.hands c.requires.stands.loose c.args.node c.put.result c.index.result.now c.requires.stands.shared
-    record { is = c.index.ensures; each = each; slots = counts; puts = record { gone = c.put.ensures.fresh; here = here; rest = c.put.ensures.rest } }
+    (copied (goal.at.returns-clause-alike c).After-put)

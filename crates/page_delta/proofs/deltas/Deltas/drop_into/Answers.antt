@@ -1,13 +1,13 @@
 use Rattle.std.proofs.Common.{sym, subst}
 use Rattle.page_delta.specs.Delta.{Holds}
-use Rattle.page_delta.proofs.Seen.{held-seen, seen-held, all-dead, unused}
+use Rattle.page_delta.proofs.Seen.{held-viewed, seen-held, all-dead, unused}
 use Rattle.page_delta.proofs.Reached.{no-nodes}
 use Rattle.page_delta.proofs.Calls.{drops}
 use Rattle.page_delta.proofs.deltas.Deltas.drop_into.Goals as goal
 
 pub drop_root-requires-clause-held : goal.drop_root-requires-clause-held
 drop_root-requires-clause-held c =
-    let h0 = held-seen c.self.inside.nodes.slots c.self.inside.ids.slots c.args.pool.now (subst (λ d. Holds c.args.pool.now d) (sym c.self.view_is) c.requires.holds) in
+    let h0 = held-viewed c.self.inside.nodes.slots c.self.inside.ids.slots c.args.pool.now c.self.view_is c.requires.holds in
     h0
 
 pub returns-clause-dropped : goal.returns-clause-dropped

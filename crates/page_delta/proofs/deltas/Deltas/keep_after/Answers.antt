@@ -1,13 +1,12 @@
 use Rattle.std.proofs.Common.{sym, subst}
 use Rattle.page_delta.specs.Delta.{Holds}
-use Rattle.page_delta.proofs.Seen.{held-seen, seen-held}
+use Rattle.page_delta.proofs.Seen.{held-viewed, seen-held}
 use Rattle.page_delta.proofs.KeepCalls.{keeps, undone}
 use Rattle.page_delta.proofs.deltas.Deltas.keep_after.Goals as goal
 use Rattle.format_spec.proofs.Lists.{on_err}
 
 pub keep_root-requires-clause-held : goal.keep_root-requires-clause-held
-keep_root-requires-clause-held c = held-seen c.self.inside.nodes.slots c.self.inside.ids.slots c.args.pool.now
-    (subst (λ d. Holds c.args.pool.now d) (sym c.self.view_is) c.requires.holds)
+keep_root-requires-clause-held c = held-viewed c.self.inside.nodes.slots c.self.inside.ids.slots c.args.pool.now c.self.view_is c.requires.holds
 
 pub returns-clause-kept : goal.returns-clause-kept
 returns-clause-kept c =
