@@ -1,4 +1,4 @@
-use Rattle.std.proofs.Common.{None, refl, arith}
+use Rattle.std.proofs.Common.{ℕ, None, refl, arith}
 use Rattle.page_delta.specs.Totals.{total}
 use Rattle.page_delta.specs.Roots.{roots}
 use Rattle.page_delta.proofs.Pools.{recounts-release, keeps-trans}
