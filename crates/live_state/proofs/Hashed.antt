@@ -20,9 +20,9 @@ use Rattle.tree_spec.specs.Witness.{witness}
 use Rattle.tree_spec.specs.Labelled.{state_tree}
 use Rattle.tree_spec.specs.Tree.{Tree, reconstruct}
 use Rattle.sys_state.specs.System.{System, part_of, kept_of}
-use Rattle.live_state.proofs.MemoryLines.{parts_of_state}
 use Rattle.live_state.specs.StateKept.{StateView, KeepsState}
-use Rattle.live_state.specs.Sizes.{HaveSizes}
+use Rattle.sys_state.specs.Memories.{HaveSizes}
+use Rattle.sys_state.proofs.OfState.{parts_of_state}
 
 pub root_is : (s : State) (man : Manifest) (meta : MetaManifest) (r : Bytes) → man ≡ manifest_of s → meta ≡ meta_of man → r ≡ root_of_meta meta → r ≡ root_of s
 unfolding root_of

@@ -13,7 +13,7 @@ use Rattle.sys_state.specs.declared.record.CanisterRecord.{CanisterRecord}
 use Rattle.machine_spec.specs.Machine.{Machine}
 use Rattle.machine_spec.specs.States.{canister_in, with_canister, without_canister, newborn}
 use Rattle.live_state.specs.StateKept.{StateView, KeepsState, live_of}
-use Rattle.live_state.proofs.Splits.{images, find_images, put_images, without_images, comes, stays}
+use Rattle.state_spec.proofs.Images.{images, find_images, put_images, without_images, comes, stays}
 use Rattle.state_spec.proofs.Places.{sorted_put, sorted_without}
 use Rattle.state_spec.proofs.Keys.{ids_total}
 

@@ -1,10 +1,8 @@
 pub mod Grown
 pub mod Hashed
-pub mod Indexed
 pub mod Keeping
 pub mod Lines
 pub mod MemoryLines
 pub mod Pairs
 pub mod Sized
-pub mod Splits
 pub mod Stepped

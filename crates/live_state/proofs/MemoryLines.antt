@@ -1,12 +1,12 @@
 -- The steps of `grow`, `write` and `read` beside what the manager does.
-use Rattle.std.proofs.Common.{◌≡◌, ◌≤◌, ◌<◌, ◌+◌, ◌-◌, ◌*◌, ◌==◌, max, ℕ, Bool, true, false, List, [], ◌∷◌, ◌++◌, length, map, get_or, set, take, drop, Option, Some, None, Result, refl, ◌∙◌, ap, sym, subst, arith, nat_lt}
+use Rattle.std.proofs.Common.{◌≡◌, ◌≤◌, ◌<◌, ◌+◌, ◌-◌, ◌*◌, ◌==◌, max, ℕ, Bool, true, false, List, [], ◌∷◌, ◌++◌, length, get_or, set, take, drop, Option, Some, None, Result, refl, ◌∙◌, ap, sym, subst, arith, nat_lt}
 use Rattle.std.proofs.lemmas.Bool.{le-ltb, ltb-false, lt-ltb}
 use Rattle.std.specs.Option.{option_map}
 use Rattle.std.specs.Prelude.{if◌then◌else◌}
 use Rattle.byte_codec.specs.declared.error.NoMemory.{NoMemory}
 use Rattle.format_spec.specs.Bytes.{Bytes, bytes_cmp}
 use Rattle.format_spec.specs.declared.limits.TheConstants.{PAGE_SIZE, MAX_MEMORY_PAGES}
-use Rattle.state_spec.specs.State.{State, Canister, CanisterPart, Memory, SystemPart, bytes_in, heap_bytes, stable_bytes, system_of, part_of, pages_of, memory_limit, state_limit, all_pages as pages_in_all}
+use Rattle.state_spec.specs.State.{State, Canister, Memory, SystemPart, bytes_in, heap_bytes, stable_bytes, pages_of, memory_limit, state_limit, all_pages as pages_in_all}
 use Rattle.std.proofs.lemmas.List.{length-map}
 use Rattle.script_text.specs.declared.reply.Reply.TheVariants as replies
 use Rattle.state_spec.specs.Memory.{read, grow, write, zeros, pages_for}
@@ -15,7 +15,7 @@ use Rattle.sys_state.specs.Calls as calls
 use Rattle.state_spec.specs.Places.{place_of, Stands}
 use Rattle.state_spec.proofs.FileOrder.{length-in_turn, in_turn-append}
 use Rattle.sys_state.specs.System as systems
-use Rattle.sys_state.specs.System.{System, kept_of, record_of, part_of_record}
+use Rattle.sys_state.specs.System.{System, record_of}
 use Rattle.sys_state.specs.declared.error.SysError.{SysError}
 use Rattle.sys_state.specs.declared.error.SysError.TheVariants as errors
 use Rattle.sys_state.specs.declared.mem.Mem.{Mem}
@@ -30,24 +30,13 @@ use Rattle.machine_spec.specs.States.{canister_in, with_canister, memory_of, wit
 use Rattle.live_state.specs.Changes.{Alters}
 use Rattle.live_state.specs.StateKept.{StateView, KeepsState, AfterState, live_of}
 use Rattle.live_state.specs.Memories.{pages_more, bytes_after_write, write_refusal}
-use Rattle.live_state.specs.Places.{index_of}
-use Rattle.live_state.proofs.Indexed.{pick, heap_with, stable_with, pair_get, pair_set}
+use Rattle.sys_state.specs.Memories.{index_of}
+use Rattle.sys_state.proofs.Indexed.{pick, heap_with, stable_with, pair_get, pair_set}
 use Rattle.live_state.proofs.Keeping.{SameBeside, found_there, kept_same, kept_change}
-use Rattle.live_state.proofs.Splits.{stays}
+use Rattle.state_spec.proofs.Images.{stays}
 use Rattle.live_state.proofs.Lines.{Same}
 use Rattle.live_state.proofs.Stepped.{alters_two}
-
--- ---- the parts of a state
-
-parts_twice : (cs : List (Bytes × Canister)) → map {B = Bytes × CanisterPart} (λ (c : Bytes × CanisterRecord). (c.0, part_of_record c.1)) (map {B = Bytes × CanisterRecord} (λ (c : Bytes × Canister). (c.0, record_of c.1)) cs) ≡ map {B = Bytes × CanisterPart} (λ (c : Bytes × Canister). (c.0, part_of c.1)) cs
-parts_twice [] = refl
-parts_twice (c ∷ cs) =
-    let first : Bytes × CanisterPart = (c.0, part_of c.1) in
-    ap (λ (t : List (Bytes × CanisterPart)). first ∷ t) (parts_twice cs)
-
-pub parts_of_state : (s : State) → systems.part_of (kept_of s) ≡ system_of s
-unfolding system_of
-parts_of_state s = ap (λ (cs : List (Bytes × CanisterPart)). record { time = s.time; canisters = cs; entries = s.entries }) (parts_twice s.canisters)
+use Rattle.sys_state.proofs.OfState.{parts_of_state}
 
 -- the canister of the state that a record stands for
 pub found_canister : (o : Option Canister) (r : CanisterRecord) → option_map record_of o ≡ Some r → (c : Canister) × (o ≡ Some c) × (record_of c ≡ r)

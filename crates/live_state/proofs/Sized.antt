@@ -18,9 +18,8 @@ use Rattle.sys_state.specs.declared.record.CanisterRecord.{CanisterRecord}
 use Rattle.script_text.specs.declared.reply.Reply.{Reply}
 use Rattle.live_state.specs.Changes.{Alters}
 use Rattle.live_state.specs.Memories.{pages_more, bytes_after_write}
-use Rattle.live_state.specs.Places.{index_of}
-use Rattle.live_state.specs.Sizes.{HaveSizes}
-use Rattle.live_state.proofs.Indexed.{sized_create, sized_remove, sized_same, sized_change, set_bytes, set_same, vector_size, size_at}
+use Rattle.sys_state.specs.Memories.{index_of, HaveSizes}
+use Rattle.sys_state.proofs.Indexed.{sized_create, sized_remove, sized_same, sized_change, set_bytes, set_same, vector_size, size_at}
 use Rattle.live_state.proofs.MemoryLines.{write_is, some_bytes}
 use Rattle.live_state.proofs.Stepped.{alters_keeps, alters_map}
 

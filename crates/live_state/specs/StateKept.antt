@@ -12,7 +12,7 @@ use Rattle.script_text.specs.declared.command.Command.{Command}
 use Rattle.script_text.specs.declared.reply.Reply.{Reply}
 use Rattle.machine_spec.specs.Machine.{Machine, Outcome}
 use Rattle.machine_spec.specs.Step.{step}
-use Rattle.live_state.specs.Sizes.{HaveSizes}
+use Rattle.sys_state.specs.Memories.{HaveSizes}
 
 -- the state but for its memories, their bytes in the order of files, and its height
 pub record StateView : Type 0 where

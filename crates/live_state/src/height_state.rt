@@ -15,8 +15,7 @@ ghost use Rattle.machine_spec.specs.LiveSteps.{read_reply};
 ghost use Rattle.machine_spec.specs.Machine.{Machine};
 ghost use Rattle.machine_spec.specs.States.{empty_state};
 ghost use Rattle.machine_spec.specs.WitnessSteps.{witness_text};
-ghost use Rattle.live_state.specs.Places.{index_of};
-ghost use Rattle.live_state.specs.Sizes.{HaveSizes};
+ghost use Rattle.sys_state.specs.Memories.{index_of, HaveSizes};
 ghost use Rattle.live_state.specs.StateKept.{KeepsState, PerformsState, live_of};
 
 use crate::canisters::{create_canister, remove_canister};

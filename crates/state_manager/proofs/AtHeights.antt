@@ -19,9 +19,9 @@ use Rattle.height_store.specs.Store.{StoredHeight, height_at, heights_in}
 use Rattle.height_store.specs.Known.{KnowsHeight}
 use Rattle.machine_spec.specs.Machine.{start, newest}
 use Rattle.machine_spec.specs.States.{empty_state}
-use Rattle.live_state.specs.Sizes.{HaveSizes}
+use Rattle.sys_state.specs.Memories.{HaveSizes}
 use Rattle.live_state.specs.StateKept.{StateView, KeepsState, live_of}
-use Rattle.live_state.proofs.Splits.{sorted_images}
+use Rattle.state_spec.proofs.Images.{sorted_images}
 
 -- ---- heights, one by one
 

@@ -9,7 +9,7 @@ use Rattle.sys_state.specs.System.{System, part_of}
 use Rattle.whole_state.specs.Whole.{HasParts}
 use Rattle.machine_spec.specs.Costs.{whole_bytes}
 use Rattle.live_state.specs.StateKept.{StateView, KeepsState}
-use Rattle.live_state.proofs.MemoryLines.{parts_of_state}
+use Rattle.sys_state.proofs.OfState.{parts_of_state}
 
 pub has_parts : (held : StateView) (k : ℕ × State) → KeepsState held k → (system : System) (memories : List Bytes) → held.system ≡ system → held.memories ≡ memories → HasParts k.1 system memories
 has_parts held k keeps system memories one all = record {

@@ -25,12 +25,13 @@ use Rattle.script_text.specs.declared.reply.Reply.TheVariants as replies
 use Rattle.script_text.specs.declared.reply.Refusal.TheVariants.{NoCanister, PastEnd}
 use Rattle.machine_spec.specs.LiveSteps.{reply_of_bytes, reply_of_canister, read_reply}
 use Rattle.machine_spec.specs.States.{canister_in, memory_of}
-use Rattle.live_state.specs.Places.{index_of}
+use Rattle.sys_state.specs.Memories.{index_of}
 use Rattle.live_state.specs.StateKept.{StateView}
 use Rattle.state_manager.proofs.AtHeights.{opened_kept}
-use Rattle.live_state.proofs.Indexed.{index_within, pair_get, pick, size_at}
+use Rattle.sys_state.proofs.Indexed.{index_within, pair_get, pick, size_at}
 use Rattle.live_state.proofs.Keeping.{Canisters}
-use Rattle.live_state.proofs.MemoryLines.{parts_of_state, reads_bytes, reads_nowhere, reads_past}
+use Rattle.live_state.proofs.MemoryLines.{reads_bytes, reads_nowhere, reads_past}
+use Rattle.sys_state.proofs.OfState.{parts_of_state}
 
 -- ---- states with the same parts and bytes answer the same
 

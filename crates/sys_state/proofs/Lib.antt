@@ -4,3 +4,6 @@ mod Text
 pub mod Entries
 mod Last
 mod Labels
+pub mod MemoryPages
+pub mod Indexed
+pub mod OfState

@@ -2,3 +2,4 @@ pub mod System
 pub mod Calls
 pub mod Reading
 pub mod Fields
+pub mod Memories

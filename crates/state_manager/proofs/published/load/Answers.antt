@@ -2,7 +2,7 @@ use Rattle.std.proofs.Common.{◌≡◌, ◌∙◌, ap, map, sym, subst, arith}
 use Rattle.sys_state.specs.System.{System}
 use Rattle.height_store.specs.KnownLaws.{shown_known}
 use Rattle.height_store.specs.Store.{StoredHeight}
-use Rattle.live_state.specs.Sizes.{HaveSizes}
+use Rattle.sys_state.specs.Memories.{HaveSizes}
 use Rattle.live_state.specs.StateKept.{StateView}
 use Rattle.state_manager.proofs.AtHeights.{have_sizes, height_found, loaded_kept, system_found}
 use Rattle.state_manager.proofs.published.load.Goals as goal

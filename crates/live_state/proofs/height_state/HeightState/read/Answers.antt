@@ -5,8 +5,8 @@ use Rattle.script_text.specs.declared.reply.Refusal.TheVariants as refusals
 use Rattle.machine_spec.specs.LiveSteps.{read_reply}
 use Rattle.state_spec.specs.State.{State}
 use Rattle.live_state.specs.StateKept.{StateView, KeepsState}
-use Rattle.live_state.specs.Places.{index_of}
-use Rattle.live_state.proofs.Indexed.{bytes_at}
+use Rattle.sys_state.specs.Memories.{index_of}
+use Rattle.sys_state.proofs.Indexed.{bytes_at}
 use Rattle.live_state.proofs.MemoryLines.{reads_nowhere, reads_past, reads_bytes}
 use Rattle.live_state.proofs.Sized.{is_within}
 use Rattle.live_state.proofs.height_state.HeightState.read.Goals as goal

@@ -1,7 +1,7 @@
 use Rattle.std.proofs.Common.{map, sym, subst, refl, arith}
 use Rattle.std.proofs.lemmas.List.{length-map}
 use Rattle.live_state.specs.StateKept.{StateView, KeepsState, live_of}
-use Rattle.live_state.proofs.Indexed.{pair_for_each}
+use Rattle.sys_state.proofs.Indexed.{pair_for_each}
 use Rattle.live_state.proofs.Lines.{step_remove}
 use Rattle.live_state.proofs.Sized.{after_remove}
 use Rattle.live_state.proofs.height_state.HeightState.remove.Goals as goal

@@ -1,4 +1,4 @@
--- Canisters with memories beside canisters without, entry by entry.
+-- Entries beside those with other values at the same keys, one by one.
 use Rattle.std.proofs.Common.{◌≡◌, Bool, true, false, not, cond, List, [], ◌∷◌, ◌++◌, ◌&&◌, map, Some, refl, ◌∙◌, ap, sym, subst}
 use Rattle.std.specs.FinMap.{find, put, is_sorted}
 use Rattle.std.specs.FinMap.Entries.{below_all, by_order}

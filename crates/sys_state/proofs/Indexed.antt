@@ -16,8 +16,7 @@ use Rattle.sys_state.specs.System.{System, parts}
 use Rattle.sys_state.specs.declared.mem.Mem.{Mem}
 use Rattle.sys_state.specs.declared.mem.Mem.TheVariants.{Heap, Stable}
 use Rattle.sys_state.specs.declared.record.CanisterRecord.{CanisterRecord}
-use Rattle.live_state.specs.Places.{index_of}
-use Rattle.live_state.specs.Sizes.{HaveSizes}
+use Rattle.sys_state.specs.Memories.{index_of, HaveSizes}
 
 -- of a heap and a stable memory, the one that is meant, and the two with another one in its place
 abbrev pub pick : {X : Type 0} → Mem → X → X → X
