@@ -26,7 +26,8 @@ filter_join : (n : ℕ) (xs ys : List ChunkRow) → filter (λ (r : ChunkRow). r
 filter_join n [] ys = refl
 filter_join n (x ∷ xs) ys = go (x.file == n) (filter_join n xs ys)
   where
-    go : (b : Bool) → filter (λ (r : ChunkRow). r.file == n) (xs ++ ys) ≡ filter (λ (r : ChunkRow). r.file == n) xs ++ filter (λ (r : ChunkRow). r.file == n) ys → cond b (x ∷ filter (λ (r : ChunkRow). r.file == n) (xs ++ ys)) (filter (λ (r : ChunkRow). r.file == n) (xs ++ ys)) ≡ cond b (x ∷ filter (λ (r : ChunkRow). r.file == n) xs) (filter (λ (r : ChunkRow). r.file == n) xs) ++ filter (λ (r : ChunkRow). r.file == n) ys
+    go : (b : Bool) → filter (λ (r : ChunkRow). r.file == n) (xs ++ ys) ≡ filter (λ (r : ChunkRow). r.file == n) xs ++ filter (λ (r : ChunkRow). r.file == n) ys
+        → cond b (x ∷ filter (λ (r : ChunkRow). r.file == n) (xs ++ ys)) (filter (λ (r : ChunkRow). r.file == n) (xs ++ ys)) ≡ cond b (x ∷ filter (λ (r : ChunkRow). r.file == n) xs) (filter (λ (r : ChunkRow). r.file == n) xs) ++ filter (λ (r : ChunkRow). r.file == n) ys
     go true rest = ap (λ (rs : List ChunkRow). x ∷ rs) rest
     go false rest = rest
 

@@ -141,7 +141,9 @@ like_or_meet empty (pruned h) g w e = absurd w
 like_or_meet (fork a b) empty g w e = differ (fork a b) empty tt tt (flip empty_string (fork_string (reconstruct a) (reconstruct b)) (empty-fork (reconstruct a) (reconstruct b))) e
 like_or_meet (fork a b) (fork c d) g w e = by (same_top (fork a b) (fork c d) tt tt e) (λ p. like_or_meet a c g.0 w.0 p) (λ p. like_or_meet b d g.1 w.1 p)
   where
-    by : (fork_string (reconstruct a) (reconstruct b) ≡ fork_string (reconstruct c) (reconstruct d)) ⊎ Meet (hashed_strings (fork a b)) (hashed_strings (fork c d)) → (reconstruct a ≡ reconstruct c → Like a c ⊎ Meet (hashed_strings a) (hashed_strings c)) → (reconstruct b ≡ reconstruct d → Like b d ⊎ Meet (hashed_strings b) (hashed_strings d)) → Like (fork a b) (fork c d) ⊎ Meet (hashed_strings (fork a b)) (hashed_strings (fork c d))
+    by : (fork_string (reconstruct a) (reconstruct b) ≡ fork_string (reconstruct c) (reconstruct d)) ⊎ Meet (hashed_strings (fork a b)) (hashed_strings (fork c d))
+        → (reconstruct a ≡ reconstruct c → Like a c ⊎ Meet (hashed_strings a) (hashed_strings c))
+        → (reconstruct b ≡ reconstruct d → Like b d ⊎ Meet (hashed_strings b) (hashed_strings d)) → Like (fork a b) (fork c d) ⊎ Meet (hashed_strings (fork a b)) (hashed_strings (fork c d))
     by (inr x) l r = inr x
     by (inl s) l r =
         let p = fork_parts (reconstruct a) (reconstruct b) (reconstruct c) (reconstruct d) (hash_length a g.0 ∙ sym (hash_length c (whole_hashes c w.0))) s in
@@ -153,7 +155,9 @@ like_or_meet (labeled l a) empty g w e = differ (labeled l a) empty tt tt (flip 
 like_or_meet (labeled l a) (fork c d) g w e = differ (labeled l a) (fork c d) tt tt (flip (fork_string (reconstruct c) (reconstruct d)) (labeled_string l (reconstruct a)) (fork-labeled (reconstruct c) (reconstruct d) l (reconstruct a))) e
 like_or_meet (labeled l a) (labeled k b) g w e = by (same_top (labeled l a) (labeled k b) tt tt e) (λ p. like_or_meet a b g w p)
   where
-    by : (labeled_string l (reconstruct a) ≡ labeled_string k (reconstruct b)) ⊎ Meet (hashed_strings (labeled l a)) (hashed_strings (labeled k b)) → (reconstruct a ≡ reconstruct b → Like a b ⊎ Meet (hashed_strings a) (hashed_strings b)) → Like (labeled l a) (labeled k b) ⊎ Meet (hashed_strings (labeled l a)) (hashed_strings (labeled k b))
+    by : (labeled_string l (reconstruct a) ≡ labeled_string k (reconstruct b)) ⊎ Meet (hashed_strings (labeled l a)) (hashed_strings (labeled k b))
+        → (reconstruct a ≡ reconstruct b → Like a b ⊎ Meet (hashed_strings a) (hashed_strings b))
+        → Like (labeled l a) (labeled k b) ⊎ Meet (hashed_strings (labeled l a)) (hashed_strings (labeled k b))
     by (inr x) f = inr x
     by (inl s) f =
         let p = labeled_parts l (reconstruct a) k (reconstruct b) (hash_length a g ∙ sym (hash_length b (whole_hashes b w))) s in

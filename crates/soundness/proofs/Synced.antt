@@ -32,7 +32,8 @@ module _ (s : State) (m : MetaManifest) (ps : List Bytes) (root : root_of_meta m
       by_pieces (inr c) = inr (meet_within (map piece_string (pieces_in s)) (map piece_string ps) (hashed_strings s) (root_string m.version m.pieces ∷ map piece_string ps) (in_pieces s) (λ x h. behind_first (root_string m.version m.pieces) (map piece_string ps) x h) c)
       by_pieces (inl e) = inl (ap joined (sym e) ∙ joined_parts PIECE_SIZE (manifest_text (manifest_of s)) (omega arith))
 
-      by : (root_string s.version (meta_of (manifest_of s)).pieces ≡ root_string m.version m.pieces) ⊎ Meet (hashed_strings s) (root_string m.version m.pieces ∷ map piece_string ps) → (joined ps ≡ manifest_text (manifest_of s)) ⊎ Meet (hashed_strings s) (root_string m.version m.pieces ∷ map piece_string ps)
+      by : (root_string s.version (meta_of (manifest_of s)).pieces ≡ root_string m.version m.pieces) ⊎ Meet (hashed_strings s) (root_string m.version m.pieces ∷ map piece_string ps)
+          → (joined ps ≡ manifest_text (manifest_of s)) ⊎ Meet (hashed_strings s) (root_string m.version m.pieces ∷ map piece_string ps)
       by (inr c) = inr c
       by (inl e) =
           let have : m.pieces ≡ map (λ x. sha256 (piece_string x)) ps = sym right ∙ pieces_as ps in

@@ -118,7 +118,9 @@ joined_chunks [] = refl
 joined_chunks (f ∷ fs) =
     flat_map-append (λ (x : Bytes). x) (parts CHUNK_SIZE f.1) (chunks_in fs) ∙ ap (λ (x : Bytes). x ++ joined (chunks_in fs)) (joined_parts CHUNK_SIZE f.1 (omega arith)) ∙ ap (λ (x : Bytes). f.1 ++ x) (joined_chunks fs)
 
-pub same_files : (v w : ℕ) (fs gs : List File) → v ≡ w → length fs < 2 ^ 32 → length gs < 2 ^ 32 → manifest_text (manifest_from v (map sums_of fs)) ≡ manifest_text (manifest_from w (map sums_of gs)) → (map (λ x. be64 (length x)) (contents fs) ≡ map (λ x. be64 (length x)) (contents gs)) × (map chunk_hash (chunks_in fs) ≡ map chunk_hash (chunks_in gs))
+pub same_files : (v w : ℕ) (fs gs : List File) → v ≡ w → length fs < 2 ^ 32 → length gs < 2 ^ 32
+    → manifest_text (manifest_from v (map sums_of fs)) ≡ manifest_text (manifest_from w (map sums_of gs))
+    → (map (λ x. be64 (length x)) (contents fs) ≡ map (λ x. be64 (length x)) (contents gs)) × (map chunk_hash (chunks_in fs) ≡ map chunk_hash (chunks_in gs))
 unfolding manifest_from
 same_files v w fs gs vw lf lg e =
     let s = text_sums (manifest_from v (map sums_of fs)) (manifest_from w (map sums_of gs)) vw (subst (λ (n : ℕ). n < 2 ^ 32) (sym (rows_count fs)) lf) (subst (λ (n : ℕ). n < 2 ^ 32) (sym (rows_count gs)) lg) (rows_32 fs) (rows_32 gs)

@@ -193,7 +193,9 @@ hit_held heights m had i (h ∷ hits) good there = by (h.chunk == i) refl there 
     rest : List (Item × Bytes)
     rest = bytes_of_hits heights hits ++ had
 
-    by : (b : Bool) → (h.chunk == i) ≡ b → (b || list_any (λ j. j == i) (map (λ (g : Hit). g.chunk) hits)) ≡ true → (list_any (λ j. j == i) (map (λ (g : Hit). g.chunk) hits) ≡ true → Holds (rows m) (bytes_of_hits heights hits ++ had) (chunk i)) → Holds (rows m) ((chunk h.chunk, bytes_at heights h.source) ∷ (bytes_of_hits heights hits ++ had)) (chunk i)
+    by : (b : Bool) → (h.chunk == i) ≡ b → (b || list_any (λ j. j == i) (map (λ (g : Hit). g.chunk) hits)) ≡ true
+        → (list_any (λ j. j == i) (map (λ (g : Hit). g.chunk) hits) ≡ true → Holds (rows m) (bytes_of_hits heights hits ++ had) (chunk i))
+        → Holds (rows m) ((chunk h.chunk, bytes_at heights h.source) ∷ (bytes_of_hits heights hits ++ had)) (chunk i)
     by true e f ih =
         let same : h.chunk ≡ i = eqb-true h.chunk i e in
         subst (λ (j : ℕ). Holds (rows m) ((chunk h.chunk, bytes_at heights h.source) ∷ (bytes_of_hits heights hits ++ had)) (chunk j)) same

@@ -87,7 +87,9 @@ module _ (s : State) (m : MetaManifest) (had : List (Item × Bytes)) (valid : Is
       )
       c
 
-  read_or_meet : (joined : Bytes) → (joined ≡ manifest_text (manifest_of s)) ⊎ Meet (hashed_strings s) (root_string m.version m.pieces ∷ map piece_string (pieces_had m had)) → (read_manifest joined ≡ Ok (manifest_of s)) ⊎ Meet (hashed_strings s) (root_string m.version m.pieces ∷ map piece_string (pieces_had m had))
+  read_or_meet : (joined : Bytes)
+      → (joined ≡ manifest_text (manifest_of s)) ⊎ Meet (hashed_strings s) (root_string m.version m.pieces ∷ map piece_string (pieces_had m had))
+      → (read_manifest joined ≡ Ok (manifest_of s)) ⊎ Meet (hashed_strings s) (root_string m.version m.pieces ∷ map piece_string (pieces_had m had))
   read_or_meet joined (inl e) = inl (ap read_manifest e ∙ manifest_only (manifest_of s) (manifest_good s valid))
   read_or_meet joined (inr c) = inr c
 

@@ -118,7 +118,8 @@ module _ (s : State) (had : List (Item × Bytes)) (valid : IsState s) (holds : (
   pub chunks_or_clash : (chunks_had (manifest_of s) had ≡ flat_map (λ f. parts CHUNK_SIZE f.1) (files s)) ⊎ Clash (hashed_strings s) (map item_string had)
   chunks_or_clash = by (or_clash (chunks_had (manifest_of s) had ≡ flat_map (λ f. parts CHUNK_SIZE f.1) (files s)) (hashed_strings s) (map chunk_string (chunks_had (manifest_of s) had)) (state_strings s valid) (chunk_string_bytes (chunks_had (manifest_of s) had) bytes) (chunks_or_meet s (chunks_had (manifest_of s) had) right))
     where
-      by : (chunks_had (manifest_of s) had ≡ flat_map (λ f. parts CHUNK_SIZE f.1) (files s)) ⊎ Clash (hashed_strings s) (map chunk_string (chunks_had (manifest_of s) had)) → (chunks_had (manifest_of s) had ≡ flat_map (λ f. parts CHUNK_SIZE f.1) (files s)) ⊎ Clash (hashed_strings s) (map item_string had)
+      by : (chunks_had (manifest_of s) had ≡ flat_map (λ f. parts CHUNK_SIZE f.1) (files s)) ⊎ Clash (hashed_strings s) (map chunk_string (chunks_had (manifest_of s) had))
+          → (chunks_had (manifest_of s) had ≡ flat_map (λ f. parts CHUNK_SIZE f.1) (files s)) ⊎ Clash (hashed_strings s) (map item_string had)
       by (inl e) = inl e
       by (inr c) = inr (clash_within (hashed_strings s) (map chunk_string (chunks_had (manifest_of s) had)) (map item_string had) among c)
 

@@ -93,7 +93,8 @@ resized cs new before after id c ms n mem more x h split now count size =
     ∙ extended_sizes mem size
     ∙ sym (sizes_are new ∙ ap sizes_of now ∙ in_turn-append heap_size stable_size before ((id, with_more_pages mem more c) ∷ after))
   where
-    extended_sizes : (mem : Mem) → length x ≡ (pages_of mem c + more) * PAGE_SIZE → sizes_of before ++ heap_with mem (c.heap * PAGE_SIZE) (length x) ∷ stable_with mem (c.stable * PAGE_SIZE) (length x) ∷ sizes_of after ≡ sizes_of before ++ (with_more_pages mem more c).heap * PAGE_SIZE ∷ (with_more_pages mem more c).stable * PAGE_SIZE ∷ sizes_of after
+    extended_sizes : (mem : Mem) → length x ≡ (pages_of mem c + more) * PAGE_SIZE
+        → sizes_of before ++ heap_with mem (c.heap * PAGE_SIZE) (length x) ∷ stable_with mem (c.stable * PAGE_SIZE) (length x) ∷ sizes_of after ≡ sizes_of before ++ (with_more_pages mem more c).heap * PAGE_SIZE ∷ (with_more_pages mem more c).stable * PAGE_SIZE ∷ sizes_of after
     extended_sizes Heap e = ap (λ k. sizes_of before ++ k ∷ c.stable * PAGE_SIZE ∷ sizes_of after) e
     extended_sizes Stable e = ap (λ k. sizes_of before ++ c.heap * PAGE_SIZE ∷ k ∷ sizes_of after) e
 

@@ -5,7 +5,8 @@ use Rattle.state_spec.specs.State.{Canister, CanisterPart, State, part_of as can
 use Rattle.sys_state.specs.System.{kept_of, part_of, part_of_record, record_of}
 use Rattle.sys_state.specs.declared.record.CanisterRecord.{CanisterRecord}
 
-parts_twice : (cs : List (Bytes × Canister)) → map {B = Bytes × CanisterPart} (λ (c : Bytes × CanisterRecord). (c.0, part_of_record c.1)) (map {B = Bytes × CanisterRecord} (λ (c : Bytes × Canister). (c.0, record_of c.1)) cs) ≡ map {B = Bytes × CanisterPart} (λ (c : Bytes × Canister). (c.0, canister_part c.1)) cs
+parts_twice : (cs : List (Bytes × Canister))
+    → map {B = Bytes × CanisterPart} (λ (c : Bytes × CanisterRecord). (c.0, part_of_record c.1)) (map {B = Bytes × CanisterRecord} (λ (c : Bytes × Canister). (c.0, record_of c.1)) cs) ≡ map {B = Bytes × CanisterPart} (λ (c : Bytes × Canister). (c.0, canister_part c.1)) cs
 parts_twice [] = refl
 parts_twice (c ∷ cs) =
     let first : Bytes × CanisterPart = (c.0, canister_part c.1) in
