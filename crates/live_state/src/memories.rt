@@ -3,7 +3,7 @@
 ghost use Rattle.std.specs.Prelude.{◌≡◌, ◌+◌, ◌*◌, ◌/◌, ◌<◌, ◌≤◌, ◌∷◌, ◌++◌, [], map, take, drop, length, vec_len, vec_capacity, Some, IfSome, IfOk, OnOk};
 ghost use Rattle.format_spec.specs.declared.limits.TheConstants.{PAGE_SIZE, MAX_MEMORY_PAGES};
 ghost use Rattle.state_spec.specs.Memory.{with_bytes_at, with_zeros_up_to, zeros, pages_for};
-ghost use Rattle.sys_state.specs.Calls.{Changes, with_zeros_up_to as extended_record, extend_refusal, canister_in, pages_of};
+ghost use Rattle.sys_state.specs.Calls.{Changes, with_more_pages, extend_refusal, canister_in, pages_of};
 ghost use Rattle.live_state.specs.Changes.{Alters};
 ghost use Rattle.live_state.specs.Memories.{pages_more, bytes_after_write, write_refusal};
 
@@ -81,7 +81,7 @@ pub fn grow_memory(
 ) -> Result<Reply, NoMemory>
     requires { IfSome (canister_in sys.old id.now) (λ c. vec_len memory.old ≡ pages_of mem c * PAGE_SIZE) }
     ensures { Alters (extend_refusal sys.old id.now mem pages) result
-        (Changes sys.old sys.new id.now (extended_record mem pages) × (memory.new.items ≡ memory.old.items ++ zeros (pages * PAGE_SIZE)))
+        (Changes sys.old sys.new id.now (with_more_pages mem pages) × (memory.new.items ≡ memory.old.items ++ zeros (pages * PAGE_SIZE)))
         ((sys.new ≡ sys.old) × (memory.new.items ≡ memory.old.items)) }
 {
     make_room(memory, pages)?;
@@ -133,7 +133,7 @@ fn write_within(
     requires within { at + length bytes.now ≤ MAX_MEMORY_PAGES * PAGE_SIZE }
     ensures { let more = pages_more (vec_len memory.old / PAGE_SIZE) at (length bytes.now) in
         Alters (extend_refusal sys.old id.now mem more) result
-        (Changes sys.old sys.new id.now (extended_record mem more) × (memory.new.items ≡ bytes_after_write memory.old.items at bytes.now))
+        (Changes sys.old sys.new id.now (with_more_pages mem more) × (memory.new.items ≡ bytes_after_write memory.old.items at bytes.now))
         ((sys.new ≡ sys.old) × (memory.new.items ≡ memory.old.items)) }
 {
     let pages = missing_pages(memory.len(), at, bytes.len());
@@ -157,7 +157,7 @@ pub fn write_memory(
     requires { IfSome (canister_in sys.old id.now) (λ c. vec_len memory.old ≡ pages_of mem c * PAGE_SIZE) }
     ensures { let pages = vec_len memory.old / PAGE_SIZE in
         Alters (write_refusal sys.old id.now mem pages offset (length bytes.now)) result
-        (Changes sys.old sys.new id.now (extended_record mem (pages_more pages offset (length bytes.now))) × (memory.new.items ≡ bytes_after_write memory.old.items offset bytes.now))
+        (Changes sys.old sys.new id.now (with_more_pages mem (pages_more pages offset (length bytes.now))) × (memory.new.items ≡ bytes_after_write memory.old.items offset bytes.now))
         ((sys.new ≡ sys.old) × (memory.new.items ≡ memory.old.items)) }
 {
     let limit = (MAX_MEMORY_PAGES * PAGE_SIZE) as u64;
