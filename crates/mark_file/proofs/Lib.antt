@@ -1,5 +1,4 @@
 pub mod Looping
-pub mod Counting
 pub mod MemoryLaws
 pub mod Bodies
 pub mod Wholes

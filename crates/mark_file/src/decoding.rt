@@ -9,12 +9,12 @@ use crate::ending::{ending, root_hash};
 use crate::error::{MarkError, Stop};
 use crate::fields::{hashed_body, read_head, read_parts};
 use crate::mark::Mark;
-use crate::memories::{pages_of_memories, read_mems};
+use crate::memories::read_mems;
 use byte_codec::{Blob, Reader, is_same};
 use format_spec::{MAX_HEIGHT, VERSION};
 use hash_domain::chunk_hashes;
 use std::alloc::Global;
-use sys_state::SysState;
+use sys_state::{SysState, memory_pages};
 
 impl Mark {
     /// The mark of this height that the bytes spell. Memory is taken for what was read, and not for what a count says.
@@ -68,7 +68,7 @@ fn read_body(alloc: Global, height: u64, body: &[u8]) -> Result<(Mark, SysState)
     let mut reader = Reader::new(body);
     let system = read_head(&mut reader, height)?;
     let sys = read_parts(alloc, system, height)?;
-    let pages = pages_of_memories(alloc, &sys)?;
+    let pages = memory_pages(alloc, &sys)?;
     let mems = read_mems(alloc, &mut reader, &pages)?;
     let system_sums = chunk_hashes(alloc, system)?;
     let root = root_hash(alloc, system, &sys, &mems)?;

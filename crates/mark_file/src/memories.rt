@@ -1,34 +1,16 @@
 //! The memories of a mark.
 
-ghost use Rattle.std.specs.Prelude.{◌≡◌, [], length, map, IfOk};
+ghost use Rattle.std.specs.Prelude.{◌≡◌, [], length};
 ghost use Rattle.format_spec.specs.Fields.{each, field, block, any};
-ghost use Rattle.state_spec.specs.Files.{memories_in};
-ghost use Rattle.sys_state.specs.System.{part_of};
 ghost use Rattle.mark_file.specs.Reading.{layer_after, hash_after, memory_of, memory_after};
 ghost use Rattle.byte_codec.specs.Gives.{Gives};
 
 use crate::fields::{read_layer, read_layer_count};
 use crate::mark::MarkMem;
-use byte_codec::{FieldError, NoMemory, Reader};
+use byte_codec::{FieldError, Reader};
 use format_spec::CHUNK_PAGES;
 use hash_domain::{Hash32, read_hash};
 use std::alloc::Global;
-use sys_state::SysState;
-
-/// The pages of each memory, heap and stable memory of each canister in order of ids.
-pub(crate) fn pages_of_memories(alloc: Global, sys: &SysState) -> Result<Vec<u32>, NoMemory>
-    ensures { IfOk result (λ pages. pages.items ≡ map (λ memory. memory.1) (memories_in (part_of sys.now))) }
-{
-    let mut pages = Vec::new(alloc);
-    for i in 0..sys.canisters() {
-        let Some((_, canister)) = sys.canister_at(i) else {
-            unreachable!();
-        };
-        pages.push(canister.heap)?;
-        pages.push(canister.stable)?;
-    }
-    Ok(pages)
-}
 
 /// What a mark says of memories of so many pages.
 pub(crate) fn read_mems(

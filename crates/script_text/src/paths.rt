@@ -9,9 +9,9 @@ ghost use Rattle.script_text.specs.Words.{is_label_byte, plain_label, such_that,
 
 use crate::path_list::Paths;
 use byte_codec::{Blob, HexError, NoMemory, hex_bytes};
-use format_spec::{MAX_LABEL, MAX_PATHS};
+use format_spec::MAX_PATHS;
 use std::alloc::Global;
-use sys_state::Path;
+use sys_state::{Path, is_good_label};
 
 fn are_label_bytes(word: &[u8]) -> bool
     ensures { result ≡ list_all is_label_byte word.now }
@@ -19,13 +19,6 @@ fn are_label_bytes(word: &[u8]) -> bool
     word.iter().all(
         |byte| matches!(*byte, b'a'..=b'z' | b'A'..=b'Z' | b'0'..=b'9' | b'_' | b'-' | b'.'),
     )
-}
-
-// Whether a label may have these bytes: 1 to 64.
-fn is_good_label(bytes: &[u8]) -> bool
-    ensures { result ≡ is_label bytes.now }
-{
-    0 < bytes.len() && bytes.len() <= MAX_LABEL
 }
 
 // A label as it is.

@@ -35,11 +35,10 @@ impl Model for Path {
     ghost invariant = { λ path. IsTrue (is_path path.labels.items) × AllByRecursion IsBytes path.labels.items };
 }
 
-fn is_good_label(label: &Blob) -> bool
-    ensures test { result ≡ is_label label.now }
-    ensures bytes { IsBytes label.now }
+/// Whether a label may have these bytes: 1 to 64.
+pub fn is_good_label(bytes: &[u8]) -> bool
+    ensures { result ≡ is_label bytes.now }
 {
-    let bytes = label.bytes();
     0 < bytes.len() && bytes.len() <= MAX_LABEL
 }
 
@@ -52,7 +51,7 @@ impl Path {
             return None;
         }
         for label in &labels {
-            if !is_good_label(label) {
+            if !is_good_label(label.bytes()) {
                 return None;
             }
         }

@@ -1,4 +1,4 @@
-use Rattle.mark_file.proofs.Counting.{pages_more}
+use Rattle.sys_state.proofs.MemoryPages.{pages_more}
 use Rattle.height_store.proofs.pages.pages_of_memories.Goals as goal
 
 pub loop-i-preserved : goal.loop-i-preserved

@@ -1,5 +1,5 @@
 use Rattle.std.proofs.Common.{◌≡◌, take}
-use Rattle.mark_file.proofs.Counting.{pages_in}
+use Rattle.sys_state.proofs.MemoryPages.{pages_in}
 use Rattle.height_store.proofs.pages.pages_of_memories.Given as goal
 
 abbrev pub invariant-loop-i : goal.invariant-loop-i

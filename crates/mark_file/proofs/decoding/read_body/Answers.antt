@@ -30,7 +30,7 @@ returns-in_err-mems c =
     rw (p.1, p.2)
     (refused (IsBothBody c.args.height c.args.body.now) (SpellsBody c.args.height c.args.body.now) c.in_err-mems.field-0.0 (read_memories c.deref.result.now c.read_head.new.reader) c.in_err-mems.ensures
     (memories_must c.args.height c.args.body.now c.requires.at_most c.new-reader.result c.new-reader.ensures c.in_ok-system.system.now c.read_head.new.reader c.in_ok-system.ensures
-    (part_of c.in_ok-sys.sys) c.in_ok-sys.ensures.gives c.deref.result.now (c.deref.ensures.value ∙ c.in_ok-pages.ensures)))
+    (part_of c.in_ok-sys.sys) c.in_ok-sys.ensures.gives c.deref.result.now (c.deref.ensures.value ∙ c.in_ok-pages.ensures.pages)))
 
 pub root_hash-requires-clause-text : goal.root_hash-requires-clause-text
 root_hash-requires-clause-text c =
@@ -41,13 +41,13 @@ pub root_hash-requires-clause-fit : goal.root_hash-requires-clause-fit
 root_hash-requires-clause-fit c =
     subst (λ (ms : List MarkMemory). FitSums (part_of c.in_ok-sys.sys) (map (λ (m : MarkMemory). m.sums) ms)) (sym c.deref-2.ensures.value)
     (hashes_fit c.args.height c.args.body.now c.requires.at_most c.new-reader.result c.new-reader.ensures c.in_ok-system.system.now c.read_head.new.reader c.in_ok-system.ensures
-    (part_of c.in_ok-sys.sys) c.in_ok-sys.ensures.gives c.deref.result.now (c.deref.ensures.value ∙ c.in_ok-pages.ensures) c.in_ok-mems.mems.items c.read_mems.new.reader c.in_ok-mems.ensures
+    (part_of c.in_ok-sys.sys) c.in_ok-sys.ensures.gives c.deref.result.now (c.deref.ensures.value ∙ c.in_ok-pages.ensures.pages) c.in_ok-mems.mems.items c.read_mems.new.reader c.in_ok-mems.ensures
     (λ i. omega (arith, c.type_inv.body i)))
 
 pub returns-then-not-is_same : goal.returns-then-not-is_same
 returns-then-not-is_same c =
     ends_differ c.args.height c.args.body.now c.requires.at_most c.new-reader.result c.new-reader.ensures c.in_ok-system.system.now c.read_head.new.reader c.in_ok-system.ensures
-    (part_of c.in_ok-sys.sys) c.in_ok-sys.ensures.gives c.deref.result.now (c.deref.ensures.value ∙ c.in_ok-pages.ensures) c.in_ok-mems.mems.items c.read_mems.new.reader c.in_ok-mems.ensures
+    (part_of c.in_ok-sys.sys) c.in_ok-sys.ensures.gives c.deref.result.now (c.deref.ensures.value ∙ c.in_ok-pages.ensures.pages) c.in_ok-mems.mems.items c.read_mems.new.reader c.in_ok-mems.ensures
     c.rest.result.now c.deref-4.result.now c.in_ok-system_sums.system_sums.items c.in_ok-root.root c.rest.ensures.value
     (c.deref-4.ensures.value ∙ c.in_ok-end.ensures ∙ ap (λ (hs : List Bytes). hashes_text hs ++ c.in_ok-root.root) c.deref-3.ensures.value)
     c.in_ok-system_sums.ensures (c.in_ok-root.ensures ∙ ap (root_from (part_of c.in_ok-sys.sys)) c.deref-2.ensures.value)
@@ -56,7 +56,7 @@ returns-then-not-is_same c =
 pub returns : goal.returns
 returns c =
     let mark = ends_agree c.args.height c.args.body.now c.requires.at_most c.new-reader.result c.new-reader.ensures c.in_ok-system.system.now c.read_head.new.reader c.in_ok-system.ensures
-    (part_of c.in_ok-sys.sys) c.in_ok-sys.ensures.gives c.deref.result.now (c.deref.ensures.value ∙ c.in_ok-pages.ensures) c.in_ok-mems.mems.items c.read_mems.new.reader c.in_ok-mems.ensures
+    (part_of c.in_ok-sys.sys) c.in_ok-sys.ensures.gives c.deref.result.now (c.deref.ensures.value ∙ c.in_ok-pages.ensures.pages) c.in_ok-mems.mems.items c.read_mems.new.reader c.in_ok-mems.ensures
     c.rest.result.now c.deref-4.result.now c.in_ok-system_sums.system_sums.items c.in_ok-root.root c.rest.ensures.value
     (c.deref-4.ensures.value ∙ c.in_ok-end.ensures ∙ ap (λ (hs : List Bytes). hashes_text hs ++ c.in_ok-root.root) c.deref-3.ensures.value)
     c.in_ok-system_sums.ensures (c.in_ok-root.ensures ∙ ap (root_from (part_of c.in_ok-sys.sys)) c.deref-2.ensures.value)

@@ -1,5 +1,5 @@
-use Rattle.mark_file.proofs.Counting.{pages_more}
-use Rattle.mark_file.proofs.memories.pages_of_memories.Goals as goal
+use Rattle.sys_state.proofs.MemoryPages.{pages_more}
+use Rattle.sys_state.proofs.pages.memory_pages.Goals as goal
 
 pub loop-i-preserved : goal.loop-i-preserved
 loop-i-preserved c =
