@@ -1,12 +1,12 @@
 -- What each call makes of the memory that a map is.
-use Rattle.std.proofs.Common.{◌≡◌, ◌≢◌, ℕ, ◌+◌, ◌*◌, ◌<◌, ◌≤◌, ◌==◌, nat_lt, nat_eq, Bool, true, false, cond, List, [], ◌∷◌, ◌++◌, length, Option, Some, None, inl, inr, refl, sym, ◌∙◌, ap, subst, arith}
+use Rattle.std.proofs.Common.{◌≡◌, ◌≢◌, ℕ, ◌+◌, ◌*◌, ◌<◌, ◌≤◌, ◌==◌, nat_lt, nat_eq, Bool, true, false, cond, List, [], ◌∷◌, ◌++◌, length, take, drop, Option, Some, None, inl, inr, refl, sym, ◌∙◌, ap, subst, arith}
 use Rattle.std.proofs.lemmas.Bool.{cases_Bool, cases_eq, ne_eqb, eq-eqb, lt-ltb, ltb-true, ltb-false}
 use Rattle.std.proofs.lemmas.Grind.{div_ceil_times}
 use Rattle.std.specs.List.{list_any}
 use Rattle.format_spec.specs.Bytes.{Bytes}
 use Rattle.format_spec.specs.declared.limits.TheConstants.{PAGE_SIZE}
 use Rattle.state_spec.specs.State.{Memory}
-use Rattle.state_spec.specs.Memory.{grow, write, pages_between, with_bytes_at, zeros}
+use Rattle.state_spec.specs.Memory.{grow, read, write, pages_between, with_bytes_at, zeros}
 use Rattle.state_spec.proofs.Edits.{extended_enough}
 use Rattle.state_spec.proofs.Memories.{write_none, write_bytes, write_rounds, end_of}
 use Rattle.state_spec.proofs.Rounds.{stamped_find}
@@ -18,7 +18,7 @@ use Rattle.page_map.specs.Maps.{OwnPage, Maps, Map, own_at, stamp_of, if_after}
 use Rattle.page_map.specs.Reads.{IsLive, bytes_of}
 use Rattle.page_map.specs.Changes.{SameMaps, KeepsOthers}
 use Rattle.page_map.specs.Pieces.{touched_pages}
-use Rattle.page_map.specs.Calls.{SameShape, Overwrites, Stamps, Grows, Rebases, HaveRest, ReadAlike}
+use Rattle.page_map.specs.Calls.{ReadsFrom, SameShape, Overwrites, Stamps, Grows, Rebases, HaveRest, ReadAlike}
 use Rattle.page_map.specs.Plain.{plain, SameMap}
 use Rattle.page_map.specs.Memories.{IsMemoryOf, if_above, round_above}
 use Rattle.page_map.specs.Laws.{memory_of_same}
@@ -76,6 +76,9 @@ write_within stamp memory count at (byte ∷ w) long within =
     write_bytes stamp memory at (byte ∷ w) (omega arith) ∙ ap (λ (s : Bytes). with_bytes_at s at (byte ∷ w)) (extended_enough memory.bytes (end_of at (byte ∷ w)) (omega (arith, long, within, ends.1)))
 
 -- ---- calls
+
+pub read_memory : (files : Files) (maps : Maps) (m : Map) (b : ℕ) (memory : Memory) → IsMemoryOf files b (plain maps m) memory → (at count : ℕ) (bytes : Bytes) → ReadsFrom files maps m at count bytes → bytes ≡ read memory at count
+read_memory files maps m b memory is at count bytes reads = reads is.reads.layers is.reads.there ∙ ap (λ (s : Bytes). take count (drop at s)) (sym is.reads.same)
 
 module _ (files : Files) (old new : Maps) (m n : Map) (b : ℕ) (memory : Memory) (is : IsMemoryOf files b (plain old m) memory) where
   pub written_memory : (stamp at : ℕ) (w : Bytes) → IsLive old m → at + length w ≤ m.length * PAGE_SIZE → b < stamp → Overwrites files old new m n at w → Stamps old new m n at (length w) stamp → SameShape m n

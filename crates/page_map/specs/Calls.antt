@@ -1,5 +1,5 @@
 -- What a call makes of the map that it is given.
-use Rattle.std.specs.Prelude.{◌≡◌, ℕ, ◌*◌, ◌<◌, false, List, ◌++◌, length, reverse, Some, if◌then◌else◌}
+use Rattle.std.specs.Prelude.{◌≡◌, ℕ, ◌*◌, ◌<◌, false, List, ◌++◌, length, take, drop, reverse, Some, if◌then◌else◌}
 use Rattle.format_spec.specs.Bytes.{Bytes}
 use Rattle.format_spec.specs.declared.limits.TheConstants.{PAGE_SIZE}
 use Rattle.state_spec.specs.Memory.{with_bytes_at, zeros}
@@ -9,6 +9,10 @@ use Rattle.layer_stack.specs.Stacks.{AreLayers}
 use Rattle.page_map.specs.Maps.{Maps, Map, own_at, stamp_of, is_after}
 use Rattle.page_map.specs.Reads.{page_of, bytes_of}
 use Rattle.page_map.specs.Pieces.{touched_pages}
+
+-- over the layers that these files have, these are so many bytes of a map, from a place on
+abbrev pub ReadsFrom : Files → Maps → Map → ℕ → ℕ → Bytes → Type 0
+ReadsFrom files maps m at count bytes = (layers : List Layer) → AreLayers files m.stack layers → bytes ≡ take count (drop at (bytes_of layers maps m))
 
 -- layers and count of pages are the same
 abbrev pub SameShape : Map → Map → Type 0

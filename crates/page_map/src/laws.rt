@@ -1,20 +1,21 @@
 //! What is so of maps, by the definitions alone.
 ghost use Rattle.std.specs.Prelude.{◌≡◌, ◌≢◌, ℕ, ◌+◌, ◌*◌, ◌<◌, ◌≤◌, Bool, List, length, None};
+ghost use Rattle.std.specs.List.{AllByRecursion};
 ghost use Rattle.format_spec.specs.Bytes.{Bytes};
 ghost use Rattle.format_spec.specs.declared.limits.TheConstants.{PAGE_SIZE};
 ghost use Rattle.state_spec.specs.State.{Memory};
-ghost use Rattle.state_spec.specs.Memory.{grow, write};
+ghost use Rattle.state_spec.specs.Memory.{grow, read, write};
 ghost use Rattle.page_spec.specs.Layers.{Layer, memory_from};
 ghost use Rattle.disk_model.specs.declared.name.Name.{Name};
 ghost use Rattle.disk_model.specs.Files.{Files};
 ghost use Rattle.disk_model.specs.View.{DiskView};
 ghost use Rattle.disk_model.specs.Frame.{TouchesOnly};
-ghost use Rattle.page_file.specs.Files.{NumberedFile};
+ghost use Rattle.page_file.specs.Files.{NumberedFile, IsAsKnown};
 ghost use Rattle.layer_stack.specs.Stacks.{AreLayers};
 ghost use Rattle.page_map.specs.Maps.{Maps, Map, own_at, if_after};
 ghost use Rattle.page_map.specs.Reads.{IsLive, bytes_of};
 ghost use Rattle.page_map.specs.Changes.{SameMaps, KeepsOthers};
-ghost use Rattle.page_map.specs.Calls.{SameShape, Overwrites, Stamps, Grows, HaveRest, Rebases, ReadAlike};
+ghost use Rattle.page_map.specs.Calls.{ReadsFrom, SameShape, Overwrites, Stamps, Grows, HaveRest, Rebases, ReadAlike};
 ghost use Rattle.page_map.specs.Plain.{PlainMap, plain};
 ghost use Rattle.page_map.specs.Memories.{IsMemoryOf, AreSealed};
 ghost use Rattle.page_map.specs.Laws.{SparesFiles};
@@ -54,9 +55,17 @@ pub fn maps_kept_through_calls()
         → SparesFiles given stack → TouchesOnly given old new → AreSealed old.state stack → AreSealed new.state stack }
 {}
 
-/// What a write, a growth, a rebase, a restack and a fork make of the memory that a map is. A written map is the written memory, a grown map the
-/// grown memory; over layers that read as it did, and as a fork, a map is the same memory.
+/// Over files that are as the layers are known, `Pages::read` fills in one way.
+pub fn a_map_reads_as_one()
+    ensures { (files : Files) (maps : Maps) (m : Map) (at count : ℕ) (one other : Bytes) → AllByRecursion (IsAsKnown files) m.stack
+        → ReadsFrom files maps m at count one → ReadsFrom files maps m at count other → one ≡ other }
+{}
+
+/// What is read of a map that is a memory, and what a write, a growth, a rebase, a restack and a fork make of it. What is read are the memory's
+/// bytes; a written map is the written memory, a grown map the grown one; over layers that read as it did, and as a fork, it is the same memory.
 pub fn a_map_is_its_memory_after_its_calls()
+    ensures read { (files : Files) (maps : Maps) (m : Map) (b : ℕ) (memory : Memory) → IsMemoryOf files b (plain maps m) memory
+        → (at count : ℕ) (bytes : Bytes) → ReadsFrom files maps m at count bytes → bytes ≡ read memory at count }
     ensures written { (files : Files) (old new : Maps) (m n : Map) (b : ℕ) (memory : Memory) → IsMemoryOf files b (plain old m) memory
         → (stamp at : ℕ) (w : Bytes) → IsLive old m → at + length w ≤ m.length * PAGE_SIZE → b < stamp → Overwrites files old new m n at w → Stamps old new m n at (length w) stamp → SameShape m n
         → IsMemoryOf files b (plain new n) (write stamp memory at w) }

@@ -1,5 +1,5 @@
 //! Maps of memories' pages.
-ghost use Rattle.std.specs.Prelude.{◌≡◌, ◌≢◌, ℕ, ◌+◌, ◌*◌, ◌≤◌, [], List, length, take, drop, None, IsTrue, IsSome, OnOk, OnErr, IfOk};
+ghost use Rattle.std.specs.Prelude.{◌≡◌, ◌≢◌, ℕ, ◌+◌, ◌*◌, ◌≤◌, [], List, length, None, IsTrue, IsSome, OnOk, OnErr, IfOk};
 ghost use Rattle.std.specs.List.{AllByRecursion};
 ghost use Rattle.format_spec.specs.declared.limits.TheConstants.{PAGE_SIZE as page_size, MAX_MEMORY_PAGES};
 ghost use Rattle.page_spec.specs.Layers.{Layer};
@@ -10,7 +10,7 @@ ghost use Rattle.page_map.specs.Errors.{HasCause};
 ghost use Rattle.page_map.specs.Maps.{owns_at, own_at, if_after};
 ghost use Rattle.page_map.specs.Reads.{IsLive, bytes_of, dirty_of};
 ghost use Rattle.page_map.specs.Changes.{SameMaps, KeepsOthers};
-ghost use Rattle.page_map.specs.Calls.{SameShape, Overwrites, Stamps, Grows, Rebases, ReadAlike};
+ghost use Rattle.page_map.specs.Calls.{ReadsFrom, SameShape, Overwrites, Stamps, Grows, Rebases, ReadAlike};
 ghost use Rattle.page_map.specs.Pieces.{pages_for_read, pages_for_write};
 
 use crate::own::OwnPages;
@@ -112,8 +112,7 @@ impl Pages {
         requires within { at + length into.old ≤ map.now.length * page_size }
         requires kept { IsTrue D.tells → AllByRecursion (IsAsKnown (D.view disk.old).state.files) map.now.stack }
 
-        ensures bytes { IsTrue D.tells → OnOk result ((layers : List Layer) → AreLayers (D.view disk.old).state.files map.now.stack layers
-            → into.new ≡ take (length into.old) (drop at (bytes_of layers self.old map.now))) }
+        ensures bytes { IsTrue D.tells → OnOk result (ReadsFrom (D.view disk.old).state.files self.old map.now at (length into.old) into.new) }
         ensures unchanged { SameMaps self.old self.new }
         ensures looks { IsTrue D.tells → OnlyLooks (page_size * length (pages_for_read self.old map.now.id at (length into.old))) (D.view disk.old) (D.view disk.new) }
         ensures cause { HasCause (D.faults disk.old) (D.faults disk.new) result }

@@ -63,6 +63,18 @@ fn two_layers(alloc: Global, disk: &mut MemDisk) -> Result<Stack, PageError>
     Ok(stack)
 }
 
+// A map of 40 pages over these layers.
+fn map_of_40(alloc: Global, disk: &mut MemDisk) -> Result<(Pages, PageMap), Fail>
+    ensures live { IfOk result (λ made. IsLive made.0 made.1) }
+    ensures size { IfOk result (λ made. made.1.length ≡ 40) }
+    ensures kept { IfOk result (λ made. AllByRecursion (IsAsKnown (mem_view disk.new).state.files) made.1.stack) }
+{
+    let stack = two_layers(alloc, disk)?;
+    let mut pages = Pages::new(alloc, 1)?;
+    let map = pages.over(alloc, stack, 40)?;
+    Ok((pages, map))
+}
+
 // So many bytes, which are all the same.
 fn all_of(alloc: Global, byte: u8, len: usize) -> Result<Vec<u8>, NoMemory>
     ensures { IfOk result (λ bytes. length bytes.items ≡ len) }
@@ -167,9 +179,7 @@ const CASES: [(usize, usize, u64, u32, u32); 11] = [
 fn a_map_reads_as_plain_bytes_and_reads_no_page_in_vain(rt: HostRuntime) -> Result<(), Fail> {
     let alloc = rt.alloc();
     let mut disk = MemDisk::new(alloc, Vec::new(alloc), None);
-    let stack = two_layers(alloc, &mut disk)?;
-    let mut pages = Pages::new(alloc, 1)?;
-    let mut map = pages.over(alloc, stack, 40)?;
+    let (mut pages, mut map) = map_of_40(alloc, &mut disk)?;
     let mut plain = plain_memory(alloc)?;
     let bytes = pattern(alloc)?;
     for i in 0..11 {
@@ -212,9 +222,7 @@ fn fails_and_succeeds(alloc: Global, call: u64, at: usize, bytes: &[u8]) -> Resu
     requires { at + length bytes.now ≤ 163840 }
 {
     let mut disk = MemDisk::new(alloc, Vec::from_slice(alloc, &[call])?, None);
-    let stack = two_layers(alloc, &mut disk)?;
-    let mut pages = Pages::new(alloc, 1)?;
-    let mut map = pages.over(alloc, stack, 40)?;
+    let (mut pages, mut map) = map_of_40(alloc, &mut disk)?;
     let mut plain = plain_memory(alloc)?;
     let failed = write_both(
         alloc, &mut pages, &mut map, &mut disk, &mut plain, at, bytes, 7,

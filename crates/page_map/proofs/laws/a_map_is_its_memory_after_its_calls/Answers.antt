@@ -1,5 +1,8 @@
-use Rattle.page_map.proofs.Memories.{written_memory, grown_memory, rebased_memory, restacked_memory, forked_memory}
+use Rattle.page_map.proofs.Memories.{read_memory, written_memory, grown_memory, rebased_memory, restacked_memory, forked_memory}
 use Rattle.page_map.proofs.laws.a_map_is_its_memory_after_its_calls.Goals as goal
+
+pub returns-clause-read : goal.returns-clause-read
+returns-clause-read c = read_memory
 
 pub returns-clause-written : goal.returns-clause-written
 returns-clause-written c = written_memory
