@@ -1,12 +1,9 @@
 -- What stays so of a live map.
-use Rattle.std.proofs.Common.{◌≡◌, ◌≢◌, ℕ, ◌+◌, ◌*◌, ◌<◌, ◌≤◌, ◌==◌, Bool, true, false, List, [], ◌∷◌, ◌++◌, length, reverse, replicate, Option, Some, None, IsSome, is_some, position, refl, sym, ◌∙◌, ap, subst, arith}
-use Rattle.std.specs.List.{AllByRecursion, flat_map, range_with_len}
-use Rattle.format_spec.specs.Bytes.{Bytes}
-use Rattle.format_spec.specs.declared.limits.TheConstants.{PAGE_SIZE}
+use Rattle.std.proofs.Common.{◌≡◌, ◌≢◌, ℕ, ◌<◌, List, length, reverse, Option, Some, None, IsSome, refl, sym, ◌∙◌, ap, subst}
 use Rattle.page_spec.specs.Layers.{Layer, page_from}
-use Rattle.page_map.specs.Maps.{OwnPage, OwnPages, Maps, Map, owns_at, own_at}
-use Rattle.page_map.specs.Reads.{page_of, bytes_with, bytes_of, AreWhole, IsLive}
-use Rattle.page_map.specs.Changes.{is_live, SameMaps, ChangesOnly, KeepsOthers}
+use Rattle.page_map.specs.Maps.{OwnPage, Maps, Map, owns_at, own_at}
+use Rattle.page_map.specs.Reads.{page_of, bytes_with, bytes_of, IsLive}
+use Rattle.page_map.specs.Changes.{SameMaps, ChangesOnly, KeepsOthers}
 use Rattle.page_map.proofs.Whole.{same_pages}
 
 pub moved : (old new : Maps) (m n : Map) → IsSome (owns_at new n.id) → ((page : ℕ) → own_at new n.id page ≡ own_at old m.id page) → n.stack ≡ m.stack → n.length ≡ m.length → IsLive old m → IsLive new n

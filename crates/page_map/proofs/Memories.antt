@@ -1,6 +1,6 @@
 -- What each call makes of the memory that a map is.
 use Rattle.std.proofs.Common.{◌≡◌, ◌≢◌, ℕ, ◌+◌, ◌*◌, ◌<◌, ◌≤◌, ◌==◌, nat_lt, nat_eq, Bool, true, false, cond, List, [], ◌∷◌, ◌++◌, length, take, drop, Option, Some, None, inl, inr, refl, sym, ◌∙◌, ap, subst, arith}
-use Rattle.std.proofs.lemmas.Bool.{cases_Bool, cases_eq, ne_eqb, eq-eqb, lt-ltb, ltb-true, ltb-false}
+use Rattle.std.proofs.lemmas.Bool.{cases_Bool, cases_eq, ne_eqb, eq-eqb, lt-ltb, ltb-false}
 use Rattle.std.proofs.lemmas.Grind.{div_ceil_times}
 use Rattle.std.specs.List.{list_any}
 use Rattle.format_spec.specs.Bytes.{Bytes}
@@ -15,11 +15,11 @@ use Rattle.disk_model.specs.Files.{Files}
 use Rattle.page_file.specs.Files.{NumberedFile}
 use Rattle.layer_stack.specs.Stacks.{AreLayers}
 use Rattle.page_map.specs.Maps.{OwnPage, Maps, Map, own_at, stamp_of, if_after}
-use Rattle.page_map.specs.Reads.{IsLive, bytes_of}
+use Rattle.page_map.specs.Reads.{IsLive}
 use Rattle.page_map.specs.Changes.{SameMaps, KeepsOthers}
 use Rattle.page_map.specs.Pieces.{touched_pages}
 use Rattle.page_map.specs.Calls.{ReadsFrom, SameShape, Overwrites, Stamps, Grows, Rebases, HaveRest, ReadAlike}
-use Rattle.page_map.specs.Plain.{plain, SameMap}
+use Rattle.page_map.specs.Plain.{plain}
 use Rattle.page_map.specs.Memories.{IsMemoryOf, if_above, round_above}
 use Rattle.page_map.specs.Laws.{memory_of_same}
 use Rattle.page_map.proofs.Lives.{agree}

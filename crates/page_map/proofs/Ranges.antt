@@ -1,8 +1,8 @@
 -- Bytes of a range, page by page.
-use Rattle.std.proofs.Common.{◌≡◌, ◌≢◌, ◌⊎◌, inl, inr, ℕ, zero, suc, ◌+◌, ◌-◌, ◌*◌, ◌/◌, ◌<◌, ◌≤◌, ◌==◌, ◌&&◌, ◌||◌, nat_lt, min, Bool, true, false, not, is_some, cond, List, [], ◌∷◌, ◌++◌, length, take, drop, Option, Some, refl, sym, ◌∙◌, ap, subst, arith}
+use Rattle.std.proofs.Common.{◌≡◌, ◌≢◌, ◌⊎◌, inl, inr, ℕ, zero, suc, ◌+◌, ◌-◌, ◌*◌, ◌/◌, ◌<◌, ◌≤◌, ◌==◌, ◌&&◌, ◌||◌, nat_lt, min, Bool, true, false, not, is_some, cond, List, [], ◌∷◌, ◌++◌, length, take, drop, Option, refl, sym, ◌∙◌, ap, subst, arith}
 use Rattle.std.proofs.lemmas.Bool.{cases_eq, eq-eqb, lt-ltb, le-ltb}
 use Rattle.std.proofs.Math.Seq.{take-add}
-use Rattle.std.proofs.lemmas.List.{map-id, take_all, drop-drop, length-append, length-take, length-drop}
+use Rattle.std.proofs.lemmas.List.{map-id, drop-drop, length-append, length-take, length-drop}
 use Rattle.std.proofs.lemmas.List.FromFn.{filter_of_map_range_with_len_more}
 use Rattle.std.proofs.lemmas.Slice.{take-put_mid}
 use borrow.Rule.Slice.PartMut.{put_mid}
@@ -10,7 +10,7 @@ use Rattle.std.specs.Int.{div_ceil}
 use Rattle.std.specs.List.{filter, range_with_len}
 use Rattle.format_spec.specs.Bytes.{Bytes}
 use Rattle.format_spec.specs.declared.limits.TheConstants.{PAGE_SIZE}
-use Rattle.state_spec.specs.Memory.{with_bytes_at, pages_between, pages_for}
+use Rattle.state_spec.specs.Memory.{with_bytes_at, pages_between}
 use Rattle.page_spec.specs.Layers.{has_page}
 use Rattle.disk_model.specs.View.{DiskView}
 use Rattle.disk_model.specs.Looking.{OnlyLooks, looks_then, looks_more}

@@ -1,8 +1,8 @@
 -- Bytes of a map, page by page.
-use Rattle.std.proofs.Common.{◌≡◌, ◌≢◌, ℕ, zero, suc, ◌+◌, ◌-◌, ◌*◌, ◌<◌, ◌≤◌, ◌==◌, min, List, [], ◌∷◌, ◌++◌, length, reverse, replicate, take, drop, Option, Some, None, position, refl, sym, ◌∙◌, ap, subst, arith, append_assoc}
-use Rattle.std.specs.List.{AllByRecursion, AllZip, flat_map, range_with_len}
-use Rattle.std.proofs.Math.Seq.{take-add, take-append_seam, drop-append_seam, take-append-le, drop-append-le, take-append-add, drop-append-add}
-use Rattle.std.proofs.lemmas.List.{append-nil, take-take, drop-take, drop-drop, take_all, drop_all, take-append-drop, length-append, length-take, length-drop, length-take-le, length-replicate, reverse-append}
+use Rattle.std.proofs.Common.{◌≡◌, ◌≢◌, ℕ, zero, suc, ◌+◌, ◌-◌, ◌*◌, ◌<◌, ◌≤◌, ◌==◌, List, [], ◌∷◌, ◌++◌, length, reverse, take, drop, Option, Some, None, position, refl, sym, ◌∙◌, ap, subst, arith, append_assoc}
+use Rattle.std.specs.List.{AllByRecursion, flat_map, range_with_len}
+use Rattle.std.proofs.Math.Seq.{take-append_seam, take-append-le, drop-append-le, take-append-add, drop-append-add}
+use Rattle.std.proofs.lemmas.List.{append-nil, drop-drop, take-append-drop, length-append, length-take, length-drop, length-take-le, length-replicate, reverse-append}
 use Rattle.std.proofs.lemmas.List.Quantifiers.{position-Some}
 use Rattle.format_spec.specs.Bytes.{Bytes, page_at}
 use Rattle.format_spec.specs.declared.limits.TheConstants.{PAGE_SIZE}
@@ -13,7 +13,7 @@ use Rattle.disk_model.specs.Files.{Files}
 use Rattle.page_file.specs.Files.{NumberedFile}
 use Rattle.layer_stack.specs.Stacks.{AreLayers}
 use Rattle.page_map.specs.Maps.{OwnPage}
-use Rattle.page_map.specs.Reads.{page_of, bytes_with, AreWhole}
+use Rattle.page_map.specs.Reads.{page_of, AreWhole}
 
 -- ---- pages are whole
 

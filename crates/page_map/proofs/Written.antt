@@ -1,8 +1,8 @@
 -- What a write, a growth or another stack makes of a map.
-use Rattle.std.proofs.Common.{◌≡◌, ◌≢◌, ◌⊎◌, inl, inr, ℕ, zero, suc, ◌+◌, ◌-◌, ◌*◌, ◌<◌, ◌≤◌, ◌==◌, nat_lt, min, Bool, true, false, not, cond, List, [], ◌∷◌, ◌++◌, length, reverse, replicate, take, drop, position, Option, Some, None, IsSome, is_some, Result, Ok, Err, IfOk, Vec, Global, refl, sym, ◌∙◌, ap, subst, arith, append_assoc}
+use Rattle.std.proofs.Common.{◌≡◌, ◌≢◌, ◌⊎◌, inl, inr, ℕ, zero, suc, ◌+◌, ◌-◌, ◌*◌, ◌<◌, ◌≤◌, ◌==◌, nat_lt, Bool, true, false, not, cond, List, [], ◌∷◌, ◌++◌, length, reverse, replicate, take, drop, position, Option, Some, None, IsSome, is_some, Result, Ok, Err, IfOk, Vec, Global, refl, sym, ◌∙◌, ap, subst, arith}
 use Rattle.std.proofs.lemmas.Bool.{cases_eq, le-ltb}
-use Rattle.std.proofs.lemmas.List.{append-nil, drop_all, reverse-append, replicate-append-replicate, length-append}
-use Rattle.std.specs.List.{AllByRecursion, filter, flat_map, range_with_len, prefix_len, position_or_len}
+use Rattle.std.proofs.lemmas.List.{append-nil, drop_all, reverse-append, replicate-append-replicate}
+use Rattle.std.specs.List.{AllByRecursion, filter, flat_map, range_with_len, prefix_len}
 use Rattle.byte_codec.specs.declared.error.NoMemory.{NoMemory}
 use Rattle.format_spec.specs.Bytes.{Bytes}
 use Rattle.format_spec.specs.declared.limits.TheConstants.{PAGE_SIZE, MAX_MEMORY_PAGES}
@@ -19,7 +19,6 @@ use Rattle.page_map.specs.Calls.{HaveRest}
 use Rattle.page_map.specs.Pieces.{touched_pages}
 use Rattle.page_map.proofs.Ranges.{has_in, has_out}
 use Rattle.page_map.proofs.Whole.{page_of_long, same_pages, split, pages_long, page_bytes, page_written}
-use Rattle.page_map.proofs.Lives.{same_bytes, moved}
 
 le_or_lt : (a b : ℕ) → (a ≤ b) ⊎ (b < a)
 le_or_lt a b = go (b - a) refl

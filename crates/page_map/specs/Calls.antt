@@ -1,5 +1,5 @@
 -- What a call makes of the map that it is given.
-use Rattle.std.specs.Prelude.{◌≡◌, ℕ, ◌*◌, ◌<◌, false, List, ◌++◌, length, take, drop, reverse, Some, if◌then◌else◌}
+use Rattle.std.specs.Prelude.{◌≡◌, ℕ, ◌*◌, ◌<◌, false, List, ◌++◌, take, drop, reverse, Some, if◌then◌else◌}
 use Rattle.format_spec.specs.Bytes.{Bytes}
 use Rattle.format_spec.specs.declared.limits.TheConstants.{PAGE_SIZE}
 use Rattle.state_spec.specs.Memory.{with_bytes_at, zeros}

@@ -6,10 +6,9 @@ use Rattle.format_spec.specs.Bytes.{Bytes}
 use Rattle.disk_model.specs.declared.name.Name.{Name}
 use Rattle.disk_model.specs.declared.name.Name.TheVariants.{Page}
 use Rattle.disk_model.specs.Files.{Files}
-use Rattle.disk_model.specs.State.{DiskState}
 use Rattle.disk_model.specs.View.{DiskView}
 use Rattle.disk_model.specs.Frame.{TouchesOnly}
-use Rattle.page_file.specs.Files.{NumberedFile, HasPages, IsAsKnown}
+use Rattle.page_file.specs.Files.{NumberedFile}
 use Rattle.layer_stack.specs.Laws.{layers_in_others}
 use Rattle.page_map.specs.Maps.{OwnPage, own_in, stamp_of}
 use Rattle.page_map.specs.Reads.{bytes_with}

@@ -1,5 +1,5 @@
 -- The pages of maps in a pool. No public clause cites this module.
-use Rattle.std.specs.Prelude.{ℕ, List, map, Option, Some, None, option_map}
+use Rattle.std.specs.Prelude.{map, Option, option_map}
 use Rattle.page_pool.specs.Pool.{Pool, bytes_at}
 use Rattle.page_delta.specs.declared.entry.Entry.{Entry}
 use Rattle.page_delta.specs.Delta.{Pages, Deltas}

@@ -1,4 +1,4 @@
-use Rattle.std.proofs.Common.{◌≢◌, ℕ, ◌∙◌, ap, sym}
+use Rattle.std.proofs.Common.{◌∙◌, ap, sym}
 use Rattle.format_spec.specs.Bytes.{Bytes}
 use Rattle.state_spec.specs.Memory.{with_bytes_at}
 use Rattle.page_map.specs.Maps.{own_at}

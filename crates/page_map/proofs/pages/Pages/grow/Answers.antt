@@ -1,7 +1,6 @@
-use Rattle.std.proofs.Common.{◌≡◌, ◌+◌, ◌*◌, ◌++◌, List, subst, sym}
+use Rattle.std.proofs.Common.{◌≡◌, ◌+◌, ◌*◌, ◌++◌, subst, sym}
 use Rattle.format_spec.specs.declared.limits.TheConstants.{PAGE_SIZE}
 use Rattle.state_spec.specs.Memory.{zeros}
-use Rattle.page_spec.specs.Layers.{Layer}
 use Rattle.page_map.specs.Maps.{Map}
 use Rattle.page_map.specs.Reads.{IsLive, bytes_of}
 use Rattle.page_map.proofs.Written.{grown_live, grown_bytes}

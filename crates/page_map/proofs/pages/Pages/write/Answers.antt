@@ -1,8 +1,6 @@
-use Rattle.std.proofs.Common.{◌≡◌, ℕ, ◌+◌, ◌-◌, ◌*◌, ◌<◌, ◌≤◌, length, refl, sym, ◌∙◌, ap, subst, arith}
-use Rattle.format_spec.specs.Bytes.{Bytes}
+use Rattle.std.proofs.Common.{◌≡◌, ℕ, ◌+◌, ◌*◌, ◌≤◌, length, refl, sym, ◌∙◌, ap, subst, arith}
 use Rattle.format_spec.specs.declared.limits.TheConstants.{PAGE_SIZE}
 use Rattle.state_spec.specs.Memory.{with_bytes_at}
-use Rattle.layer_stack.specs.Stacks.{AreLayers}
 use Rattle.page_map.specs.Maps.{Maps, Map, own_at}
 use Rattle.page_map.specs.Reads.{IsLive, bytes_of}
 use Rattle.page_map.specs.Changes.{Writes}
