@@ -4,8 +4,8 @@ use Rattle.std.specs.List.{AllByRecursion, flat_map, range_with_len}
 use Rattle.sha2.specs.Sha256.{sha256}
 use Rattle.format_spec.specs.Bytes.{Bytes, IsBytes, be32, be64, page_at}
 use Rattle.format_spec.specs.declared.limits.TheConstants.{PAGE_SIZE}
-use Rattle.format_spec.proofs.ByteStrings.{cut_bytes, drop_bytes, every, flat_bytes, take_bytes}
-use Rattle.format_spec.proofs.Lists.{all_reversed}
+use Rattle.format_spec.proofs.ByteStrings.{cut_bytes, drop_bytes, flat_bytes, take_bytes}
+use Rattle.format_spec.proofs.Lists.{all_reversed, every}
 use Rattle.state_spec.proofs.Memories.{zeros_bytes}
 use Rattle.page_spec.specs.Layers.{Layer, memory_from, or_else, page_from}
 use Rattle.page_spec.specs.PageFile.{PageIndex, index_text}
