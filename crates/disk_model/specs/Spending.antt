@@ -34,7 +34,7 @@ spends_looks most old new looks = record {
   read_most = looks.read_most;
 }
 
-appended_given : (call : Call) (appended : ℕ) → appended_after call appended ≡ appended + length_given call
+pub appended_given : (call : Call) (appended : ℕ) → appended_after call appended ≡ appended + length_given call
 appended_given look n = omega arith
 appended_given settle n = omega arith
 appended_given (create name) n = omega arith

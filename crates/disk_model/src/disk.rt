@@ -8,6 +8,7 @@ ghost use Rattle.disk_model.specs.View.{DiskView, Does, LooksOrNot, HasCause};
 ghost use Rattle.disk_model.specs.OfBytes.{HoldsBytes};
 
 use crate::{Kind, Name};
+use byte_codec::NoMemory;
 use std::alloc::{AllocError, AllocFailed, Global};
 use thiserror::Error;
 
@@ -20,6 +21,14 @@ pub enum DiskError {
     /// There was no memory for the call, and the disk is unchanged.
     #[error("there was no memory for a call of the disk")]
     Memory,
+}
+
+impl From<NoMemory> for DiskError {
+    ghost from_gives = { λ _ e. e ≡ Memory };
+
+    fn from(_: NoMemory) -> Self {
+        DiskError::Memory
+    }
 }
 
 impl From<AllocError> for DiskError {

@@ -1,13 +1,15 @@
 //! What is so of every disk, by the definitions alone.
-ghost use Rattle.std.specs.Prelude.{◌≡◌, ◌+◌, ◌≤◌, ◌⊎◌, ℕ, Bool, true, false, IsTrue, [], unwrap_or};
+ghost use Rattle.std.specs.Prelude.{◌≡◌, ◌+◌, ◌≤◌, ◌⊎◌, ℕ, Bool, true, false, IsTrue, [], unwrap_or, IsOk, Result};
 ghost use Rattle.disk_model.specs.declared.name.Name.{Name};
 ghost use Rattle.disk_model.specs.Files.{Files};
 ghost use Rattle.disk_model.specs.State.{DiskState, IsImageNow};
 ghost use Rattle.disk_model.specs.Call.{Call, under_way, done, is_given, length_given};
-ghost use Rattle.disk_model.specs.View.{DiskView, moment, IsImageSince, EachImage, LeavesOnly, Done, Failed};
+ghost use Rattle.disk_model.specs.View.{DiskView, moment, IsImageSince, EachImage, LeavesOnly, Done, Failed, Does};
 ghost use Rattle.disk_model.specs.Looking.{OnlyLooks};
 ghost use Rattle.disk_model.specs.Frame.{DependsOnly, Spares, TouchesOnly, Needs};
 ghost use Rattle.disk_model.specs.Spending.{Spends};
+ghost use Rattle.disk_model.specs.Writing.{WritesOnly};
+ghost use Rattle.disk_model.specs.declared.disk.DiskError.{DiskError};
 ghost use Rattle.disk_model.specs.Laws.{IsSound};
 ghost use Rattle.format_spec.specs.Bytes.{IsBytes};
 ghost use Rattle.disk_model.specs.OfBytes.{HoldsBytes, bytes_given};
@@ -49,6 +51,14 @@ pub fn laws_of_spending()
     ensures joined { (a b r q : ℕ) (old mid new : DiskView) → Spends a r old mid → Spends b q mid new → Spends (a + b) (r + q) old new }
     ensures looking { (most : ℕ) (old new : DiskView) → OnlyLooks most old new → Spends 0 most old new }
     ensures call { (call : Call) (old new : DiskView) → Done call old new → Spends (length_given call) 0 old new }
+{}
+
+/// The frame of one call that changes files, and of two runs after each other.
+pub fn laws_of_writing()
+    ensures call { (call : Call) (result : Result (Unit {0}) DiskError) (old new : DiskView) (given : Name → Bool) → ((q : Name) → given q ≡ false → is_given call q ≡ false)
+        → IsSound old.state → Does call result old new → WritesOnly given (length_given call) result old new }
+    ensures joined { (before result : Result (Unit {0}) DiskError) (given : Name → Bool) (a b : ℕ) (old mid new : DiskView) → IsOk before
+        → WritesOnly given a before old mid → WritesOnly given b result mid new → WritesOnly given (a + b) result old new }
 {}
 
 /// A disk of bytes stays one through each call that is given bytes, in the middle of it and after it, and the firm files of its images are of bytes.

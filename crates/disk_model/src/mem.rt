@@ -16,20 +16,9 @@ use crate::files::{
 };
 use crate::image::{chosen_files, spoil_loose};
 use crate::{Disk, DiskError, Kind, Name};
+use byte_codec::NoMemory;
 use std::alloc::{AllocError, Global};
 use std::collections::BTreeMap;
-use thiserror::Error;
-
-/// There was no memory for an image.
-#[derive(Clone, Copy, Debug, PartialEq, Eq, Error)]
-#[error("there was no memory for an image of the disk")]
-pub struct NoMemory;
-
-impl From<AllocError> for NoMemory {
-    fn from(_: AllocError) -> Self {
-        NoMemory
-    }
-}
 
 /// A disk in memory, which fails the calls that it is told to.
 #[derive(Drop)]

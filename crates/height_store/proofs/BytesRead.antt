@@ -9,8 +9,8 @@ use Rattle.state_spec.specs.Files.{memories_in}
 use Rattle.sys_state.specs.System.{System, part_of}
 use Rattle.disk_model.specs.View.{DiskView}
 use Rattle.disk_model.specs.Looking.{OnlyLooks, looks_then, looks_more}
-use Rattle.height_store.specs.Store.{StoredHeight, height_at}
-use Rattle.height_store.specs.Known.{bytes_at}
+use Rattle.height_store.specs.Store.{StoredHeight}
+use Rattle.height_store.specs.Known.{bytes_of}
 use Rattle.state_spec.specs.Memory.{pages_holding}
 
 -- all pages hold a byte of a whole memory
@@ -34,13 +34,8 @@ all_sizes : (ms : List (Bytes × ℕ)) → sum_by sizes (map (λ m. m.1) ms) ≡
 all_sizes [] = refl
 all_sizes (m ∷ ms) = omega (arith, all_sizes ms, sum_by-cons sizes m.1 (map (λ (x : Bytes × ℕ). x.1) ms), sum_by-cons (λ (x : Bytes × ℕ). x.1 * PAGE_SIZE) m ms)
 
-bytes_of : (o : Option StoredHeight) (system : System) → Some system ≡ option_map (λ h. h.system) o → option_map_or (λ h. sum_by (λ (m : Bytes × ℕ). m.1 * PAGE_SIZE) (memories_in (part_of h.system))) o 0 ≡ sum_by (λ (m : Bytes × ℕ). m.1 * PAGE_SIZE) (memories_in (part_of system))
-bytes_of None system is = absurd cc
-bytes_of (Some h) system is = let same : system ≡ h.system = cc is in ap (λ (x : System). sum_by (λ (m : Bytes × ℕ). m.1 * PAGE_SIZE) (memories_in (part_of x))) (sym same)
-
 -- the first memories have no more bytes than all
-pub reads_within : (hs : List StoredHeight) (height : ℕ) (system : System) (pages : List ℕ) → Some system ≡ option_map (λ h. h.system) (height_at hs height) → pages ≡ map (λ m. m.1) (memories_in (part_of system)) → (i : ℕ) (old new : DiskView)
-    → OnlyLooks (sum_by sizes (take i pages)) old new → OnlyLooks (bytes_at hs height) old new
-reads_within hs height system pages is are i old new looks =
-    let all : sum_by sizes pages ≡ bytes_at hs height = ap (sum_by sizes) are ∙ all_sizes (memories_in (part_of system)) ∙ sym (bytes_of (height_at hs height) system is) in
-    looks_more _ (bytes_at hs height) old new (omega (arith, sum_by-take-le sizes pages i, all)) looks
+pub reads_within : (h : StoredHeight) (pages : List ℕ) → pages ≡ map (λ m. m.1) (memories_in (part_of h.system)) → (i : ℕ) (old new : DiskView) → OnlyLooks (sum_by sizes (take i pages)) old new → OnlyLooks (bytes_of h) old new
+reads_within h pages are i old new looks =
+    let all : sum_by sizes pages ≡ bytes_of h = ap (sum_by sizes) are ∙ all_sizes (memories_in (part_of h.system)) in
+    looks_more _ (bytes_of h) old new (omega (arith, sum_by-take-le sizes pages i, all)) looks

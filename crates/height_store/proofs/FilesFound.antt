@@ -1,6 +1,6 @@
 -- Files that ascend by number, and one more.
 use Rattle.std.proofs.Common.{◌≡◌, ◌≢◌, ℕ, ◌+◌, ◌<◌, ◌≤◌, Bool, true, false, ◌||◌, nat_eq, List, [], ◌∷◌, ◌++◌, length, get_or, Result, Ok, Err, refl, sym, ◌∙◌, ap, subst, arith, inl, inr, ⊎_elim, true≢false}
-use Rattle.std.specs.Prelude.{OnOk, IfErr, IsErrOf}
+use Rattle.std.specs.Prelude.{◌⊎◌, ⊤, OnOk, IfErr, IsErrAnd, IsErrOf}
 use Rattle.std.specs.List.{list_any, AllByRecursion, All}
 use Rattle.std.specs.List.Sorted.{IsStrictlyIncreasing, IsBinarySearchResult, IsSearchInRange}
 use Rattle.std.specs.Ordering.{nat_cmp, ordering_index}
@@ -13,15 +13,19 @@ use Rattle.std.proofs.lemmas.List.Folds.{list_any-append, list_any_at}
 use Rattle.std.proofs.lemmas.List.Sorted.{searched}
 use Rattle.format_spec.proofs.Lists.{all_push}
 use Rattle.page_spec.specs.PageFile.{PageIndex}
+use Rattle.disk_model.specs.Causes.{FailsFor, IsOfDisk, OnlyIf}
+use Rattle.disk_model.specs.declared.disk.Disk.{Ghosts}
+use Rattle.disk_model.specs.declared.disk.DiskError.TheVariants as disks
 use Rattle.disk_model.specs.Files.{Files}
 use Rattle.page_file.specs.declared.error.PageError.{PageError}
 use Rattle.page_file.specs.declared.error.PageError.TheVariants as errors
+use Rattle.page_file.specs.Errors.{IsBadFile as IsBadPageFile, page_error as of_page}
 use Rattle.page_file.specs.Files.{NumberedFile, IsAsKnown, IsBadPage}
 use Rattle.page_file.proofs.Unique.{only_index}
 use Rattle.height_store.specs.declared.error.StoreError.{StoreError}
-use Rattle.height_store.specs.declared.error.StoreError.TheVariants.{BadPage}
+use Rattle.height_store.specs.declared.error.StoreError.TheVariants.{BadPage, Fault}
 use Rattle.height_store.specs.Bad.{IsGoodNaming}
-use Rattle.height_store.specs.Errors.{page_error}
+use Rattle.height_store.specs.Errors.{IsBadFile, disk_error, page_error}
 use Rattle.height_store.specs.Naming.{IsFileOf, Takes}
 use Rattle.height_store.specs.Opened.{FitNamings}
 use Rattle.height_store.specs.Store.{numbers_of}
@@ -173,7 +177,7 @@ bad_inside (errors.BadPage m) n is = let e : m ≡ n = cc in ap (λ (k : ℕ). e
 bad_inside errors.Fault n is = absurd (cc)
 bad_inside errors.Memory n is = absurd (cc)
 
-pub error_inside : {T : Type 0} (a b : StoreError) → ◌≡◌ {A = Result T StoreError} (Err a) (Err b) → a ≡ b
+pub error_inside : {T E : Type 0} (a b : E) → ◌≡◌ {A = Result T E} (Err a) (Err b) → a ≡ b
 error_inside a b e = cc
 
 pub page_handed_on : {T : Type 0} (U : Type 0) (result : Result T StoreError) (x : StoreError) (e : PageError) (n : ℕ) → result ≡ Err x → x ≡ page_error e → IsErrOf result (BadPage n) → IsErrOf {T = U} (Err e) (errors.BadPage n)
@@ -188,13 +192,39 @@ too_many files n pages file is kept more good =
     let same = only_index files n file.number file.index good.0 good.1 is kept good.2 in
     omega (arith, more, good.3, ap (λ (i : PageIndex). i.memory) same)
 
-pub refused : {T : Type 0} (result : Result T StoreError) (number n pages memory : ℕ) → IfErr result (λ e. (e ≡ BadPage number) × (pages < memory)) → IsErrOf result (BadPage n) → pages < memory
+pub refused : {T : Type 0} (result : Result T PageError) (number n pages memory : ℕ) → IfErr result (λ e. (e ≡ errors.BadPage number) × (pages < memory)) → IsErrOf result (errors.BadPage n) → pages < memory
 refused (Ok x) number n pages memory h is = absurd (cc)
 refused (Err e) number n pages memory h is = h.1
+
+-- an error of a page file is one of the store, for the same reason
+pub page_refused : {D S T : Type 0} (disk : Ghosts D) (result : Result S PageError) (failed : Result T StoreError) (e : PageError) (old mid new : D) → IsErrAnd failed (λ x. x ≡ page_error e) → result ≡ Err e → disk.faults old ≤ disk.faults mid
+    → FailsFor disk of_page IsBadPageFile mid new result → FailsFor disk disk_error IsBadFile old new failed
+page_refused disk result (Ok x) e old mid new is was le fails = absurd is
+page_refused disk result (Err x) e old mid new is was le fails = record {
+  never_falls = omega (arith, fails.never_falls);
+  fault = λ fault. omega (arith, fails.fault (was ∙ ap Err (faulty e (sym is ∙ error_inside x Fault fault))));
+  only = subst (λ d. IsOfDisk disk_error d ⊎ IsBadFile d) (sym is) (by e);
+}
+  where
+    faulty : (e : PageError) → page_error e ≡ Fault → e ≡ errors.Fault
+    faulty (errors.BadPage n) is = absurd cc
+    faulty errors.Fault is = refl
+    faulty errors.Memory is = absurd cc
+
+    by : (e : PageError) → IsOfDisk disk_error (page_error e) ⊎ IsBadFile (page_error e)
+    by (errors.BadPage n) = inr tt
+    by errors.Fault = inl (disks.Fault, refl)
+    by errors.Memory = inl (disks.Memory, refl)
+
+-- which page file is absent or bad
+pub named_by : (e : PageError) (n number : ℕ) → e ≡ errors.BadPage n → IsOfDisk of_page e ⊎ OnlyIf (errors.BadPage number) ⊤ e → n ≡ number
+named_by e n number is (inl (disks.Fault, from)) = absurd cc
+named_by e n number is (inl (disks.Memory, from)) = absurd cc
+named_by e n number is (inr why) = let at = why.0 in cc
 
 pub kept_of : (files : Files) (xs : List NumberedFile) (n : ℕ) (file : NumberedFile) → AllByRecursion (IsAsKnown files) xs → IsFileOf xs n file → IsAsKnown files file
 kept_of files xs n file all of = All-contains (IsAsKnown files) xs file (All-from_recursion (IsAsKnown files) xs all) of.there
 
-pub on_ok : {T : Type 0} (result : Result T StoreError) (P : Type 0) → P → OnOk result P
+pub on_ok : {T E : Type 0} (result : Result T E) (P : Type 0) → P → OnOk result P
 on_ok (Ok x) P h = h
 on_ok (Err e) P h = tt

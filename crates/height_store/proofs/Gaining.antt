@@ -232,9 +232,11 @@ may_publish hs ps s m t stacks h p is_mark is_stacks good sound below few keeps 
 
 -- ---- by the mark that was handed in
 
+pub at_own_mark : (P : ℕ → Bytes → Type 0) (n : ℕ) (text : Bytes) (m : Mark) → n ≡ m.height → text ≡ mark_text m → P n text → P m.height (mark_text m)
+at_own_mark P n text m is_height is_text holds = subst (λ (t : Bytes). P m.height t) is_text (subst (λ (k : ℕ). P k text) is_height holds)
+
 pub at_mark : (P : ℕ → Bytes → Type 0) (n : ℕ) (text : Bytes) (m : Mark) (h : StoredHeight) → n ≡ m.height → text ≡ mark_text m → h.mark ≡ m → P n text → P h.mark.height (mark_text h.mark)
-at_mark P n text m h is_height is_text is_mark holds =
-    subst (λ (m : Mark). P m.height (mark_text m)) (sym is_mark) (subst (λ (t : Bytes). P m.height t) is_text (subst (λ (k : ℕ). P k text) is_height holds))
+at_mark P n text m h is_height is_text is_mark holds = subst (λ (m : Mark). P m.height (mark_text m)) (sym is_mark) (at_own_mark P n text m is_height is_text holds)
 
 -- nothing has been called so far
 pub nothing_called : (hs : List StoredHeight) (ps qs : List Published) (v : DiskView) → KeepsHeights hs v.state ps → LeavesOnly v v (StandsForEither ps qs)

@@ -1,16 +1,18 @@
 -- What is so after each call that writes a mark.
-use Rattle.std.proofs.Common.{◌≡◌, inl, inr, ℕ, ◌+◌, Bool, true, false, List, [], ◌++◌, length, cond, Option, Some, None, Result, Ok, Err, OnOk, unwrap_or, refl, sym, ◌∙◌, ap, arith}
+use Rattle.std.proofs.Common.{◌≡◌, inl, inr, ℕ, ◌+◌, Bool, true, false, List, [], ◌++◌, length, cond, Option, Some, None, Result, Ok, Err, IsTrue, OnOk, unwrap_or, refl, sym, ◌∙◌, ap, arith}
 use Rattle.std.proofs.lemmas.Bool.{false≢true}
 use Rattle.format_spec.specs.Bytes.{Bytes}
+use Rattle.disk_model.specs.declared.disk.Disk.{Ghosts}
 use Rattle.disk_model.specs.declared.disk.DiskError.{DiskError}
 use Rattle.disk_model.specs.declared.name.Name.{Name}
 use Rattle.disk_model.specs.declared.name.Name.TheVariants.{Mark, Draft}
 use Rattle.disk_model.specs.Files.{same_name, files_with}
 use Rattle.disk_model.specs.State.{DiskState, IsSettled, Shows, marks_with}
 use Rattle.disk_model.specs.Call.{create, append, seal, rename, under_way}
-use Rattle.disk_model.specs.View.{DiskView, EachImage, LeavesOnly, Done, Does}
+use Rattle.disk_model.specs.View.{DiskView, EachImage, LeavesOnly, Done, Does, HasCause}
 use Rattle.disk_model.specs.Laws.{IsSound, same_name_refl, replaced_here, replaced_apart, or_false, rename_images, image_of_settled}
 use Rattle.disk_model.specs.Moments.{then, weaker, one_call}
+use Rattle.disk_model.specs.Writing.{Writes, one_write, write_then}
 use Rattle.disk_model.specs.Frame.{TouchesOnly, touches_call, touches_then, done_settles}
 use Rattle.height_store.specs.Written.{is_of, IsBeforeOrAfter, HasWritten}
 
@@ -54,18 +56,28 @@ module _ (height : ℕ) (given : Name → Bool) (within : (q : Name) → given q
   pub touches_seal : {T : Type 0} (result : Result T DiskError) (v0 v2 v3 : DiskView) → TouchesOnly given v0 v2 → IsSound v2.state → Does (seal (Draft height)) result v2 v3 → TouchesOnly given v0 v3
   touches_seal result v0 v2 v3 so_far sound does = touches_then given v0 v2 v3 so_far (touches_call (seal (Draft height)) result v2 v3 given within sound does)
 
-pub touches_rename : {T : Type 0} (height : ℕ) (result : Result T DiskError) (v0 v3 v4 : DiskView) → TouchesOnly (is_of height) v0 v3 → IsSound v3.state → Does (rename (Draft height) (Mark height)) result v3 v4 → TouchesOnly (is_of height) v0 v4
-touches_rename height result v0 v3 v4 so_far sound does = touches_then (is_of height) v0 v3 v4 so_far (touches_call (rename (Draft height) (Mark height)) result v3 v4 (is_of height) (λ q apart. apart) sound does)
-
 pub draft_within : (height : ℕ) (q : Name) → is_of height q ≡ false → same_name (Draft height) q ≡ false
 draft_within height q apart = (or_false _ _ apart).0
+
+-- the draft is written, and its seal is answered
+pub draft_sealed : {D T : Type 0} (disk : Ghosts D) (height : ℕ) (text : Bytes) (result : Result T DiskError) (v0 v1 v2 v3 : D) → ((v : D) → IsTrue disk.tells → IsSound (disk.view v).state)
+    → (IsTrue disk.tells → Done (create (Draft height)) (disk.view v0) (disk.view v1)) → HasCause {T = Unit {0}} (disk.faults v0) (disk.faults v1) (Ok tt)
+    → (IsTrue disk.tells → Done (append (Draft height) text) (disk.view v1) (disk.view v2)) → HasCause {T = Unit {0}} (disk.faults v1) (disk.faults v2) (Ok tt)
+    → (IsTrue disk.tells → Does (seal (Draft height)) result (disk.view v2) (disk.view v3)) → HasCause (disk.faults v2) (disk.faults v3) result → Writes disk (is_of height) (length text) v0 v3 result
+draft_sealed disk height text result v0 v1 v2 v3 sound make made add added close closed =
+    let within = draft_within height in
+    let ok : Result (Unit {0}) DiskError = Ok tt in
+    write_then disk ok result (is_of height) (length text) 0 (length text) v0 v2 v3 refl (omega arith)
+    (write_then disk ok ok (is_of height) 0 (length text) (length text) v0 v1 v2 refl (omega arith)
+    (one_write disk (create (Draft height)) ok (is_of height) v0 v1 within (sound v0) make made)
+    (one_write disk (append (Draft height) text) ok (is_of height) v1 v2 within (sound v1) add added))
+    (one_write disk (seal (Draft height)) result (is_of height) v2 v3 within (sound v2) close closed)
 
 -- ---- the draft, when it is sealed
 
 pub record IsSealed (height : ℕ) (text : Bytes) (old now : DiskView) : Type 0 where
   pub content : now.state.files (Draft height) ≡ Some text
   pub settled : IsSettled old.state → IsSettled now.state
-  pub appended : now.appended ≡ old.appended + length text
 
 pub sealed : (height : ℕ) (text : Bytes) (v0 v1 v2 v3 : DiskView) → Done (create (Draft height)) v0 v1 → Done (append (Draft height) text) v1 v2 → Done (seal (Draft height)) v2 v3 → IsSealed height text v0 v3
 sealed height text v0 v1 v2 v3 make add close = record {
@@ -73,7 +85,6 @@ sealed height text v0 v1 v2 v3 make add close = record {
       ∙ replaced_here v1.state.files (Draft height) (Some (unwrap_or (v1.state.files (Draft height)) [] ++ text)) (Draft height) (same_name_refl (Draft height))
       ∙ ap (λ (o : Option (List ℕ)). Some (unwrap_or o [] ++ text)) (ap (λ (s : DiskState). s.files (Draft height)) make.state ∙ replaced_here v0.state.files (Draft height) (Some []) (Draft height) (same_name_refl (Draft height)));
   settled = λ settled. done_settles (seal (Draft height)) v2 v3 close (done_settles (append (Draft height) text) v1 v2 add (done_settles (create (Draft height)) v0 v1 make settled));
-  appended = omega (arith, make.appended, add.appended, close.appended);
 }
 
 -- ---- the rename
@@ -106,5 +117,4 @@ written (Ok x) height text v0 v3 v4 sealed does = record {
   firm = ap (λ (s : DiskState). s.loose (Mark height)) does.state ∙ marked_here (marks_with v3.state.loose (Draft height) false) (Mark height) false (Mark height) (same_name_refl (Mark height));
   no_draft = ap (λ (s : DiskState). s.files (Draft height)) does.state ∙ replaced_here v3.state.files (Draft height) None (Draft height) (same_name_refl (Draft height));
   settled = λ settled. done_settles (rename (Draft height) (Mark height)) v3 v4 does (sealed.settled settled);
-  appended = does.appended ∙ sealed.appended;
 }

@@ -33,8 +33,8 @@ pub same_height : {T : Type 0} (a b : ℕ) → ◌≡◌ {A = Result T StoreErro
 same_height a b e = cc
 
 -- an error that is handed on
-pub handed_on : {T : Type 0} (U : Type 0) (result : Result T StoreError) (x e kind : StoreError) → result ≡ Err x → x ≡ e → IsErrOf result kind → IsErrOf {T = U} (Err e) kind
-handed_on U result x e kind is from err = ap {B = Result U StoreError} (λ (d : StoreError). Err d) (sym from ∙ error_inside x kind (sym is ∙ err))
+pub handed_on : {T E : Type 0} (U : Type 0) (result : Result T E) (x e kind : E) → result ≡ Err x → x ≡ e → IsErrOf result kind → IsErrOf {T = U} (Err e) kind
+handed_on {E} U result x e kind is from err = ap {B = Result U E} (λ (d : E). Err d) (sym from ∙ error_inside x kind (sym is ∙ err))
 
 -- ---- the walk
 

@@ -26,11 +26,12 @@ use Rattle.height_store.specs.declared.error.StoreError.{StoreError}
 use Rattle.height_store.specs.declared.error.StoreError.TheVariants as errors
 use Rattle.height_store.specs.Answers.{OpensAs, Purges, ReadsAs, RangeIs}
 use Rattle.height_store.specs.Bad.{SpellsMark, HasGoodMark, IsFirstBadMark, IsFirstBadPage, IsGoodNaming, namings}
-use Rattle.height_store.specs.Errors.{IsAnswered}
+use Rattle.height_store.specs.Errors.{IsAnswered, not_a_file, not_a_height}
 use Rattle.height_store.specs.Kept.{HasMark, HasStacks, IsReadable}
 use Rattle.height_store.specs.Refused.{at_split, bad_mark_refused, bad_page_refused}
 use Rattle.height_store.specs.Standing.{some_is}
 use Rattle.height_store.specs.Store.{Store, StoredHeight, IsHeight, FitsPages, Gains, IsNextFree, heights_in, height_at, numbers_of, is_named, is_newest}
+use Rattle.height_store.specs.Laws.{stacks_found}
 use Rattle.height_store.proofs.Heights.{has_stack, stack_kept}
 use Rattle.height_store.proofs.Parts.{parts_are_one}
 
@@ -193,27 +194,27 @@ module _ (files : Files) where
   pub opened_once : (one other : Result Store StoreError) → OpensAs files one → OpensAs files other → IsAnswered one → IsAnswered other → one ≡ other
   opened_once (Err errors.Fault) other a b told _ = absurd told
   opened_once (Err errors.Memory) other a b told _ = absurd told
-  opened_once (Err errors.NoHeight) other a b _ _ = absurd (a.no_bad_height.0 refl)
-  opened_once (Err errors.LastHeight) other a b _ _ = absurd (a.no_bad_height.1 refl)
+  opened_once (Err errors.NoHeight) other a b _ _ = absurd (not_a_file errors.NoHeight tt a.only)
+  opened_once (Err errors.LastHeight) other a b _ _ = absurd (not_a_file errors.LastHeight tt a.only)
   opened_once (Ok s) (Ok t) a b _ _ = ap Ok (same_store s t a b)
   opened_once (Ok s) (Err (errors.BadMark k)) a b _ _ = absurd (bad_mark_refused files k (b.bad_mark k refl) a.opens)
   opened_once (Ok s) (Err (errors.BadPage k)) a b _ _ = absurd (bad_page_refused files k (b.bad_page k refl) a.opens)
-  opened_once (Ok s) (Err errors.NoHeight) a b _ _ = absurd (b.no_bad_height.0 refl)
-  opened_once (Ok s) (Err errors.LastHeight) a b _ _ = absurd (b.no_bad_height.1 refl)
+  opened_once (Ok s) (Err errors.NoHeight) a b _ _ = absurd (not_a_file errors.NoHeight tt b.only)
+  opened_once (Ok s) (Err errors.LastHeight) a b _ _ = absurd (not_a_file errors.LastHeight tt b.only)
   opened_once (Ok s) (Err errors.Fault) a b _ told = absurd told
   opened_once (Ok s) (Err errors.Memory) a b _ told = absurd told
   opened_once (Err (errors.BadMark n)) (Ok t) a b _ _ = absurd (bad_mark_refused files n (a.bad_mark n refl) b.opens)
   opened_once (Err (errors.BadMark n)) (Err (errors.BadMark k)) a b _ _ = ap (λ (h : ℕ). Err (errors.BadMark h)) (bad_mark_once n k (a.bad_mark n refl) (b.bad_mark k refl))
   opened_once (Err (errors.BadMark n)) (Err (errors.BadPage k)) a b _ _ = absurd (no_bad_mark n k (a.bad_mark n refl) (b.bad_page k refl))
-  opened_once (Err (errors.BadMark n)) (Err errors.NoHeight) a b _ _ = absurd (b.no_bad_height.0 refl)
-  opened_once (Err (errors.BadMark n)) (Err errors.LastHeight) a b _ _ = absurd (b.no_bad_height.1 refl)
+  opened_once (Err (errors.BadMark n)) (Err errors.NoHeight) a b _ _ = absurd (not_a_file errors.NoHeight tt b.only)
+  opened_once (Err (errors.BadMark n)) (Err errors.LastHeight) a b _ _ = absurd (not_a_file errors.LastHeight tt b.only)
   opened_once (Err (errors.BadMark n)) (Err errors.Fault) a b _ told = absurd told
   opened_once (Err (errors.BadMark n)) (Err errors.Memory) a b _ told = absurd told
   opened_once (Err (errors.BadPage n)) (Ok t) a b _ _ = absurd (bad_page_refused files n (a.bad_page n refl) b.opens)
   opened_once (Err (errors.BadPage n)) (Err (errors.BadMark k)) a b _ _ = absurd (no_bad_mark k n (b.bad_mark k refl) (a.bad_page n refl))
   opened_once (Err (errors.BadPage n)) (Err (errors.BadPage k)) a b _ _ = ap (λ (h : ℕ). Err (errors.BadPage h)) (bad_page_once n k (a.bad_page n refl) (b.bad_page k refl))
-  opened_once (Err (errors.BadPage n)) (Err errors.NoHeight) a b _ _ = absurd (b.no_bad_height.0 refl)
-  opened_once (Err (errors.BadPage n)) (Err errors.LastHeight) a b _ _ = absurd (b.no_bad_height.1 refl)
+  opened_once (Err (errors.BadPage n)) (Err errors.NoHeight) a b _ _ = absurd (not_a_file errors.NoHeight tt b.only)
+  opened_once (Err (errors.BadPage n)) (Err errors.LastHeight) a b _ _ = absurd (not_a_file errors.LastHeight tt b.only)
   opened_once (Err (errors.BadPage n)) (Err errors.Fault) a b _ told = absurd told
   opened_once (Err (errors.BadPage n)) (Err errors.Memory) a b _ told = absurd told
 
@@ -245,8 +246,8 @@ module _ (hs : List StoredHeight) (height : ℕ) where
     | inr older ↦ rw (older, a.no_height.0 refl) refl
   ]
   purge_is (Err errors.LastHeight) a _ = rw (a.last_height.0 refl) refl
-  purge_is (Err (errors.BadMark n)) a _ = absurd (a.no_bad_file.0 n refl)
-  purge_is (Err (errors.BadPage n)) a _ = absurd (a.no_bad_file.1 n refl)
+  purge_is (Err (errors.BadMark n)) a _ = absurd (not_a_height (errors.BadMark n) tt a.only)
+  purge_is (Err (errors.BadPage n)) a _ = absurd (not_a_height (errors.BadPage n) tt a.only)
   purge_is (Err errors.Fault) a told = absurd told
   purge_is (Err errors.Memory) a told = absurd told
 
@@ -256,19 +257,19 @@ module _ (hs : List StoredHeight) (height : ℕ) where
 pub page_once : (files : Files) (hs : List StoredHeight) (height place page : ℕ) (h : StoredHeight) (one other : Bytes) → IsReadable hs files → IsHeight h → height_at hs height ≡ Some h
     → IsSomeAnd (slice_get (memories_in (part_of h.system)) place) (λ m. page < m.1) → ReadsAs files hs height place page one → ReadsAs files hs height place page other → one ≡ other
 page_once files hs height place page h one other readable good found within a b =
-    let lt = has_stack hs height place page h (sym found) good (subst (λ (o : Option StoredHeight). IfSome o (λ h. IsSomeAnd (slice_get (memories_in (part_of h.system)) place) (λ m. page < m.1))) (sym found) within) in
+    let lt = has_stack h h place page refl good within in
     let stack : List NumberedFile = get_or h.stacks place [] in
     let there = slice_get-get_or h.stacks place [] lt in
-    let kept = stack_kept files hs height place h stack (sym found) readable.stacks lt (get_or_default h.stacks place [] stack lt) in
+    let kept = stack_kept files h h place stack refl (stacks_found files hs height h (sym found) readable) lt (get_or_default h.stacks place [] stack lt) in
     let layers = kept_have_layers files stack kept in
-    a h stack layers.0 found there layers.1 ∙ sym (b h stack layers.0 found there layers.1)
+    a h found stack layers.0 there layers.1 ∙ sym (b h found stack layers.0 there layers.1)
 
-pub range_once : (files : Files) (hs : List StoredHeight) (height place offset len : ℕ) (h : StoredHeight) (m : Bytes × ℕ) (one other : Bytes) → IsReadable hs files → IsHeight h → height_at hs height ≡ Some h
-    → slice_get (memories_in (part_of h.system)) place ≡ Some m → RangeIs files hs height place offset len one → RangeIs files hs height place offset len other → one ≡ other
-range_once files hs height place offset len h m one other readable good found memory a b =
+pub range_once : (files : Files) (h : StoredHeight) (place offset len : ℕ) (m : Bytes × ℕ) (one other : Bytes) → HasStacks files h → IsHeight h
+    → slice_get (memories_in (part_of h.system)) place ≡ Some m → RangeIs files h place offset len one → RangeIs files h place offset len other → one ≡ other
+range_once files h place offset len m one other has good memory a b =
     let lt : place < length h.stacks = omega (arith, slice_get_within (memories_in (part_of h.system)) place m memory, AllZip-long FitsPages h.stacks (memories_in (part_of h.system)) good.parts.fits) in
     let stack : List NumberedFile = get_or h.stacks place [] in
     let there = slice_get-get_or h.stacks place [] lt in
-    let kept = stack_kept files hs height place h stack (sym found) readable.stacks lt (get_or_default h.stacks place [] stack lt) in
+    let kept = stack_kept files h h place stack refl has lt (get_or_default h.stacks place [] stack lt) in
     let layers = kept_have_layers files stack kept in
-    a h m stack layers.0 found memory there layers.1 ∙ sym (b h m stack layers.0 found memory there layers.1)
+    a m stack layers.0 memory there layers.1 ∙ sym (b m stack layers.0 memory there layers.1)

@@ -93,9 +93,8 @@ memory_fits s i m good at =
     (All-get_or P (memories_in s) i m (slice_get_within (memories_in s) i m at) (All-from_recursion P (memories_in s) (each_fits s.canisters good.canisters_fit)))
 
 -- a range of a memory ends where a memory may
-pub range_fits : (o : Option StoredHeight) (file bytes : ℕ) → is_some o ≡ true → IfSome o IsHeight → IfSome o (λ h. IsSomeAnd (slice_get (memories_in (part_of h.system)) file) (λ m. bytes ≤ m.1 * PAGE_SIZE)) → bytes ≤ MAX_MEMORY_PAGES * PAGE_SIZE
-range_fits None file bytes some good within = absurd (false≢true some)
-range_fits (Some h) file bytes some good within = by (slice_get (memories_in (part_of h.system)) file) refl within
+pub range_fits : (h : StoredHeight) (file bytes : ℕ) → IsHeight h → IsSomeAnd (slice_get (memories_in (part_of h.system)) file) (λ m. bytes ≤ m.1 * PAGE_SIZE) → bytes ≤ MAX_MEMORY_PAGES * PAGE_SIZE
+range_fits h file bytes good within = by (slice_get (memories_in (part_of h.system)) file) refl within
   where
     by : (o : Option (Bytes × ℕ)) → slice_get (memories_in (part_of h.system)) file ≡ o → IsSomeAnd o (λ m. bytes ≤ m.1 * PAGE_SIZE) → bytes ≤ MAX_MEMORY_PAGES * PAGE_SIZE
     by None at within = absurd within
@@ -105,9 +104,9 @@ range_fits (Some h) file bytes some good within = by (slice_get (memories_in (pa
         omega (arith, within, most)
 
 -- the memory with so many pages
-pub there_is : (o : Option StoredHeight) (file pages : ℕ) (h : StoredHeight) → IfSome o (λ h. IsSomeAnd (slice_get (memories_in (part_of h.system)) file) (λ m. m.1 ≡ pages)) → o ≡ Some h
+pub there_is : (h : StoredHeight) (file pages : ℕ) → IsSomeAnd (slice_get (memories_in (part_of h.system)) file) (λ m. m.1 ≡ pages)
     → (m : Bytes × ℕ) × (slice_get (memories_in (part_of h.system)) file ≡ Some m) × (m.1 ≡ pages)
-there_is o file pages h there at = by (slice_get (memories_in (part_of h.system)) file) refl (subst (λ (o : Option StoredHeight). IfSome o (λ h. IsSomeAnd (slice_get (memories_in (part_of h.system)) file) (λ m. m.1 ≡ pages))) at there)
+there_is h file pages there = by (slice_get (memories_in (part_of h.system)) file) refl there
   where
     by : (o : Option (Bytes × ℕ)) → slice_get (memories_in (part_of h.system)) file ≡ o → IsSomeAnd o (λ m. m.1 ≡ pages) → (m : Bytes × ℕ) × (slice_get (memories_in (part_of h.system)) file ≡ Some m) × (m.1 ≡ pages)
     by None of is = absurd is
@@ -146,27 +145,6 @@ module _ (s : SystemPart) (pages : List ℕ) (i count : ℕ) (are : pages ≡ co
 pub few_counts : (s : SystemPart) (pages : List ℕ) → IsSystem 1 s → pages ≡ counts s → length pages ≤ 2048
 few_counts s pages good are = omega (arith, good.few_canisters, ap length are, length-map (memories_in s) (λ m. m.1), twice_as_many s.canisters)
 
--- ---- what is kept of a height
-
-pub mapped_some : {X : Type 0} (f : StoredHeight → X) (o : Option StoredHeight) → is_some (option_map f o) ≡ is_some o
-mapped_some f None = refl
-mapped_some f (Some h) = refl
-
-pub copied_some : {X : Type 0} (r : Option (Bor X)) → is_some (option_copied r) ≡ is_some r
-copied_some None = refl
-copied_some (Some x) = refl
-
--- a part of a height is that of the height found
-pub found_is : {X : Type 0} (f : StoredHeight → X) (o : Option StoredHeight) (x : X) (h : StoredHeight) → Some x ≡ option_map f o → o ≡ Some h → x ≡ f h
-found_is f o x h is at = same_Some x (f h) (is ∙ ap (option_map f) at)
-
-pub sums_fit_found : (o : Option StoredHeight) (m : Mark) (s : System) (lists : List (List Bytes)) → Some m ≡ option_map (λ h. h.mark) o → Some s ≡ option_map (λ h. h.system) o → IfSome o IsHeight → lists ≡ map (λ m. m.sums) m.memories → FitSums (part_of s) lists
-sums_fit_found None m s lists is is' good are = absurd cc
-sums_fit_found (Some h) m s lists is is' good are =
-    subst (FitSums (part_of s)) (sym (are ∙ ap (λ (m : Mark). map (λ m. m.sums) m.memories) (same_Some m h.mark is)))
-    (subst (λ (s : System). FitSums (part_of s) (map (λ m. m.sums) h.mark.memories)) (sym (same_Some s h.system is'))
-    (sums_fit h.mark.memories (memories_in (part_of h.system)) good.parts.mark.memories_fit))
-
 -- the bytes of the memory at a place of a height that files show
 pub memory_shown : (files : Files) (h : StoredHeight) (p : Published) (file : ℕ) (memory : Bytes) → ShowsHeight files h p → slice_get (memory_bytes p.state) file ≡ Some memory
     → (m : Bytes × ℕ) × (stack : List NumberedFile) × (own : List Layer) × (slice_get (memories_in (part_of h.system)) file ≡ Some m) × (slice_get h.stacks file ≡ Some stack) × AreLayers files stack own × (memory ≡ memory_from m.1 own)
@@ -179,6 +157,10 @@ memory_shown files h p file memory shows of =
     let at = slice_get-get_or ms file ([], 0) lt in
     let place = place_of files h.stacks ms made.layers file m made.good.fits made.there at in
     (m, place.stack, place.own, at, place.stack_at, place.are, sym (get_or_from_slice_get (from_layers ms made.layers) file memory [] here) ∙ place.bytes)
+
+-- the pages of a height's memories
+pub own_counts : (h : StoredHeight) (s : System) (pages : List ℕ) → s ≡ h.system → pages ≡ counts (part_of s) → pages ≡ counts (part_of h.system)
+own_counts h s pages is are = are ∙ ap (λ (s : System). counts (part_of s)) is
 
 -- ---- memory by memory
 
@@ -194,10 +176,7 @@ pub sizes_all : (ms : List (Bytes × ℕ)) → map (λ n. n * PAGE_SIZE) (map (�
 sizes_all [] = refl
 sizes_all (m ∷ ms) = ap (λ (l : List ℕ). (m.1 * PAGE_SIZE) ∷ l) (sizes_all ms)
 
-module _ (files : Files) (h : StoredHeight) (p : Published) (shows : ShowsHeight files h p) (s : System) (pages : List ℕ) (same : s ≡ h.system) (are : pages ≡ counts (part_of s)) where
-  own_pages : pages ≡ counts (part_of h.system)
-  own_pages = are ∙ ap (λ (s : System). counts (part_of s)) same
-
+module _ (files : Files) (h : StoredHeight) (p : Published) (shows : ShowsHeight files h p) (pages : List ℕ) (own_pages : pages ≡ counts (part_of h.system)) where
   pub as_many : length (memory_bytes p.state) ≡ length pages
   as_many =
       let ms = memories_in (part_of h.system) in

@@ -75,9 +75,6 @@ module _ (offset len page from to : ℕ) (from_is : from ≡ offset - page * PAG
       let piece : length (take n (drop from bytes)) ≡ n = omega (arith, length-take n (drop from bytes), length-drop from bytes, long, inside) in
       sum ∙ omega (arith, old_long, piece, counted)
 
--- the memory of a height has the bytes
-pub within_memory : (hs : List StoredHeight) (height file bytes : ℕ) (h : StoredHeight) (m : Bytes × ℕ) → IfSome (height_at hs height) (λ h. IsSomeAnd (slice_get (memories_in (part_of h.system)) file) (λ m. bytes ≤ m.1 * PAGE_SIZE))
-    → height_at hs height ≡ Some h → slice_get (memories_in (part_of h.system)) file ≡ Some m → bytes ≤ m.1 * PAGE_SIZE
-within_memory hs height file bytes h m within at of =
-    let here = subst (λ (o : Option StoredHeight). IfSome o (λ h. IsSomeAnd (slice_get (memories_in (part_of h.system)) file) (λ m. bytes ≤ m.1 * PAGE_SIZE))) at within in
-    subst (λ (o : Option (Bytes × ℕ)). IsSomeAnd o (λ m. bytes ≤ m.1 * PAGE_SIZE)) of here
+-- the memory has the bytes
+pub within_memory : (o : Option (Bytes × ℕ)) (bytes : ℕ) (m : Bytes × ℕ) → IsSomeAnd o (λ m. bytes ≤ m.1 * PAGE_SIZE) → o ≡ Some m → bytes ≤ m.1 * PAGE_SIZE
+within_memory o bytes m within of = subst (λ (o : Option (Bytes × ℕ)). IsSomeAnd o (λ m. bytes ≤ m.1 * PAGE_SIZE)) of within

@@ -1,8 +1,8 @@
 -- Removing the files of some numbers, one by one.
-use Rattle.std.proofs.Common.{◌≡◌, ◌≢◌, ℕ, ◌+◌, ◌<◌, ◌≤◌, Bool, true, false, ◌||◌, ◌&&◌, not, nat_eq, List, [], ◌∷◌, length, take, drop, get_or, None, Some, Option, IsSome, Result, Ok, Err, refl, sym, ◌∙◌, ap, subst, arith, ⊎_elim, true≢false}
+use Rattle.std.proofs.Common.{◌≡◌, ◌≢◌, ℕ, ◌+◌, ◌<◌, ◌≤◌, Bool, true, false, ◌||◌, ◌&&◌, not, nat_eq, List, [], ◌∷◌, length, take, drop, get_or, None, Some, Option, IsSome, IsTrue, Result, Ok, Err, refl, sym, ◌∙◌, ap, subst, arith, ⊎_elim, true≢false}
 use Rattle.std.proofs.lemmas.Bool.{cases_lt}
 use Rattle.std.proofs.lemmas.List.{get_or_default, take-append-drop, length-take, get_or-take}
-use Rattle.std.specs.Prelude.{is_ok, MatchResult}
+use Rattle.std.specs.Prelude.{is_ok, IsOk, MatchResult}
 use Rattle.std.specs.List.{list_any, AllByRecursion}
 use Rattle.std.specs.List.Sorted.{IsStrictlyIncreasing, IsBinarySearchResult}
 use Rattle.std.specs.Ordering.{nat_cmp}
@@ -11,18 +11,19 @@ use Rattle.std.proofs.lemmas.List.Elements.{All-from_recursion}
 use Rattle.std.proofs.lemmas.List.Kept.{AllPairs-from_increasing}
 use Rattle.std.proofs.lemmas.List.Sorted.{searched}
 use Rattle.std.proofs.lemmas.List.Folds.{list_any_none, list_any_at, list_any_more, list_any-append}
+use Rattle.disk_model.specs.declared.disk.Disk.{Ghosts}
 use Rattle.disk_model.specs.declared.disk.DiskError.{DiskError}
 use Rattle.disk_model.specs.declared.name.Kind.{Kind}
 use Rattle.disk_model.specs.declared.name.Kind.TheVariants as kind
 use Rattle.disk_model.specs.declared.name.Name.{Name}
 use Rattle.disk_model.specs.declared.name.Name.TheVariants.{Page, Mark, Draft, Stage}
 use Rattle.disk_model.specs.Files.{same_name, name_of, number_in}
-use Rattle.disk_model.specs.State.{IsSettled, IsThere}
-use Rattle.disk_model.specs.declared.disk.DiskError.TheVariants.{Fault, Memory}
-use Rattle.disk_model.specs.Call.{Call, remove, length_given, appended_after}
-use Rattle.disk_model.specs.View.{DiskView, Does}
-use Rattle.disk_model.specs.Frame.{TouchesOnly, touches_call, touches_then, touches_wider}
+use Rattle.disk_model.specs.State.{IsThere}
+use Rattle.disk_model.specs.Call.{remove}
+use Rattle.disk_model.specs.View.{DiskView, Does, HasCause}
+use Rattle.disk_model.specs.Frame.{TouchesOnly}
 use Rattle.disk_model.specs.Laws.{IsSound}
+use Rattle.disk_model.specs.Writing.{Writes, one_write, write_then, write_wider}
 use Rattle.height_store.specs.Opened.{is_swept, is_number_swept}
 
 -- ---- numbers that ascend
@@ -84,24 +85,12 @@ name_apart kind.Stage n keep (Mark m) free apart = refl
 name_apart kind.Stage n keep (Draft m) free apart = refl
 name_apart kind.Stage n keep (Stage m) free apart = number_apart n m keep free apart
 
-pub touches_one : {T : Type 0} (k : Kind) (n : ℕ) (keep : List ℕ) (among : Bool) (name : Name) (result : Result T DiskError) (old new : DiskView) → among ≡ list_any (nat_eq n) keep → among ≡ false → name ≡ name_of k n → IsSound old.state → Does (remove name) result old new → TouchesOnly (is_swept k (n ∷ []) keep) old new
-touches_one k n keep among name result old new is free named sound does =
-    touches_call (remove name) result old new (is_swept k (n ∷ []) keep) (λ q apart. ap (λ (m : Name). same_name m q) named ∙ name_apart k n keep q (sym is ∙ free) apart) sound does
-
--- a call that is given no bytes appends none, whatever it answers
-pub appends_nothing : {T : Type 0} (call : Call) (result : Result T DiskError) (old new : DiskView) → length_given call ≡ 0 → ((n : ℕ) → appended_after call n ≡ n) → Does call result old new → new.appended ≡ old.appended
-appends_nothing call (Ok x) old new none same does = does.appended ∙ same old.appended
-appends_nothing call (Err Fault) old new none same does = omega (arith, does.appended_least, does.appended_most, none)
-appends_nothing call (Err Memory) old new none same does = ap (λ (v : DiskView). v.appended) does
+pub one_swept : {D T : Type 0} (disk : Ghosts D) (k : Kind) (n : ℕ) (keep : List ℕ) (among : Bool) (name : Name) (result : Result T DiskError) (old new : D) → among ≡ list_any (nat_eq n) keep → among ≡ false → name ≡ name_of k n
+    → (IsTrue disk.tells → IsSound (disk.view old).state) → (IsTrue disk.tells → Does (remove name) result (disk.view old) (disk.view new)) → HasCause (disk.faults old) (disk.faults new) result → Writes disk (is_swept k (n ∷ []) keep) 0 old new result
+one_swept disk k n keep among name result old new is free named sound does cause =
+    one_write disk (remove name) result (is_swept k (n ∷ []) keep) old new (λ q apart. ap (λ (m : Name). same_name m q) named ∙ name_apart k n keep q (sym is ∙ free) apart) sound does cause
 
 -- ---- several files
-
-pub record Sweeps (k : Kind) (numbers keep : List ℕ) (old new : DiskView) : Type 0 where
-  pub gone : (n : ℕ) → list_any (nat_eq n) numbers ≡ true → list_any (nat_eq n) keep ≡ false → new.state.files (name_of k n) ≡ None
-  pub touches : TouchesOnly (is_swept k numbers keep) old new
-  pub settled : IsSettled old.state → IsSettled new.state
-  pub appended : new.appended ≡ old.appended
-  pub read : new.bytes_read ≡ old.bytes_read
 
 wider_number : (xs ys keep : List ℕ) (o : Option ℕ) → ((m : ℕ) → list_any (nat_eq m) ys ≡ false → list_any (nat_eq m) xs ≡ false) → is_number_swept ys keep o ≡ false → is_number_swept xs keep o ≡ false
 wider_number xs ys keep None wider apart = refl
@@ -113,9 +102,9 @@ wider_number xs ys keep (Some m) wider apart = by_test (list_any (nat_eq m) xs) 
     by_test false true false h e = refl
     by_test a false k h e = ap (λ (t : Bool). t && k) (h refl)
 
--- the same of more numbers
-pub sweeps_wider : (k : Kind) (xs ys keep : List ℕ) (old new : DiskView) → ((m : ℕ) → list_any (nat_eq m) ys ≡ false → list_any (nat_eq m) xs ≡ false) → TouchesOnly (is_swept k xs keep) old new → TouchesOnly (is_swept k ys keep) old new
-sweeps_wider k xs ys keep old new wider touches = touches_wider (is_swept k xs keep) (is_swept k ys keep) old new (λ q apart. wider_number xs ys keep (number_in k q) wider apart) touches
+-- what isn't among more numbers
+apart_of_more : (k : Kind) (xs ys keep : List ℕ) → ((m : ℕ) → list_any (nat_eq m) ys ≡ false → list_any (nat_eq m) xs ≡ false) → (q : Name) → is_swept k ys keep q ≡ false → is_swept k xs keep q ≡ false
+apart_of_more k xs ys keep wider q apart = wider_number xs ys keep (number_in k q) wider apart
 
 number_of_name : (k : Kind) (n : ℕ) → number_in k (name_of k n) ≡ Some n
 number_of_name kind.Page n = refl
@@ -138,17 +127,17 @@ or_one false b none e = absurd (true≢false (sym e ∙ none))
 parts_of_more : (xs : List ℕ) (i m : ℕ) → i < length xs → list_any (nat_eq m) (take (i + 1) xs) ≡ false → (list_any (nat_eq m) (take i xs) ≡ false) × (nat_eq m (get_or xs i 0) ≡ false)
 parts_of_more xs i m lt none = or_none _ _ (sym (list_any_more (nat_eq m) xs i 0 lt) ∙ none)
 
--- what was touched with this one too
-pub touches_more : (k : Kind) (xs keep : List ℕ) (i : ℕ) (old mid new : DiskView) → i < length xs → TouchesOnly (is_swept k (take i xs) keep) old mid → TouchesOnly (is_swept k (get_or xs i 0 ∷ []) keep) mid new → TouchesOnly (is_swept k (take (i + 1) xs) keep) old new
-touches_more k xs keep i old mid new lt first second = touches_then (is_swept k (take (i + 1) xs) keep) old mid new
-    (sweeps_wider k (take i xs) (take (i + 1) xs) keep old mid (λ m none. (parts_of_more xs i m lt none).0) first)
-    (sweeps_wider k (get_or xs i 0 ∷ []) (take (i + 1) xs) keep mid new (λ m none. ap (λ (b : Bool). b || false) (parts_of_more xs i m lt none).1) second)
+-- the files of some numbers, and that of the next one
+pub more_swept : {D S T : Type 0} (disk : Ghosts D) (before : Result S DiskError) (result : Result T DiskError) (k : Kind) (xs keep : List ℕ) (i : ℕ) (old mid new : D) → i < length xs → IsOk before → Writes disk (is_swept k (take i xs) keep) 0 old mid before
+    → Writes disk (is_swept k (get_or xs i 0 ∷ []) keep) 0 mid new result → Writes disk (is_swept k (take (i + 1) xs) keep) 0 old new result
+more_swept disk before result k xs keep i old mid new lt ok first second = write_then disk before result (is_swept k (take (i + 1) xs) keep) 0 0 0 old mid new ok (omega arith)
+    (write_wider disk before (is_swept k (take i xs) keep) _ 0 old mid (apart_of_more k (take i xs) (take (i + 1) xs) keep (λ m none. (parts_of_more xs i m lt none).0)) first)
+    (write_wider disk result (is_swept k (get_or xs i 0 ∷ []) keep) _ 0 mid new (apart_of_more k (get_or xs i 0 ∷ []) (take (i + 1) xs) keep (λ m none. ap (λ (b : Bool). b || false) (parts_of_more xs i m lt none).1)) second)
 
 -- where the walk stops at this one
-pub touches_all : (k : Kind) (xs keep : List ℕ) (i : ℕ) (old mid new : DiskView) → i < length xs → TouchesOnly (is_swept k (take i xs) keep) old mid → TouchesOnly (is_swept k (get_or xs i 0 ∷ []) keep) mid new → TouchesOnly (is_swept k xs keep) old new
-touches_all k xs keep i old mid new lt first second = sweeps_wider k (take (i + 1) xs) xs keep old new
-    (λ m none. (or_none _ _ (sym (list_any-append (nat_eq m) (take (i + 1) xs) (drop (i + 1) xs)) ∙ ap (list_any (nat_eq m)) (take-append-drop (i + 1) xs) ∙ none)).0)
-    (touches_more k xs keep i old mid new lt first second)
+pub all_swept : {D T : Type 0} (disk : Ghosts D) (result : Result T DiskError) (k : Kind) (xs keep : List ℕ) (i : ℕ) (old new : D) → Writes disk (is_swept k (take (i + 1) xs) keep) 0 old new result → Writes disk (is_swept k xs keep) 0 old new result
+all_swept disk result k xs keep i old new writes = write_wider disk result (is_swept k (take (i + 1) xs) keep) _ 0 old new
+    (apart_of_more k (take (i + 1) xs) xs keep (λ m none. (or_none _ _ (sym (list_any-append (nat_eq m) (take (i + 1) xs) (drop (i + 1) xs)) ∙ ap (list_any (nat_eq m)) (take-append-drop (i + 1) xs) ∙ none)).0)) writes
 
 -- the next is still there
 pub still_there : (k : Kind) (xs keep : List ℕ) (i : ℕ) (old mid : DiskView) → IsStrictlyIncreasing xs → i < length xs → AllByRecursion (λ n. IsThere old.state (name_of k n)) xs → TouchesOnly (is_swept k (take i xs) keep) old mid → IsThere mid.state (name_of k (get_or xs i 0))
@@ -163,19 +152,17 @@ still_there k xs keep i old mid up lt there touches =
         let within : j < i = omega (arith, length-take i xs) in
         same_false x (get_or (take i xs) j d) (λ e. omega (arith, e, get_or-take i xs j d within, AllPairs-from_increasing xs up j i d within lt, get_or_default xs i d 0 lt))
 
-pub sweeps_more : (k : Kind) (xs keep : List ℕ) (i : ℕ) (old mid new : DiskView) → i < length xs → Sweeps k (take i xs) keep old mid → Sweeps k (get_or xs i 0 ∷ []) keep mid new → Sweeps k (take (i + 1) xs) keep old new
-sweeps_more k xs keep i old mid new lt first second = record {
-  gone = λ n some free. ⊎_elim
-      (λ h. second.gone n (ap (λ (b : Bool). b || false) h.0) free)
-      (λ h. second.touches.reads (name_of k n) (not_swept k n (get_or xs i 0 ∷ []) keep (ap (λ (b : Bool). b || false) h.0)) ∙ first.gone n (or_one _ _ h.0 (sym (list_any_more (nat_eq n) xs i 0 lt) ∙ some)) free)
-      (eqb_tells n (get_or xs i 0));
-  touches = touches_more k xs keep i old mid new lt first.touches second.touches;
-  settled = λ settled. second.settled (first.settled settled);
-  appended = second.appended ∙ first.appended;
-  read = second.read ∙ first.read;
-}
+-- the files of these numbers, but for those to be kept, are gone
+abbrev pub AreGone : Kind → List ℕ → List ℕ → DiskView → Type 0
+AreGone k xs keep v = (n : ℕ) → list_any (nat_eq n) xs ≡ true → list_any (nat_eq n) keep ≡ false → v.state.files (name_of k n) ≡ None
 
-pub one_gone : (k : Kind) (x : ℕ) (keep : List ℕ) (new : DiskView) → (list_any (nat_eq x) keep ≡ false → new.state.files (name_of k x) ≡ None) → (n : ℕ) → list_any (nat_eq n) (x ∷ []) ≡ true → list_any (nat_eq n) keep ≡ false → new.state.files (name_of k n) ≡ None
+pub gone_more : (k : Kind) (xs keep : List ℕ) (i : ℕ) (mid new : DiskView) → i < length xs → AreGone k (take i xs) keep mid → AreGone k (get_or xs i 0 ∷ []) keep new → TouchesOnly (is_swept k (get_or xs i 0 ∷ []) keep) mid new → AreGone k (take (i + 1) xs) keep new
+gone_more k xs keep i mid new lt first second touches n some free = ⊎_elim
+    (λ h. second n (ap (λ (b : Bool). b || false) h.0) free)
+    (λ h. touches.reads (name_of k n) (not_swept k n (get_or xs i 0 ∷ []) keep (ap (λ (b : Bool). b || false) h.0)) ∙ first n (or_one _ _ h.0 (sym (list_any_more (nat_eq n) xs i 0 lt) ∙ some)) free)
+    (eqb_tells n (get_or xs i 0))
+
+pub one_gone : (k : Kind) (x : ℕ) (keep : List ℕ) (new : DiskView) → (list_any (nat_eq x) keep ≡ false → new.state.files (name_of k x) ≡ None) → AreGone k (x ∷ []) keep new
 one_gone k x keep new gone n is free = ⊎_elim
     (λ h. let e : x ≡ n = sym h.1 in subst (λ m. list_any (nat_eq m) keep ≡ false → new.state.files (name_of k m) ≡ None) e gone free)
     (λ h. absurd (true≢false (sym is ∙ ap (λ (b : Bool). b || false) h.0)))

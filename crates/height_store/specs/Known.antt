@@ -30,9 +30,13 @@ pub record KnowsHeight (h : StoredHeight) (p : Published) : Type 0 where
 abbrev pub IsMemoryAt : State → ℕ → Bytes → Type 0
 IsMemoryAt s file bytes = slice_get (memory_bytes s) file ≡ Some bytes
 
--- how many bytes the memories of a height have, and none where it is not published
+-- how many bytes the memories of a height have
+abbrev pub bytes_of : StoredHeight → ℕ
+bytes_of h = sum_by (λ m. m.1 * PAGE_SIZE) (memories_in (part_of h.system))
+
+-- the same, and none where it is not published
 abbrev pub bytes_at : List StoredHeight → ℕ → ℕ
-bytes_at hs height = option_map_or (λ h. sum_by (λ m. m.1 * PAGE_SIZE) (memories_in (part_of h.system))) (height_at hs height) 0
+bytes_at hs height = option_map_or bytes_of (height_at hs height) 0
 
 -- the first of them, and the one behind the last
 pub record AreTheirPages (offset len first behind : ℕ) : Type 0 where

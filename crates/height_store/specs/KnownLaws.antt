@@ -29,12 +29,6 @@ sums_are [] (bytes ∷ memories) true_sums = absurd true_sums
 sums_are (m ∷ ms) [] true_sums = absurd true_sums
 sums_are (m ∷ ms) (bytes ∷ memories) true_sums = cons_same m.sums (chunk_hashes bytes) (map (λ m. m.sums) ms) (map chunk_hashes memories) true_sums.0 (sums_are ms memories true_sums.1)
 
--- The manifest of a known height's state is that of its parts and the hashes in its mark.
-pub known_manifest : (h : StoredHeight) (p : Published) → KnowsHeight h p → manifest_from 1 (file_sums (part_of h.system) (map (λ m. m.sums) h.mark.memories)) ≡ manifest_of p.state
-known_manifest h p knows =
-    ap (λ (sums : List (List Bytes)). manifest_from 1 (file_sums (part_of h.system) sums)) (sums_are h.mark.memories (memory_bytes p.state) knows.sums)
-    ∙ of_state p.state (part_of h.system) (memory_bytes p.state) knows.sizes knows.version knows.parts refl
-
 module _ (files : Files) (h : StoredHeight) (p : Published) (shows : ShowsHeight files h p) where
   abbrev system : SystemPart
   system = part_of h.system

@@ -1,7 +1,11 @@
 -- What follows from how a store and its disk belong together.
-use Rattle.std.specs.Prelude.{◌≡◌, ℕ, ◌≤◌, length, Bool, true, false, List, [], ◌∷◌, Result, Ok, Err, OnOk, refl}
-use Rattle.std.specs.List.{AllByRecursion, AllZip}
-use Rattle.std.proofs.Common.{◌∙◌, subst}
+use Rattle.std.specs.Prelude.{◌≡◌, ◌==◌, ℕ, suc, ◌+◌, ◌<◌, ◌≤◌, length, Bool, true, false, List, [], ◌∷◌, Option, Some, None, is_some, slice_index, find, Result, Ok, Err, OnOk, refl}
+use Rattle.std.specs.List.{AllByRecursion, AllZip, last_or}
+use Rattle.std.specs.List.Sorted.{IsStrictlyIncreasing}
+use Rattle.std.proofs.Common.{◌∙◌, ap, cond, subst, sym, arith}
+use Rattle.std.proofs.lemmas.Bool.{false≢true}
+use Rattle.std.proofs.lemmas.Bool.Decides.{nat_tests}
+use Rattle.std.proofs.lemmas.Option.{same_Some}
 use Rattle.format_spec.specs.declared.limits.TheConstants.{MAX_PUBLISHED}
 use Rattle.state_spec.specs.State.{SystemPart}
 use Rattle.sys_state.specs.System.{part_of}
@@ -20,8 +24,8 @@ use Rattle.disk_model.specs.Frame.{DependsOnly, Spares, TouchesOnly, touches_cal
 use Rattle.disk_model.specs.Laws.{IsSound, image_of_settled}
 use Rattle.page_file.specs.Files.{NumberedFile}
 use Rattle.height_store.specs.Standing.{heights_shown, marks_open}
-use Rattle.height_store.specs.Store.{Store, StoredHeight, IsHeight, heights_in, mark_names, is_named, is_needed}
-use Rattle.height_store.specs.Kept.{IsReadable, IsWritable, MatchesFiles, IsMadeOf, ShowsHeight, ShowsHeights, KeepsHeights}
+use Rattle.height_store.specs.Store.{Store, StoredHeight, IsHeight, height_at, heights_in, mark_names, is_named, is_needed}
+use Rattle.height_store.specs.Kept.{HasStacks, IsReadable, IsWritable, MatchesFiles, IsMadeOf, ShowsHeight, ShowsHeights, KeepsHeights}
 use Rattle.height_store.specs.Shown.{or_left, or_right, listing_apart, stacks_apart, heights_given, same_heights, same_count}
 
 -- Files that have the marks and page files of some heights stand for them.
@@ -108,3 +112,53 @@ readable_opens hs files good few readable = marks_open files hs good few readabl
 pub over_after : {T E : Type 0} (r : Result T E) (old new : Store) (f g : Files) → MatchesFiles old f → OnOk r (IsReadable new.heights g) → OnOk r ((height : ℕ) → IsWritable old height f → IsWritable new height g) → OnOk r (MatchesFiles new g)
 over_after (Ok x) old new f g over readable writable = record { readable = readable; writable = λ height. writable height (over.writable height) }
 over_after (Err e) old new f g over readable writable = tt
+
+-- ---- a height that is found
+
+not_some : {X : Type 0} (x : X) → None ≡ Some x → ⊥
+not_some x is = false≢true (ap is_some is)
+
+-- what holds of all holds of the one that is found
+pub found_has : (P : StoredHeight → Type 0) (p : StoredHeight → Bool) (hs : List StoredHeight) (h : StoredHeight) → find p hs ≡ Some h → AllByRecursion P hs → P h
+found_has P p [] h is all = absurd (not_some h is)
+found_has P p (x ∷ hs) h is all = step (p x) (λ e. found_has P p hs h e all.1) is
+  where
+    step : (b : Bool) → (find p hs ≡ Some h → P h) → cond b (Some x) (find p hs) ≡ Some h → P h
+    step true later e = subst P (same_Some x h e) all.0
+    step false later e = later e
+
+-- Where the heights can be read, the page files of one that is found are there.
+pub stacks_found : (files : Files) (hs : List StoredHeight) (height : ℕ) (h : StoredHeight) → Some h ≡ height_at hs height → IsReadable hs files → HasStacks files h
+stacks_found files hs height h found readable = found_has (HasStacks files) (λ x. x.mark.height == height) hs h (sym found) readable.stacks
+
+-- ---- the newest height
+
+pub tail_ascends : (x : ℕ) (xs : List ℕ) → IsStrictlyIncreasing (x ∷ xs) → IsStrictlyIncreasing xs
+tail_ascends x xs up k within =
+    let next : suc k + 1 ≡ suc (k + 1) = omega arith in
+    subst (λ (i : ℕ). slice_index (x ∷ xs) (suc k) < slice_index (x ∷ xs) i) next (up (suc k) (omega (arith, within)))
+
+pub last_above : (x : ℕ) (xs : List ℕ) (last : ℕ) → IsStrictlyIncreasing (x ∷ xs) → Some last ≡ last_or (Some x) xs → x ≤ last
+last_above x [] last up e = let one : last ≡ x = cc e in omega (arith, one)
+last_above x (y ∷ xs) last up e =
+    let below : x < y = up 0 (omega arith) in
+    omega (arith, below, last_above y xs last (tail_ascends x (y ∷ xs) up) e)
+
+pub last_height : (hs : List StoredHeight) (h : StoredHeight) → Some h ≡ last_or None hs → Some h.mark.height ≡ last_or None (heights_in hs)
+last_height [] h e = absurd (cc e)
+last_height (x ∷ []) h e = let one : h ≡ x = cc e in ap (λ (y : StoredHeight). Some y.mark.height) one
+last_height (x ∷ y ∷ hs) h e = last_height (y ∷ hs) h e
+
+-- The last of ascending heights is found.
+pub last_found : (hs : List StoredHeight) (h : StoredHeight) → IsStrictlyIncreasing (heights_in hs) → Some h ≡ last_or None hs → Some h ≡ height_at hs h.mark.height
+last_found [] h up e = absurd (cc e)
+last_found (x ∷ []) h up e =
+    let one : x ≡ h = cc e in
+    let here : (x.mark.height == h.mark.height) ≡ true = grind (arith, nat_tests, ap (λ (y : StoredHeight). y.mark.height) one) in
+    rw here e
+last_found (x ∷ y ∷ hs) h up e =
+    let more = tail_ascends x.mark.height (heights_in (y ∷ hs)) up in
+    let below : x.mark.height < y.mark.height = up 0 (omega arith) in
+    let above : y.mark.height ≤ h.mark.height = last_above y.mark.height (heights_in hs) h.mark.height more (last_height (y ∷ hs) h e) in
+    let apart : (x.mark.height == h.mark.height) ≡ false = grind (arith, nat_tests, below, above) in
+    rw apart (last_found (y ∷ hs) h more e)

@@ -27,4 +27,3 @@ pub record HasWritten (height : ℕ) (text : Bytes) (old new : DiskView) : Type 
   pub firm : new.state.loose (name.Mark height) ≡ false
   pub no_draft : new.state.files (name.Draft height) ≡ None
   pub settled : IsSettled old.state → IsSettled new.state
-  pub appended : new.appended ≡ old.appended + length text

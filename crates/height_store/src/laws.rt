@@ -20,7 +20,7 @@ ghost use Rattle.height_store.specs.declared.error.StoreError.{StoreError};
 ghost use Rattle.height_store.specs.Answers.{OpensAs, Purges, ReadsAs, RangeIs};
 ghost use Rattle.height_store.specs.Bad.{IsFirstBadMark, IsFirstBadPage};
 ghost use Rattle.height_store.specs.Errors.{IsAnswered};
-ghost use Rattle.height_store.specs.Kept.{IsReadable, ShowsHeights, KeepsHeights};
+ghost use Rattle.height_store.specs.Kept.{HasStacks, IsReadable, ShowsHeights, KeepsHeights};
 ghost use Rattle.height_store.specs.Store.{Store, StoredHeight, IsHeight, Gains, IsNextFree, height_at, is_needed};
 
 /// Where a disk keeps heights, a crash leaves files that stand for them.
@@ -75,8 +75,7 @@ pub fn store_calls_have_one_answer()
         → IsReadable hs files → IsHeight h → height_at hs height ≡ Some h
         → IsSomeAnd (slice_get (memories_in (part_of h.system)) place) (λ m. page < m.1)
         → ReadsAs files hs height place page one → ReadsAs files hs height place page other → one ≡ other }
-    ensures ranges { (files : Files) (hs : List StoredHeight) (height place offset len : ℕ) (h : StoredHeight) (m : Bytes × ℕ)
-        (one other : Bytes) → IsReadable hs files → IsHeight h → height_at hs height ≡ Some h
-        → slice_get (memories_in (part_of h.system)) place ≡ Some m
-        → RangeIs files hs height place offset len one → RangeIs files hs height place offset len other → one ≡ other }
+    ensures ranges { (files : Files) (h : StoredHeight) (place offset len : ℕ) (m : Bytes × ℕ) (one other : Bytes)
+        → HasStacks files h → IsHeight h → slice_get (memories_in (part_of h.system)) place ≡ Some m
+        → RangeIs files h place offset len one → RangeIs files h place offset len other → one ≡ other }
 {}

@@ -2,7 +2,6 @@
 #![tactic(auto)]
 
 mod error;
-mod knowing;
 mod laws;
 mod limits;
 mod marks;
@@ -10,18 +9,17 @@ mod opening;
 mod pages;
 mod paging;
 mod publishing;
+mod questions;
 mod reading;
 mod store;
 mod sweeping;
 
 pub use error::StoreError;
-pub use knowing::manifest_at;
 pub use laws::{
     bad_disks_do_not_open, heights_kept_through_calls, kept_heights_stand,
     store_calls_have_one_answer, stores_open,
 };
 pub use limits::MAX_GIVEN;
-pub use reading::{read_bytes, read_memories};
 pub use store::{HeightStore, PublishedHeight};
 
 #[cfg(test)]

@@ -8,13 +8,14 @@ ghost use Rattle.store_spec.specs.Mark.{Mark as Marked, IsMarkText, mark_text};
 ghost use Rattle.disk_model.specs.declared.name.Kind.TheVariants as kind;
 ghost use Rattle.disk_model.specs.declared.name.Name.TheVariants as name;
 ghost use Rattle.disk_model.specs.Files.{IsListing};
+ghost use Rattle.disk_model.specs.Causes.{Fails, FailsFor};
 ghost use Rattle.disk_model.specs.Looking.{OnlyLooks};
 ghost use Rattle.height_store.specs.Bad.{AreGoodMarks, IsFirstBadMark, HasGoodMark, SpellsMark, mark_bytes, marks_bytes};
-ghost use Rattle.height_store.specs.Errors.{HasCause, NoBadFile, NoBadHeight};
+ghost use Rattle.height_store.specs.Errors.{IsBadMark, disk_error};
 ghost use Rattle.height_store.specs.Opened.{parts_of};
 
 use crate::error::StoreError;
-use disk_model::{Disk, Name};
+use disk_model::{Disk, DiskError, Name};
 use format_spec::MAX_PUBLISHED;
 use mark_file::{Mark, MarkError};
 use std::alloc::Global;
@@ -55,9 +56,7 @@ pub(crate) fn read_marks<D: Disk>(
     ensures bad_mark { IsTrue D.tells → (height : ℕ) → IsErrOf result (StoreError.BadMark height) → IsFirstBadMark (D.view disk.old).state.files height }
     ensures looks { IsTrue D.tells → IfOk result (λ marks. OnlyLooks (sum_by (λ m. length (mark_text m.mark)) marks.items) (D.view disk.old) (D.view disk.new)) }
     ensures reads { IsTrue D.tells → OnlyLooks (marks_bytes (D.view disk.old).state.files heights.now) (D.view disk.old) (D.view disk.new) }
-    ensures cause { HasCause (D.faults disk.old) (D.faults disk.new) result }
-    ensures no_bad_page { (number : ℕ) → IsErrOf result (StoreError.BadPage number) → ⊥ }
-    ensures no_bad_height { NoBadHeight result }
+    ensures cause { FailsFor D.Disk disk_error IsBadMark disk.old disk.new result }
 {
     let mut marks = Vec::new(alloc);
     for height in heights {
@@ -77,9 +76,7 @@ fn read_mark<D: Disk>(alloc: Global, disk: &mut D, height: u64) -> Result<Opened
     ensures number { (n : ℕ) → IsErrOf result (StoreError.BadMark n) → n ≡ height }
     ensures looks { IsTrue D.tells → IfOk result (λ m. OnlyLooks (length (mark_text m.mark)) (D.view disk.old) (D.view disk.new)) }
     ensures reads { IsTrue D.tells → OnlyLooks (mark_bytes ((D.view disk.old).state.files (name.Mark height))) (D.view disk.old) (D.view disk.new) }
-    ensures cause { HasCause (D.faults disk.old) (D.faults disk.new) result }
-    ensures no_bad_page { (number : ℕ) → IsErrOf result (StoreError.BadPage number) → ⊥ }
-    ensures no_bad_height { NoBadHeight result }
+    ensures cause { FailsFor D.Disk disk_error IsBadMark disk.old disk.new result }
 {
     match read_text(alloc, disk, height)? {
         Some(text) => spelled_mark(alloc, height, &text),
@@ -92,14 +89,12 @@ fn read_text<D: Disk>(
     alloc: Global,
     disk: &mut D,
     height: u64,
-) -> Result<Option<Vec<u8>>, StoreError>
+) -> Result<Option<Vec<u8>>, DiskError>
     ensures text { IsTrue D.tells → IfOk result (λ text. IfSome text (λ bytes. (D.view disk.old).state.files (name.Mark height) ≡ Some bytes.items)) }
     ensures none { IsTrue D.tells → IfOk result (λ text. IfNone text (HasGoodMark (D.view disk.old).state.files height → ⊥)) }
     ensures looks { IsTrue D.tells → IfOk result (λ text. IfSome text (λ bytes. OnlyLooks (length bytes.items) (D.view disk.old) (D.view disk.new))) }
     ensures reads { IsTrue D.tells → OnlyLooks (mark_bytes ((D.view disk.old).state.files (name.Mark height))) (D.view disk.old) (D.view disk.new) }
-    ensures cause { HasCause (D.faults disk.old) (D.faults disk.new) result }
-    ensures no_bad_file { NoBadFile result }
-    ensures no_bad_height { NoBadHeight result }
+    ensures cause { Fails D.Disk disk.old disk.new result }
 {
     let name = Name::Mark(height);
     match disk.size(alloc, name)? {

@@ -1,19 +1,20 @@
 //! Opening a disk.
 
-ghost use Rattle.std.specs.Prelude.{◌≡◌, ◌≤◌, ◌+◌, ℕ, List, None, is_some, nat_eq, true, IsTrue, OnOk, OnErr, IfOk, IfErr, IsErrOf};
+ghost use Rattle.std.specs.Prelude.{◌≡◌, ◌≤◌, ◌+◌, ℕ, List, None, is_some, nat_eq, true, IsTrue, OnOk, OnErr, IfOk, IfErr, IsErrAnd, IsErrOf};
 ghost use Rattle.std.specs.List.{list_any, AllByRecursion};
 ghost use Rattle.std.specs.List.Sorted.{IsStrictlyIncreasing};
 ghost use Rattle.store_spec.specs.Image.{Published, StandsFor, Opens};
 ghost use Rattle.disk_model.specs.declared.name.Kind.TheVariants as kind;
 ghost use Rattle.disk_model.specs.declared.name.Name.{Name};
 ghost use Rattle.disk_model.specs.declared.name.Name.TheVariants as name;
+ghost use Rattle.disk_model.specs.Causes.{Fails, FailsFor};
 ghost use Rattle.disk_model.specs.Files.{IsListing};
-ghost use Rattle.disk_model.specs.Frame.{TouchesOnly};
 ghost use Rattle.disk_model.specs.Looking.{OnlyLooks};
 ghost use Rattle.disk_model.specs.State.{IsSettled, IsImageNow};
 ghost use Rattle.disk_model.specs.View.{EachImage, LeavesOnly};
+ghost use Rattle.disk_model.specs.Writing.{Writes};
 ghost use Rattle.height_store.specs.Bad.{IsFirstBadMark, IsFirstBadPage, marks_bytes};
-ghost use Rattle.height_store.specs.Errors.{HasCause, NoBadFile, NoBadHeight, IsBadFile};
+ghost use Rattle.height_store.specs.Errors.{IsBadFile, disk_error};
 ghost use Rattle.height_store.specs.Found.{IsFound, is_stray};
 ghost use Rattle.height_store.specs.Kept.{IsReadable, MatchesFiles, KeepsHeights, StandsForSome, StandsAsBefore};
 ghost use Rattle.height_store.specs.Opened.{ReadsAtMost};
@@ -25,7 +26,7 @@ use crate::pages::{heights_of, open_pages};
 use crate::store::HeightStore;
 use crate::sweeping::sweep;
 use byte_codec::NoMemory;
-use disk_model::{Disk, Kind};
+use disk_model::{Disk, DiskError, Kind};
 use page_file::PageFile;
 use std::alloc::Global;
 
@@ -48,7 +49,7 @@ impl HeightStore {
         ensures settled { IsTrue D.tells → OnOk result (IsSettled (D.view disk.new).state) }
         ensures bad_mark { IsTrue D.tells → (height : ℕ) → IsErrOf result (StoreError.BadMark height) → IsFirstBadMark (D.view disk.old).state.files height }
         ensures bad_page { IsTrue D.tells → (number : ℕ) → IsErrOf result (StoreError.BadPage number) → IsFirstBadPage (D.view disk.old).state.files number }
-        ensures bad_keeps { IsTrue D.tells → IsBadFile result → LeavesOnly (D.view disk.old) (D.view disk.new) (IsImageNow (D.view disk.old).state) }
+        ensures bad_keeps { IsTrue D.tells → IsErrAnd result IsBadFile → LeavesOnly (D.view disk.old) (D.view disk.new) (IsImageNow (D.view disk.old).state) }
         ensures stands { IsTrue D.tells → (ps : List Published)
             → EachImage (D.view disk.old).state StandsForSome → StandsFor (D.view disk.old).state.files ps
             → IfOk result (λ store. KeepsHeights store.heights (D.view disk.new).state ps) }
@@ -58,7 +59,7 @@ impl HeightStore {
         ensures opens { IsTrue D.tells → OnOk result (Opens (D.view disk.old).state.files) }
         ensures kept { IsTrue D.tells → IfOk result (λ store. (q : Name) → is_needed store.heights q ≡ true → (D.view disk.new).state.files q ≡ (D.view disk.old).state.files q) }
         ensures marks { IsTrue D.tells → (n : ℕ) → (D.view disk.new).state.files (name.Mark n) ≡ (D.view disk.old).state.files (name.Mark n) }
-        ensures bad_reads { IsTrue D.tells → IsBadFile result → (D.view disk.new).state.files ≡ (D.view disk.old).state.files }
+        ensures bad_reads { IsTrue D.tells → IsErrAnd result IsBadFile → (D.view disk.new).state.files ≡ (D.view disk.old).state.files }
         ensures pages { IsTrue D.tells → IfOk result (λ store. (n : ℕ) → is_some ((D.view disk.new).state.files (name.Page n)) ≡ is_named store.heights n) }
         ensures no_stage { IsTrue D.tells → OnOk result ((n : ℕ) → (D.view disk.new).state.files (name.Stage n) ≡ None) }
         ensures named { IfOk result (λ store. (n : ℕ) → list_any (nat_eq n) store.named ≡ is_named store.heights n) }
@@ -68,8 +69,7 @@ impl HeightStore {
             → (D.view disk.new).bytes_read ≤ (D.view disk.old).bytes_read + marks_bytes (D.view disk.old).state.files heights }
         ensures read { IsTrue D.tells → IfOk result (λ store. ReadsAtMost (D.view disk.old).state.files store (D.view disk.old).bytes_read (D.view disk.new).bytes_read) }
         ensures appended { IsTrue D.tells → (D.view disk.new).appended ≡ (D.view disk.old).appended }
-        ensures cause { HasCause (D.faults disk.old) (D.faults disk.new) result }
-        ensures no_bad_height { NoBadHeight result }
+        ensures cause { FailsFor D.Disk disk_error IsBadFile disk.old disk.new result }
     {
         disk.settle(alloc)?;
         let lists = list_all(alloc, disk)?;
@@ -89,15 +89,13 @@ struct Lists {
 }
 
 // Lists all files.
-fn list_all<D: Disk>(alloc: Global, disk: &mut D) -> Result<Lists, StoreError>
+fn list_all<D: Disk>(alloc: Global, disk: &mut D) -> Result<Lists, DiskError>
     ensures marks { IsTrue D.tells → IfOk result (λ lists. IsListing kind.Mark (D.view disk.old).state.files lists.marks.items) }
     ensures pages { IsTrue D.tells → IfOk result (λ lists. IsListing kind.Page (D.view disk.old).state.files lists.pages.items) }
     ensures drafts { IsTrue D.tells → IfOk result (λ lists. IsListing kind.Draft (D.view disk.old).state.files lists.drafts.items) }
     ensures stages { IsTrue D.tells → IfOk result (λ lists. IsListing kind.Stage (D.view disk.old).state.files lists.stages.items) }
     ensures looks { IsTrue D.tells → OnlyLooks 0 (D.view disk.old) (D.view disk.new) }
-    ensures cause { HasCause (D.faults disk.old) (D.faults disk.new) result }
-    ensures no_bad_file { NoBadFile result }
-    ensures no_bad_height { NoBadHeight result }
+    ensures cause { Fails D.Disk disk.old disk.new result }
 {
     Ok(Lists {
         marks: disk.list(alloc, Kind::Mark)?,
@@ -125,8 +123,7 @@ fn read_store<D: Disk>(
     ensures read { IsTrue D.tells → IfOk result (λ store. ReadsAtMost (D.view disk.old).state.files store (D.view disk.old).bytes_read (D.view disk.new).bytes_read) }
     ensures bad_mark_reads { IsTrue D.tells → (height : ℕ) → IsErrOf result (StoreError.BadMark height) → OnlyLooks (marks_bytes (D.view disk.old).state.files heights.now) (D.view disk.old) (D.view disk.new) }
     ensures only_looks { IsTrue D.tells → (most : ℕ) × OnlyLooks most (D.view disk.old) (D.view disk.new) }
-    ensures cause { HasCause (D.faults disk.old) (D.faults disk.new) result }
-    ensures no_bad_height { NoBadHeight result }
+    ensures cause { FailsFor D.Disk disk_error IsBadFile disk.old disk.new result }
 {
     check_order(heights)?;
     let marks = read_marks(alloc, disk, heights)?;
@@ -164,20 +161,14 @@ fn sweep_strays<D: Disk>(
     disk: &mut D,
     lists: &Lists,
     named: &[u64],
-) -> Result<(), StoreError>
+) -> Result<(), DiskError>
     requires pages { IsTrue D.tells → IsListing kind.Page (D.view disk.old).state.files lists.now.pages.items }
     requires drafts { IsTrue D.tells → IsListing kind.Draft (D.view disk.old).state.files lists.now.drafts.items }
     requires stages { IsTrue D.tells → IsListing kind.Stage (D.view disk.old).state.files lists.now.stages.items }
     requires ascends { IsStrictlyIncreasing named.now }
 
     ensures gone { IsTrue D.tells → OnOk result ((q : Name) → is_stray named.now q ≡ true → (D.view disk.new).state.files q ≡ None) }
-    ensures touches { IsTrue D.tells → TouchesOnly (is_stray named.now) (D.view disk.old) (D.view disk.new) }
-    ensures settled { IsTrue D.tells → OnOk result (IsSettled (D.view disk.old).state → IsSettled (D.view disk.new).state) }
-    ensures appended { IsTrue D.tells → (D.view disk.new).appended ≡ (D.view disk.old).appended }
-    ensures read { IsTrue D.tells → (D.view disk.new).bytes_read ≡ (D.view disk.old).bytes_read }
-    ensures cause { HasCause (D.faults disk.old) (D.faults disk.new) result }
-    ensures no_bad_file { NoBadFile result }
-    ensures no_bad_height { NoBadHeight result }
+    ensures writes { Writes D.Disk (is_stray named.now) 0 disk.old disk.new result }
 {
     sweep(alloc, disk, Kind::Page, &lists.pages, named)?;
     sweep(alloc, disk, Kind::Draft, &lists.drafts, &[])?;

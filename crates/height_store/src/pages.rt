@@ -5,28 +5,28 @@ ghost use Rattle.std.specs.List.{list_any, AllByRecursion, Contains};
 ghost use Rattle.std.specs.List.Sorted.{IsStrictlyIncreasing, IsNonDecreasingBy};
 ghost use Rattle.format_spec.specs.declared.limits.TheConstants.{MAX_LAYERS};
 ghost use Rattle.state_spec.specs.Files.{memories_in};
-ghost use Rattle.sys_state.specs.System.{part_of};
+ghost use Rattle.sys_state.specs.System.{part_of, IsWithinLimits};
 ghost use Rattle.page_spec.specs.PageFile.{index_length};
+ghost use Rattle.disk_model.specs.Causes.{FailsFor};
 ghost use Rattle.disk_model.specs.Files.{Files};
 ghost use Rattle.disk_model.specs.Looking.{OnlyLooks};
+ghost use Rattle.page_file.specs.Errors.{IsBadFile, page_error};
 ghost use Rattle.page_file.specs.Files.{IsAsKnown};
 ghost use Rattle.height_store.specs.Bad.{AreGoodMarks, IsFirstBadPage, IsGoodNaming, namings, mark_namings};
-ghost use Rattle.height_store.specs.Errors.{HasCause, NoBadHeight};
 ghost use Rattle.height_store.specs.Kept.{HasStacks};
 ghost use Rattle.height_store.specs.Naming.{rows_of, IsFileOf, Takes, index_bytes, IsFirstBadNaming};
 ghost use Rattle.height_store.specs.Opened.{parts_of, FitNamings};
 ghost use Rattle.height_store.specs.Store.{IsHeight, numbers_of};
 
-use crate::error::StoreError;
 use crate::marks::OpenedMark;
 use crate::store::PublishedHeight;
 use byte_codec::NoMemory;
 use disk_model::Disk;
 use layer_stack::Stack;
 use mark_file::MarkMem;
-use page_file::PageFile;
+use page_file::{PageError, PageFile};
 use std::alloc::Global;
-use sys_state::SysState;
+use sys_state::memory_pages;
 
 /// Opens each page file that these marks name, once, by number. The marks are all that the disk has, and good.
 /// BadPage for the first that is absent, isn't a valid page file or has more memory pages than a memory that names it.
@@ -34,19 +34,17 @@ pub(crate) fn open_pages<D: Disk>(
     alloc: Global,
     disk: &mut D,
     marks: &[OpenedMark],
-) -> Result<Vec<PageFile>, StoreError>
+) -> Result<Vec<PageFile>, PageError>
     requires good { IsTrue D.tells → AreGoodMarks (D.view disk.old).state.files (map parts_of marks.now) }
 
     ensures kept { IsTrue D.tells → IfOk result (λ files. AllByRecursion (IsAsKnown (D.view disk.old).state.files) files.items) }
     ensures ascends { IfOk result (λ files. IsStrictlyIncreasing (numbers_of files.items)) }
     ensures named { IfOk result (λ files. (n : ℕ) → list_any (nat_eq n) (numbers_of files.items) ≡ list_any (λ naming. nat_eq n naming.0) (namings (map parts_of marks.now))) }
     ensures fits { IfOk result (λ files. FitNamings files.items (namings (map parts_of marks.now))) }
-    ensures bad_page { IsTrue D.tells → (number : ℕ) → IsErrOf result (StoreError.BadPage number) → IsFirstBadPage (D.view disk.old).state.files number }
+    ensures bad_page { IsTrue D.tells → (number : ℕ) → IsErrOf result (PageError.BadPage number) → IsFirstBadPage (D.view disk.old).state.files number }
     ensures looks { IsTrue D.tells → IfOk result (λ files. OnlyLooks (sum_by (λ file. index_length file.index) files.items) (D.view disk.old) (D.view disk.new)) }
     ensures only_looks { IsTrue D.tells → (most : ℕ) × OnlyLooks most (D.view disk.old) (D.view disk.new) }
-    ensures cause { HasCause (D.faults disk.old) (D.faults disk.new) result }
-    ensures no_bad_mark { (height : ℕ) → IsErrOf result (StoreError.BadMark height) → ⊥ }
-    ensures no_bad_height { NoBadHeight result }
+    ensures cause { FailsFor D.Disk page_error IsBadFile disk.old disk.new result }
 {
     let mut namings = namings_of(alloc, marks)?;
     namings.sort_unstable_by_key(|naming| naming.0);
@@ -90,23 +88,8 @@ fn namings_of(alloc: Global, marks: &[OpenedMark]) -> Result<Vec<(u64, u32)>, No
 fn add_mark(alloc: Global, all: &mut Vec<(u64, u32)>, mark: &OpenedMark) -> Result<(), NoMemory>
     ensures { OnOk result (all.new.items ≡ all.old.items ++ mark_namings (parts_of mark.now)) }
 {
-    let pages = pages_of_memories(alloc, &mark.sys)?;
+    let pages = memory_pages(alloc, &mark.sys)?;
     add_mems(all, &mark.mark.mems, &pages)
-}
-
-// The pages of each memory, heap and stable memory of each canister in order of ids.
-fn pages_of_memories(alloc: Global, sys: &SysState) -> Result<Vec<u32>, NoMemory>
-    ensures { IfOk result (λ pages. pages.items ≡ map (λ memory. memory.1) (memories_in (part_of sys.now))) }
-{
-    let mut pages = Vec::new(alloc);
-    for i in 0..sys.canisters() {
-        let Some((_, canister)) = sys.canister_at(i) else {
-            unreachable!();
-        };
-        pages.push(canister.heap)?;
-        pages.push(canister.stable)?;
-    }
-    Ok(pages)
 }
 
 // Adds those that memories of so many pages each name.
@@ -136,19 +119,17 @@ fn open_named<D: Disk>(
     alloc: Global,
     disk: &mut D,
     named: &[(u64, u32)],
-) -> Result<Vec<PageFile>, StoreError>
+) -> Result<Vec<PageFile>, PageError>
     requires ordered { IsNonDecreasingBy (λ naming. naming.0) named.now }
 
     ensures kept { IsTrue D.tells → IfOk result (λ files. AllByRecursion (IsAsKnown (D.view disk.old).state.files) files.items) }
     ensures ascends { IfOk result (λ files. IsStrictlyIncreasing (numbers_of files.items)) }
     ensures named { IfOk result (λ files. (n : ℕ) → list_any (nat_eq n) (numbers_of files.items) ≡ list_any (λ naming. nat_eq n naming.0) named.now) }
     ensures fits { IfOk result (λ files. FitNamings files.items named.now) }
-    ensures bad_page { IsTrue D.tells → (number : ℕ) → IsErrOf result (StoreError.BadPage number) → IsFirstBadNaming (D.view disk.old).state.files named.now number }
+    ensures bad_page { IsTrue D.tells → (number : ℕ) → IsErrOf result (PageError.BadPage number) → IsFirstBadNaming (D.view disk.old).state.files named.now number }
     ensures looks { IsTrue D.tells → IfOk result (λ files. OnlyLooks (index_bytes files.items) (D.view disk.old) (D.view disk.new)) }
     ensures only_looks { IsTrue D.tells → (most : ℕ) × OnlyLooks most (D.view disk.old) (D.view disk.new) }
-    ensures cause { HasCause (D.faults disk.old) (D.faults disk.new) result }
-    ensures no_bad_mark { (height : ℕ) → IsErrOf result (StoreError.BadMark height) → ⊥ }
-    ensures no_bad_height { NoBadHeight result }
+    ensures cause { FailsFor D.Disk page_error IsBadFile disk.old disk.new result }
 {
     let mut files = Vec::new(alloc);
     for naming in named {
@@ -164,20 +145,18 @@ fn open_one<D: Disk>(
     files: &mut Vec<PageFile>,
     number: u64,
     pages: u32,
-) -> Result<(), StoreError>
+) -> Result<(), PageError>
     requires ascends { IsStrictlyIncreasing (numbers_of files.old.items) }
     requires kept { IsTrue D.tells → AllByRecursion (IsAsKnown (D.view disk.old).state.files) files.old.items }
 
     ensures takes { OnOk result (Takes files.old.items number pages files.new.items) }
     ensures kept { IsTrue D.tells → OnOk result (AllByRecursion (IsAsKnown (D.view disk.old).state.files) files.new.items) }
     ensures good { IsTrue D.tells → OnOk result (IsGoodNaming (D.view disk.old).state.files (number, pages)) }
-    ensures number { (n : ℕ) → IsErrOf result (StoreError.BadPage n) → n ≡ number }
-    ensures bad { IsTrue D.tells → (n : ℕ) → IsErrOf result (StoreError.BadPage n) → IsGoodNaming (D.view disk.old).state.files (number, pages) → ⊥ }
+    ensures number { (n : ℕ) → IsErrOf result (PageError.BadPage n) → n ≡ number }
+    ensures bad { IsTrue D.tells → (n : ℕ) → IsErrOf result (PageError.BadPage n) → IsGoodNaming (D.view disk.old).state.files (number, pages) → ⊥ }
     ensures looks { IsTrue D.tells → OnOk result ((most : ℕ) × (index_bytes files.new.items ≡ index_bytes files.old.items + most) × OnlyLooks most (D.view disk.old) (D.view disk.new)) }
     ensures only_looks { IsTrue D.tells → (most : ℕ) × OnlyLooks most (D.view disk.old) (D.view disk.new) }
-    ensures cause { HasCause (D.faults disk.old) (D.faults disk.new) result }
-    ensures no_bad_mark { (height : ℕ) → IsErrOf result (StoreError.BadMark height) → ⊥ }
-    ensures no_bad_height { NoBadHeight result }
+    ensures cause { FailsFor D.Disk page_error IsBadFile disk.old disk.new result }
 {
     if let Some(file) = find_file(files, number) {
         return check_fits(file, pages);
@@ -189,12 +168,12 @@ fn open_one<D: Disk>(
 }
 
 // BadPage where the file has more memory pages than these.
-fn check_fits(file: &PageFile, pages: u32) -> Result<(), StoreError>
+fn check_fits(file: &PageFile, pages: u32) -> Result<(), PageError>
     ensures fits { OnOk result (file.now.index.memory ≤ pages) }
-    ensures bad { IfErr result (λ e. (e ≡ StoreError.BadPage file.now.number) × (pages < file.now.index.memory)) }
+    ensures bad { IfErr result (λ e. (e ≡ PageError.BadPage file.now.number) × (pages < file.now.index.memory)) }
 {
     if file.index().memory() > pages {
-        return Err(StoreError::BadPage(file.number()));
+        return Err(PageError::BadPage(file.number()));
     }
     Ok(())
 }

@@ -1,12 +1,13 @@
 //! Reading pages of published heights.
 
-ghost use Rattle.std.specs.Prelude.{◌≡◌, ◌↔◌, ◌<◌, Err, slice_get, is_some, false, IsTrue, OnOk, IfSome, IsSomeAnd};
+ghost use Rattle.std.specs.Prelude.{◌≡◌, ◌↔◌, ◌<◌, Err, slice_get, is_some, false, IsTrue, OnOk, IfSome, IsSomeAnd, ⊤};
 ghost use Rattle.format_spec.specs.declared.limits.TheConstants.{PAGE_SIZE};
 ghost use Rattle.state_spec.specs.Files.{memories_in};
 ghost use Rattle.sys_state.specs.System.{part_of};
+ghost use Rattle.disk_model.specs.Causes.{FailsFor, OnlyIf};
 ghost use Rattle.disk_model.specs.Looking.{OnlyLooks};
 ghost use Rattle.height_store.specs.Answers.{ReadsAs};
-ghost use Rattle.height_store.specs.Errors.{HasCause, NoBadFile};
+ghost use Rattle.height_store.specs.Errors.{disk_error};
 ghost use Rattle.height_store.specs.Kept.{IsReadable};
 ghost use Rattle.height_store.specs.Store.{height_at};
 
@@ -37,16 +38,11 @@ impl HeightStore {
         ensures no_height { (result ≡ Err StoreError.NoHeight) ↔ (is_some (height_at self.now.heights height) ≡ false) }
         ensures page { IsTrue D.tells → OnOk result (ReadsAs (D.view disk.old).state.files self.now.heights height file page into.new) }
         ensures looks { IsTrue D.tells → OnlyLooks PAGE_SIZE (D.view disk.old) (D.view disk.new) }
-        ensures cause { HasCause (D.faults disk.old) (D.faults disk.new) result }
-        ensures no_bad_file { NoBadFile result }
-        ensures last_height { result ≡ Err StoreError.LastHeight → ⊥ }
+        ensures cause { FailsFor D.Disk disk_error (OnlyIf StoreError.NoHeight ⊤) disk.old disk.new result }
     {
         match self.find(height) {
             None => Err(StoreError::NoHeight),
-            Some(found) => {
-                let _found = found.stacks[file as usize].read(alloc, disk, page, into)?;
-                Ok(())
-            }
+            Some(found) => Ok(found.read_page(alloc, disk, file, page, into)?),
         }
     }
 }

@@ -9,11 +9,11 @@ ghost use Rattle.store_spec.specs.Mark.{mark_text};
 ghost use Rattle.disk_model.specs.declared.name.Name.TheVariants as name;
 ghost use Rattle.disk_model.specs.Files.{same_name};
 ghost use Rattle.disk_model.specs.State.{IsSettled, IsAbsent};
-ghost use Rattle.disk_model.specs.Call.{count_after};
+ghost use Rattle.disk_model.specs.Causes.{FailsFor};
 ghost use Rattle.disk_model.specs.View.{LeavesOnly};
-ghost use Rattle.disk_model.specs.Frame.{TouchesOnly};
+ghost use Rattle.disk_model.specs.Writing.{Writes, WritesOnly};
 ghost use Rattle.page_file.specs.Files.{IsAsKnown};
-ghost use Rattle.height_store.specs.Errors.{HasCause, NoBadFile, NoBadHeight};
+ghost use Rattle.height_store.specs.Errors.{IsBadHeight, disk_error};
 ghost use Rattle.height_store.specs.Kept.{IsReadable, IsWritable, IsMadeOf, HasFirmPages, KeepsHeights, StandsForEither};
 ghost use Rattle.height_store.specs.Store.{FitsMark, IsHeight, Gains, height_at, without_height, is_newest};
 ghost use Rattle.height_store.specs.Written.{is_of, HasWritten, IsBeforeOrAfter};
@@ -39,7 +39,7 @@ impl HeightStore {
         mark: Mark,
         stacks: Vec<Stack>,
         disk: &mut D,
-    ) -> Result<(), StoreError>
+    ) -> Result<(), DiskError>
         requires good { (s : SystemPart) × FitsMark mark s stacks.items }
         requires above { AllByRecursion (λ h. h.mark.height < mark.height) self.old.heights }
         requires few { length self.old.heights < MAX_PUBLISHED }
@@ -59,13 +59,7 @@ impl HeightStore {
             → IsSettled (D.view disk.old).state → KeepsHeights self.old.heights (D.view disk.old).state ps
             → IsMadeOf (D.view disk.old).state.files mark s stacks.items p → HasFirmPages (D.view disk.old).state mark
             → LeavesOnly (D.view disk.old) (D.view disk.new) (StandsForEither ps (ps ++ p ∷ [])) }
-        ensures settled { IsTrue D.tells → OnOk result (IsSettled (D.view disk.old).state → IsSettled (D.view disk.new).state) }
-        ensures touches { IsTrue D.tells → TouchesOnly (is_of mark.height) (D.view disk.old) (D.view disk.new) }
-        ensures appended { IsTrue D.tells → OnOk result ((D.view disk.new).appended ≡ (D.view disk.old).appended + length (mark_text mark)) }
-        ensures read { IsTrue D.tells → (D.view disk.new).bytes_read ≡ (D.view disk.old).bytes_read }
-        ensures cause { HasCause (D.faults disk.old) (D.faults disk.new) result }
-        ensures no_bad_file { NoBadFile result }
-        ensures no_bad_height { NoBadHeight result }
+        ensures writes { Writes D.Disk (is_of mark.height) (length (mark_text mark)) disk.old disk.new result }
     {
         let height = mark.height;
         let text = mark.encode(alloc)?;
@@ -102,12 +96,8 @@ impl HeightStore {
         ensures images { IsTrue D.tells → (ps : List Published)
             → IsSettled (D.view disk.old).state → KeepsHeights self.old.heights (D.view disk.old).state ps
             → LeavesOnly (D.view disk.old) (D.view disk.new) (StandsForEither ps (without_published ps height)) }
-        ensures settled { IsTrue D.tells → OnOk result (IsSettled (D.view disk.old).state → IsSettled (D.view disk.new).state) }
-        ensures touches { IsTrue D.tells → TouchesOnly (same_name (name.Mark height)) (D.view disk.old) (D.view disk.new) }
-        ensures appended { IsTrue D.tells → OnOk result ((D.view disk.new).appended ≡ (D.view disk.old).appended) }
-        ensures read { IsTrue D.tells → (D.view disk.new).bytes_read ≡ (D.view disk.old).bytes_read }
-        ensures cause { HasCause (D.faults disk.old) (D.faults disk.new) result }
-        ensures no_bad_file { NoBadFile result }
+        ensures writes { IsTrue D.tells → WritesOnly (same_name (name.Mark height)) 0 result (D.view disk.old) (D.view disk.new) }
+        ensures cause { FailsFor D.Disk disk_error IsBadHeight disk.old disk.new result }
     {
         let newest = match self.find(height) {
             None => return Err(StoreError::NoHeight),
@@ -164,10 +154,7 @@ fn write_mark<D: Disk>(
 
     ensures written { IsTrue D.tells → OnOk result (HasWritten height text.now (D.view disk.old) (D.view disk.new)) }
     ensures images { IsTrue D.tells → IsSettled (D.view disk.old).state → LeavesOnly (D.view disk.old) (D.view disk.new) (IsBeforeOrAfter (D.view disk.old).state height text.now) }
-    ensures touches { IsTrue D.tells → TouchesOnly (is_of height) (D.view disk.old) (D.view disk.new) }
-    ensures read { IsTrue D.tells → (D.view disk.new).bytes_read ≡ (D.view disk.old).bytes_read }
-    ensures faults { D.faults disk.old ≤ D.faults disk.new }
-    ensures fault { IsErrOf result DiskError.Fault → count_after (D.faults disk.old) 1 ≤ D.faults disk.new }
+    ensures writes { Writes D.Disk (is_of height) (length text.now) disk.old disk.new result }
 {
     let draft = Name::Draft(height);
     disk.create(alloc, draft)?;

@@ -31,6 +31,31 @@ impl Model for PublishedHeight {
     ghost invariant = { λ h. IsHeight (record { mark = h.mark; system = h.sys; stacks = h.stacks.items }) };
 }
 
+impl PublishedHeight {
+    /// The height.
+    pub fn height(&self) -> u64
+        ensures { result ≡ self.now.mark.height }
+    {
+        self.mark.height
+    }
+
+    /// Its mark.
+    pub fn mark(&self) -> &Mark
+        ensures mark { result.now ≡ self.now.mark }
+        ensures good { IsHeight self.now }
+    {
+        &self.mark
+    }
+
+    /// What the system text of its mark spells, each canister being born at that height.
+    pub fn sys(&self) -> &SysState
+        ensures sys { result.now ≡ self.now.system }
+        ensures good { IsHeight self.now }
+    {
+        &self.sys
+    }
+}
+
 /// The published heights of a disk, and which numbers page files may still get. After Fault or Memory in a call that
 /// changes the disk it is given up, and the disk is opened again.
 #[derive(Drop)]
@@ -110,8 +135,16 @@ impl HeightStore {
         }
     }
 
-    // What is kept of a height. `None` exactly where it is not published.
-    pub(crate) fn find(&self, height: u64) -> Option<&PublishedHeight>
+    /// What is kept of the newest published height. `None` exactly where none is published.
+    pub fn last(&self) -> Option<&PublishedHeight>
+        ensures last { option_copied result ≡ last_or None self.now.heights }
+        ensures ascends { IsStrictlyIncreasing (heights_in self.now.heights) }
+    {
+        self.heights.last()
+    }
+
+    /// What is kept of a height. `None` exactly where it is not published.
+    pub fn find(&self, height: u64) -> Option<&PublishedHeight>
         ensures { option_copied result ≡ height_at self.now.heights height }
     {
         self.heights.iter().find(|h| h.mark.height == height)

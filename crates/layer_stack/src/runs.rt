@@ -2,16 +2,15 @@
 ghost use Rattle.std.specs.Prelude.{◌≡◌, ◌*◌, ◌<◌, ◌≤◌, ◌++◌, length, take, drop, replicate, Some, slice_index, IsTrue, OnOk, IfOk};
 ghost use Rattle.std.specs.List.{AllByRecursion};
 ghost use Rattle.format_spec.specs.declared.limits.TheConstants.{PAGE_SIZE as page_size};
+ghost use Rattle.disk_model.specs.Causes.{Fails};
 ghost use Rattle.disk_model.specs.Looking.{OnlyLooks};
-ghost use Rattle.page_file.specs.Errors.{HasCause, NoBadPage};
 ghost use Rattle.page_file.specs.Files.{IsAsKnown};
 ghost use Rattle.layer_stack.specs.Stacks.{PagesReadAs};
 ghost use Rattle.layer_stack.specs.Found.{FindsLayer, IsRun};
 
 use crate::Stack;
-use disk_model::Disk;
+use disk_model::{Disk, DiskError};
 use format_spec::PAGE_SIZE;
-use page_file::PageError;
 use std::alloc::Global;
 
 impl Stack {
@@ -24,14 +23,13 @@ impl Stack {
         disk: &mut D,
         pages: &[u32],
         into: &mut [u8],
-    ) -> Result<(), PageError>
+    ) -> Result<(), DiskError>
         requires size { length into.old ≡ page_size * length pages.now }
         requires kept { IsTrue D.tells → AllByRecursion (IsAsKnown (D.view disk.old).state.files) self.now }
 
         ensures bytes { IsTrue D.tells → OnOk result (PagesReadAs (D.view disk.old).state.files self.now pages.now into.new) }
         ensures looks { IsTrue D.tells → OnlyLooks (page_size * length pages.now) (D.view disk.old) (D.view disk.new) }
-        ensures cause { HasCause (D.faults disk.old) (D.faults disk.new) result }
-        ensures no_bad_page { NoBadPage result }
+        ensures cause { Fails D.Disk disk.old disk.new result }
     {
         let mut done = 0;
         while done < pages.len() {
@@ -48,7 +46,7 @@ impl Stack {
         disk: &mut D,
         pages: &[u32],
         into: &mut [u8],
-    ) -> Result<usize, PageError>
+    ) -> Result<usize, DiskError>
         requires some { 0 < length pages.now }
         requires size { length into.old ≡ page_size * length pages.now }
         requires kept { IsTrue D.tells → AllByRecursion (IsAsKnown (D.view disk.old).state.files) self.now }
@@ -57,8 +55,7 @@ impl Stack {
         ensures bytes { IsTrue D.tells → IfOk result (λ count. PagesReadAs (D.view disk.old).state.files self.now (take count pages.now) (take (count * page_size) into.new)) }
         ensures looks { IsTrue D.tells → IfOk result (λ count. OnlyLooks (page_size * count) (D.view disk.old) (D.view disk.new)) }
         ensures looks_at_most { IsTrue D.tells → OnlyLooks (page_size * length pages.now) (D.view disk.old) (D.view disk.new) }
-        ensures cause { HasCause (D.faults disk.old) (D.faults disk.new) result }
-        ensures no_bad_page { NoBadPage result }
+        ensures cause { Fails D.Disk disk.old disk.new result }
     {
         match self.layer_with(pages[0]) {
             Some((i, place)) => {

@@ -3,14 +3,14 @@ ghost use Rattle.std.specs.Prelude.{◌≡◌, ◌<◌, ◌≤◌, ◌++◌, [],
 ghost use Rattle.std.specs.List.{AllByRecursion};
 ghost use Rattle.format_spec.specs.declared.limits.TheConstants.{PAGE_SIZE, MAX_LAYERS};
 ghost use Rattle.disk_model.specs.Looking.{OnlyLooks};
-ghost use Rattle.page_file.specs.Errors.{HasCause, NoBadPage};
+ghost use Rattle.disk_model.specs.Causes.{Fails};
 ghost use Rattle.page_file.specs.Files.{IsAsKnown};
 ghost use Rattle.layer_stack.specs.Stacks.{ReadsAs, newest, numbers_of, sizes_of};
 ghost use Rattle.layer_stack.specs.Found.{FindsLayer};
 
 use byte_codec::NoMemory;
-use disk_model::Disk;
-use page_file::{PageBytes, PageError, PageFile};
+use disk_model::{Disk, DiskError};
+use page_file::{PageBytes, PageFile};
 use std::alloc::Global;
 use std::marker::Model;
 
@@ -113,15 +113,14 @@ impl Stack {
         disk: &mut D,
         page: u32,
         into: &mut PageBytes,
-    ) -> Result<bool, PageError>
+    ) -> Result<bool, DiskError>
         requires { IsTrue D.tells → AllByRecursion (IsAsKnown (D.view disk.old).state.files) self.now }
 
         ensures bytes { IsTrue D.tells → OnOk result (ReadsAs (D.view disk.old).state.files self.now page into.new) }
         ensures found { IfOk result (λ found. found ≡ is_some (newest (reverse self.now) page)) }
         ensures zeros { IfOk result (λ found. found ≡ false → into.new ≡ replicate PAGE_SIZE 0) }
         ensures looks { IsTrue D.tells → OnlyLooks PAGE_SIZE (D.view disk.old) (D.view disk.new) }
-        ensures cause { HasCause (D.faults disk.old) (D.faults disk.new) result }
-        ensures no_bad_page { NoBadPage result }
+        ensures cause { Fails D.Disk disk.old disk.new result }
     {
         match self.layer_with(page) {
             Some((i, place)) => {

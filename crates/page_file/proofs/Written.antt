@@ -1,30 +1,41 @@
 -- What the calls of a writer leave.
-use Rattle.std.proofs.Common.{◌≡◌, ℕ, ◌+◌, ◌*◌, ◌≤◌, ◌==◌, false, [], ◌∷◌, ◌++◌, length, unwrap_or, Some, Result, inl, inr, refl, sym, ◌∙◌, ap, subst, arith, length-append, append_assoc}
+use Rattle.std.proofs.Common.{◌≡◌, ℕ, ◌+◌, ◌*◌, ◌≤◌, ◌==◌, false, [], ◌∷◌, ◌++◌, length, unwrap_or, IsTrue, Some, Result, inl, inr, refl, sym, ◌∙◌, ap, subst, arith, length-append, append_assoc}
 use Rattle.std.proofs.lemmas.Bool.{cases_Bool, eqb-true, ne_eqb}
 use Rattle.format_spec.specs.Bytes.{Bytes}
 use Rattle.page_spec.specs.PageFile.{IsIndex, index_text}
+use Rattle.disk_model.specs.declared.disk.Disk.{Ghosts}
 use Rattle.disk_model.specs.declared.disk.DiskError.{DiskError}
+use Rattle.disk_model.specs.declared.name.Name.{Name}
 use Rattle.disk_model.specs.declared.name.Name.TheVariants.{Page}
 use Rattle.disk_model.specs.Files.{same_name}
 use Rattle.disk_model.specs.State.{DiskState, IsLoose, IsFirm}
-use Rattle.disk_model.specs.Call.{Call, append, seal, is_given}
-use Rattle.disk_model.specs.View.{DiskView, Done, Does}
+use Rattle.disk_model.specs.Call.{Call, append, seal, is_given, length_given}
+use Rattle.disk_model.specs.View.{DiskView, Done, Does, HasCause}
 use Rattle.disk_model.specs.Laws.{IsSound, appended_loose, sealed_firm, same_name_refl}
-use Rattle.disk_model.specs.Frame.{TouchesOnly, touches_call}
+use Rattle.disk_model.specs.Writing.{Writes, one_write}
 use Rattle.page_file.specs.Files.{NumberedFile, UnfinishedFile, IsWriting, IsFinished, text_written, text_added, length_added}
 use Rattle.page_spec.proofs.PageFiles.{length-index_text}
 
--- a call on one page file touches that file alone
-pub touches_page : {T : Type 0} (call : Call) (result : Result T DiskError) (old new : DiskView) (n m : ℕ) → n ≡ m → ((q : _) → same_name (Page n) q ≡ false → is_given call q ≡ false) → IsSound old.state → Does call result old new → TouchesOnly (same_name (Page m)) old new
-touches_page call result old new n m is apart sound does = subst (λ k. TouchesOnly (same_name (Page k)) old new) is (touches_call call result old new (same_name (Page n)) apart sound does)
+-- a call on one page file writes to that file alone
+pub page_call : {D T : Type 0} (disk : Ghosts D) (call : Call) (result : Result T DiskError) (n m : ℕ) (old new : D) → n ≡ m → ((q : Name) → same_name (Page n) q ≡ false → is_given call q ≡ false) → (IsTrue disk.tells → IsSound (disk.view old).state)
+    → (IsTrue disk.tells → Does call result (disk.view old) (disk.view new)) → HasCause (disk.faults old) (disk.faults new) result → Writes disk (same_name (Page m)) (length_given call) old new result
+page_call disk call result n m old new is apart sound does cause =
+    subst (λ k. Writes disk (same_name (Page k)) (length_given call) old new result) is (one_write disk call result (same_name (Page n)) old new apart sound does cause)
 
 -- ---- a page more
 
-pub length-text_added : (writer : UnfinishedFile) (count : ℕ) (pages : Bytes) → length pages ≡ 4096 * count → length (text_added writer pages) ≡ length_added writer count
+length-text_added : (writer : UnfinishedFile) (count : ℕ) (pages : Bytes) → length pages ≡ 4096 * count → length (text_added writer pages) ≡ length_added writer count
 length-text_added writer count pages long = elim (cases_Bool (writer.added == 0)) [
   | inl first ↦ rw first (omega (arith, length-append (index_text writer.index) pages, length-index_text writer.index, long))
   | inr later ↦ rw later long
 ]
+
+pub pages_appended : {D T : Type 0} (disk : Ghosts D) (result : Result T DiskError) (writer : UnfinishedFile) (count : ℕ) (pages : Bytes) (old new : D) → length pages ≡ 4096 * count → (IsTrue disk.tells → IsSound (disk.view old).state)
+    → (IsTrue disk.tells → Does (append (Page writer.number) (text_added writer pages)) result (disk.view old) (disk.view new)) → HasCause (disk.faults old) (disk.faults new) result
+    → Writes disk (same_name (Page writer.number)) (length_added writer count) old new result
+pages_appended disk result writer count pages old new long sound does cause =
+    subst (λ n. Writes disk (same_name (Page writer.number)) n old new result) (length-text_added writer count pages long)
+    (one_write disk (append (Page writer.number) (text_added writer pages)) result (same_name (Page writer.number)) old new (λ q apart. apart) sound does cause)
 
 none_yet : (pages : Bytes) → length pages ≡ 0 → pages ≡ []
 none_yet [] none = refl

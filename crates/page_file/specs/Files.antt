@@ -3,6 +3,7 @@ use Rattle.std.specs.Prelude.{◌≡◌, ℕ, ◌+◌, ◌*◌, ◌==◌, if◌t
 use Rattle.format_spec.specs.Bytes.{Bytes, page_at}
 use Rattle.format_spec.specs.declared.limits.TheConstants.{PAGE_SIZE, INDEX_HEAD}
 use Rattle.page_spec.specs.PageFile.{PageIndex, IsPageFile, index_text, index_length}
+use Rattle.disk_model.specs.declared.disk.DiskError.{DiskError}
 use Rattle.disk_model.specs.declared.name.Name.TheVariants.{Page}
 use Rattle.disk_model.specs.Files.{Files}
 use Rattle.disk_model.specs.State.{DiskState, IsLoose, IsFirm}
@@ -80,13 +81,13 @@ pub record HasHeader (files : Files) (number : ℕ) (h : Header) : Type 0 where
   pub header : IsHeader h.memory h.ranges h.pages (take INDEX_HEAD text) (length text)
 
 -- the header that the page file has, and none where it is no page file
-abbrev pub FindsHeader : Files → ℕ → Result (Option Header) PageError → Type 0
+abbrev pub FindsHeader : Files → ℕ → Result (Option Header) DiskError → Type 0
 FindsHeader files number (Ok (Some h)) = HasHeader files number h
 FindsHeader files number (Ok None) = IsBadPage files number
 FindsHeader files number (Err e) = Unit {0}
 
 -- the same of its index
-abbrev pub FindsIndex : Files → ℕ → Result (Option PageIndex) PageError → Type 0
+abbrev pub FindsIndex : Files → ℕ → Result (Option PageIndex) DiskError → Type 0
 FindsIndex files number (Ok (Some i)) = (pages : Bytes) × HasPages files number i pages
 FindsIndex files number (Ok None) = IsBadPage files number
 FindsIndex files number (Err e) = Unit {0}

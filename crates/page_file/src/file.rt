@@ -1,17 +1,18 @@
 //! Reading a page file.
-ghost use Rattle.std.specs.Prelude.{◌≡◌, ◌+◌, ◌*◌, ◌<◌, ◌≤◌, ℕ, length, take, drop, IsTrue, OnOk, IfOk, IfSome, IsErrOf};
+ghost use Rattle.std.specs.Prelude.{◌≡◌, ◌+◌, ◌*◌, ◌<◌, ◌≤◌, ℕ, length, take, drop, IsTrue, OnOk, IfOk, IfSome, ⊤};
 ghost use Rattle.format_spec.specs.declared.limits.TheConstants.{PAGE_SIZE, MAX_MEMORY_PAGES, INDEX_HEAD, INDEX_RANGE};
 ghost use Rattle.format_spec.specs.Bytes.{Bytes};
 ghost use Rattle.page_spec.specs.PageFile.{PageIndex, index_length};
 ghost use Rattle.disk_model.specs.Looking.{OnlyLooks};
-ghost use Rattle.page_file.specs.Errors.{HasCause, NoBadPage};
+ghost use Rattle.disk_model.specs.Causes.{Fails, FailsFor, OnlyIf};
+ghost use Rattle.page_file.specs.Errors.{page_error};
 ghost use Rattle.page_file.specs.Index.{are_counts};
 ghost use Rattle.page_file.specs.Files.{IsAsKnown, Opens, ReadsAs, ReadsFrom, HasPages, HasHeader, FindsHeader, FindsIndex};
 
 use crate::format::Header;
 use crate::{FileIndex, PageBytes, PageError};
 use byte_codec::NoMemory;
-use disk_model::{Disk, Name};
+use disk_model::{Disk, DiskError, Name};
 use format_spec::{INDEX_HEAD, INDEX_RANGE};
 use std::alloc::Global;
 use std::marker::Model;
@@ -47,11 +48,10 @@ impl PageFile {
     pub fn open<D: Disk>(alloc: Global, disk: &mut D, number: u64) -> Result<PageFile, PageError>
         ensures opens { IsTrue D.tells → Opens (D.view disk.old).state.files number result }
         ensures only { IsTrue D.tells → IfOk result (λ file. (i : PageIndex) (pages : Bytes) → HasPages (D.view disk.old).state.files number i pages → i ≡ file.index) }
-        ensures numbers { (n : ℕ) → IsErrOf result (PageError.BadPage n) → n ≡ number }
         ensures number { IfOk result (λ file. file.number ≡ number) }
         ensures looks { IsTrue D.tells → IfOk result (λ file. OnlyLooks (index_length file.index) (D.view disk.old) (D.view disk.new)) }
         ensures looks_at_most { IsTrue D.tells → OnlyLooks (INDEX_HEAD + INDEX_RANGE * MAX_MEMORY_PAGES) (D.view disk.old) (D.view disk.new) }
-        ensures cause { HasCause (D.faults disk.old) (D.faults disk.new) result }
+        ensures cause { FailsFor D.Disk page_error (OnlyIf (PageError.BadPage number) ⊤) disk.old disk.new result }
     {
         match read_index(alloc, disk, number)? {
             Some(index) => Ok(PageFile::new(number, index.shared(alloc)?)),
@@ -91,14 +91,13 @@ impl PageFile {
         disk: &mut D,
         place: u32,
         into: &mut PageBytes,
-    ) -> Result<(), PageError>
+    ) -> Result<(), DiskError>
         requires place { place < length self.now.index.numbers }
         requires kept { IsTrue D.tells → IsAsKnown (D.view disk.old).state.files self.now }
 
         ensures page { IsTrue D.tells → OnOk result (ReadsAs (D.view disk.old).state.files self.now place into.new) }
         ensures looks { IsTrue D.tells → OnlyLooks PAGE_SIZE (D.view disk.old) (D.view disk.new) }
-        ensures cause { HasCause (D.faults disk.old) (D.faults disk.new) result }
-        ensures no_bad_page { NoBadPage result }
+        ensures cause { Fails D.Disk disk.old disk.new result }
     {
         self.read_pages(alloc, disk, place, into)
     }
@@ -111,14 +110,13 @@ impl PageFile {
         disk: &mut D,
         place: u32,
         into: &mut [u8],
-    ) -> Result<(), PageError>
+    ) -> Result<(), DiskError>
         requires within { PAGE_SIZE * place + length into.old ≤ PAGE_SIZE * length self.now.index.numbers }
         requires kept { IsTrue D.tells → IsAsKnown (D.view disk.old).state.files self.now }
 
         ensures pages { IsTrue D.tells → OnOk result (ReadsFrom (D.view disk.old).state.files self.now place (length into.old) into.new) }
         ensures looks { IsTrue D.tells → OnlyLooks (length into.old) (D.view disk.old) (D.view disk.new) }
-        ensures cause { HasCause (D.faults disk.old) (D.faults disk.new) result }
-        ensures no_bad_page { NoBadPage result }
+        ensures cause { Fails D.Disk disk.old disk.new result }
     {
         disk.read(
             alloc,
@@ -135,12 +133,11 @@ fn read_index<D: Disk>(
     alloc: Global,
     disk: &mut D,
     number: u64,
-) -> Result<Option<FileIndex>, PageError>
+) -> Result<Option<FileIndex>, DiskError>
     ensures found { IsTrue D.tells → FindsIndex (D.view disk.old).state.files number result }
     ensures looks { IsTrue D.tells → IfOk result (λ found. IfSome found (λ i. OnlyLooks (index_length i) (D.view disk.old) (D.view disk.new))) }
     ensures looks_at_most { IsTrue D.tells → OnlyLooks (INDEX_HEAD + INDEX_RANGE * MAX_MEMORY_PAGES) (D.view disk.old) (D.view disk.new) }
-    ensures cause { HasCause (D.faults disk.old) (D.faults disk.new) result }
-    ensures no_bad_page { NoBadPage result }
+    ensures cause { Fails D.Disk disk.old disk.new result }
 {
     match read_header(alloc, disk, number)? {
         Some(header) => read_ranges(alloc, disk, number, header),
@@ -153,12 +150,11 @@ fn read_header<D: Disk>(
     alloc: Global,
     disk: &mut D,
     number: u64,
-) -> Result<Option<Header>, PageError>
+) -> Result<Option<Header>, DiskError>
     ensures found { IsTrue D.tells → FindsHeader (D.view disk.old).state.files number result }
     ensures possible { IfOk result (λ found. IfSome found (λ h. IsTrue (are_counts h.memory h.ranges h.pages))) }
     ensures looks { IsTrue D.tells → OnlyLooks INDEX_HEAD (D.view disk.old) (D.view disk.new) }
-    ensures cause { HasCause (D.faults disk.old) (D.faults disk.new) result }
-    ensures no_bad_page { NoBadPage result }
+    ensures cause { Fails D.Disk disk.old disk.new result }
 {
     let name = Name::Page(number);
     match disk.size(alloc, name)? {
@@ -177,14 +173,13 @@ fn read_ranges<D: Disk>(
     disk: &mut D,
     number: u64,
     header: Header,
-) -> Result<Option<FileIndex>, PageError>
+) -> Result<Option<FileIndex>, DiskError>
     requires possible { IsTrue (are_counts header.memory header.ranges header.pages) }
     requires header { IsTrue D.tells → HasHeader (D.view disk.old).state.files number header }
     ensures found { IsTrue D.tells → FindsIndex (D.view disk.old).state.files number result }
     ensures length { IsTrue D.tells → IfOk result (λ found. IfSome found (λ i. index_length i ≡ INDEX_HEAD + INDEX_RANGE * header.ranges)) }
     ensures looks { IsTrue D.tells → OnlyLooks (INDEX_RANGE * header.ranges) (D.view disk.old) (D.view disk.new) }
-    ensures cause { HasCause (D.faults disk.old) (D.faults disk.new) result }
-    ensures no_bad_page { NoBadPage result }
+    ensures cause { Fails D.Disk disk.old disk.new result }
 {
     let mut bytes = vec![in alloc; 0; INDEX_RANGE * header.ranges as usize]?;
     disk.read(alloc, Name::Page(number), INDEX_HEAD as u64, &mut bytes)?;

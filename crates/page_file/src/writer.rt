@@ -4,14 +4,13 @@ ghost use Rattle.format_spec.specs.declared.limits.TheConstants.{PAGE_SIZE};
 ghost use Rattle.format_spec.specs.Bytes.{Bytes};
 ghost use Rattle.disk_model.specs.declared.name.Name.TheVariants.{Page};
 ghost use Rattle.disk_model.specs.Files.{same_name};
-ghost use Rattle.disk_model.specs.State.{IsAbsent, IsLoose, IsSettled};
+ghost use Rattle.disk_model.specs.State.{IsAbsent, IsLoose};
 ghost use Rattle.disk_model.specs.Call.{append};
-ghost use Rattle.disk_model.specs.View.{Does, HasCause as DiskCause};
-ghost use Rattle.disk_model.specs.Frame.{TouchesOnly};
-ghost use Rattle.page_file.specs.Errors.{HasCause, NoBadPage};
+ghost use Rattle.disk_model.specs.View.{Does, HasCause};
+ghost use Rattle.disk_model.specs.Writing.{Writes};
 ghost use Rattle.page_file.specs.Files.{IsWriting, IsFinished, text_added, length_added};
 
-use crate::{FileIndex, PageBytes, PageError, PageFile};
+use crate::{FileIndex, PageBytes, PageFile};
 use byte_codec::NoMemory;
 use disk_model::{Disk, DiskError, Name};
 use std::alloc::Global;
@@ -47,19 +46,14 @@ impl PageWriter {
         disk: &mut D,
         number: u64,
         index: FileIndex,
-    ) -> Result<PageWriter, PageError>
+    ) -> Result<PageWriter, DiskError>
         requires { IsTrue D.tells → IsAbsent (D.view disk.old).state (Page number) }
 
         ensures writer { IfOk result (λ writer. writer ≡ record { number = number; index = index; added = 0 }) }
         ensures begun { IsTrue D.tells → IfOk result (λ writer. IsWriting writer [] (D.view disk.new).state) }
-        ensures loose { IsTrue D.tells → IsErrOf result PageError.Fault → (D.view disk.new).state.loose (Page number) ≡ true }
-        ensures memory { IsTrue D.tells → IsErrOf result PageError.Memory → D.view disk.new ≡ D.view disk.old }
-        ensures appended { IsTrue D.tells → OnOk result ((D.view disk.new).appended ≡ (D.view disk.old).appended) }
-        ensures read { IsTrue D.tells → (D.view disk.new).bytes_read ≡ (D.view disk.old).bytes_read }
-        ensures touches { IsTrue D.tells → TouchesOnly (same_name (Page number)) (D.view disk.old) (D.view disk.new) }
-        ensures settled { IsTrue D.tells → OnOk result (IsSettled (D.view disk.old).state → IsSettled (D.view disk.new).state) }
-        ensures cause { HasCause (D.faults disk.old) (D.faults disk.new) result }
-        ensures no_bad_page { NoBadPage result }
+        ensures loose { IsTrue D.tells → IsErrOf result DiskError.Fault → (D.view disk.new).state.loose (Page number) ≡ true }
+        ensures memory { IsTrue D.tells → IsErrOf result DiskError.Memory → D.view disk.new ≡ D.view disk.old }
+        ensures writes { Writes D.Disk (same_name (Page number)) 0 disk.old disk.new result }
     {
         let index = index.shared(alloc)?;
         disk.create(alloc, Name::Page(number))?;
@@ -78,7 +72,7 @@ impl PageWriter {
         alloc: Global,
         disk: &mut D,
         page: &PageBytes,
-    ) -> Result<(), PageError>
+    ) -> Result<(), DiskError>
         requires room { self.old.added < length self.old.index.numbers }
         requires loose { IsTrue D.tells → IsLoose (D.view disk.old).state (Page self.old.number) }
 
@@ -87,13 +81,8 @@ impl PageWriter {
         ensures added { IsTrue D.tells → OnOk result ((pages : Bytes) → IsWriting self.old pages (D.view disk.old).state → IsWriting self.new (pages ++ page.now) (D.view disk.new).state) }
         ensures there { IsTrue D.tells → OnOk result (IsLoose (D.view disk.new).state (Page self.old.number)) }
         ensures loose { IsTrue D.tells → (D.view disk.new).state.loose (Page self.old.number) ≡ true }
-        ensures memory { IsTrue D.tells → IsErrOf result PageError.Memory → D.view disk.new ≡ D.view disk.old }
-        ensures appended { IsTrue D.tells → OnOk result ((D.view disk.new).appended ≡ (D.view disk.old).appended + length_added self.old 1) }
-        ensures read { IsTrue D.tells → (D.view disk.new).bytes_read ≡ (D.view disk.old).bytes_read }
-        ensures touches { IsTrue D.tells → TouchesOnly (same_name (Page self.old.number)) (D.view disk.old) (D.view disk.new) }
-        ensures settled { IsTrue D.tells → OnOk result (IsSettled (D.view disk.old).state → IsSettled (D.view disk.new).state) }
-        ensures cause { HasCause (D.faults disk.old) (D.faults disk.new) result }
-        ensures no_bad_page { NoBadPage result }
+        ensures memory { IsTrue D.tells → IsErrOf result DiskError.Memory → D.view disk.new ≡ D.view disk.old }
+        ensures writes { Writes D.Disk (same_name (Page self.old.number)) (length_added self.old 1) disk.old disk.new result }
     {
         self.add_pages(alloc, disk, 1, page)
     }
@@ -107,7 +96,7 @@ impl PageWriter {
         disk: &mut D,
         count: u32,
         pages: &[u8],
-    ) -> Result<(), PageError>
+    ) -> Result<(), DiskError>
         requires some { 0 < count }
         requires room { self.old.added + count ≤ length self.old.index.numbers }
         requires whole { length pages.now ≡ PAGE_SIZE * count }
@@ -118,13 +107,8 @@ impl PageWriter {
         ensures added { IsTrue D.tells → OnOk result ((before : Bytes) → IsWriting self.old before (D.view disk.old).state → IsWriting self.new (before ++ pages.now) (D.view disk.new).state) }
         ensures there { IsTrue D.tells → OnOk result (IsLoose (D.view disk.new).state (Page self.old.number)) }
         ensures loose { IsTrue D.tells → (D.view disk.new).state.loose (Page self.old.number) ≡ true }
-        ensures memory { IsTrue D.tells → IsErrOf result PageError.Memory → D.view disk.new ≡ D.view disk.old }
-        ensures appended { IsTrue D.tells → OnOk result ((D.view disk.new).appended ≡ (D.view disk.old).appended + length_added self.old count) }
-        ensures read { IsTrue D.tells → (D.view disk.new).bytes_read ≡ (D.view disk.old).bytes_read }
-        ensures touches { IsTrue D.tells → TouchesOnly (same_name (Page self.old.number)) (D.view disk.old) (D.view disk.new) }
-        ensures settled { IsTrue D.tells → OnOk result (IsSettled (D.view disk.old).state → IsSettled (D.view disk.new).state) }
-        ensures cause { HasCause (D.faults disk.old) (D.faults disk.new) result }
-        ensures no_bad_page { NoBadPage result }
+        ensures memory { IsTrue D.tells → IsErrOf result DiskError.Memory → D.view disk.new ≡ D.view disk.old }
+        ensures writes { Writes D.Disk (same_name (Page self.old.number)) (length_added self.old count) disk.old disk.new result }
     {
         self.append_next(alloc, disk, pages)?;
         self.added += count;
@@ -132,20 +116,15 @@ impl PageWriter {
     }
 
     /// Seals the file, to which all pages were added. Fault where the disk failed, Memory where memory ran out: then the disk is as before.
-    pub fn finish<D: Disk>(self, alloc: Global, disk: &mut D) -> Result<PageFile, PageError>
+    pub fn finish<D: Disk>(self, alloc: Global, disk: &mut D) -> Result<PageFile, DiskError>
         requires all { self.added ≡ length self.index.numbers }
         requires loose { IsTrue D.tells → IsLoose (D.view disk.old).state (Page self.number) }
 
         ensures file { IfOk result (λ file. file ≡ record { number = self.number; index = self.index }) }
         ensures finished { IsTrue D.tells → IfOk result (λ file. (pages : Bytes) → IsWriting self pages (D.view disk.old).state → IsFinished file pages (D.view disk.new).state) }
         ensures loose { IsTrue D.tells → IsErr result → (D.view disk.new).state.loose (Page self.number) ≡ true }
-        ensures memory { IsTrue D.tells → IsErrOf result PageError.Memory → D.view disk.new ≡ D.view disk.old }
-        ensures appended { IsTrue D.tells → OnOk result ((D.view disk.new).appended ≡ (D.view disk.old).appended) }
-        ensures read { IsTrue D.tells → (D.view disk.new).bytes_read ≡ (D.view disk.old).bytes_read }
-        ensures touches { IsTrue D.tells → TouchesOnly (same_name (Page self.number)) (D.view disk.old) (D.view disk.new) }
-        ensures settled { IsTrue D.tells → OnOk result (IsSettled (D.view disk.old).state → IsSettled (D.view disk.new).state) }
-        ensures cause { HasCause (D.faults disk.old) (D.faults disk.new) result }
-        ensures no_bad_page { NoBadPage result }
+        ensures memory { IsTrue D.tells → IsErrOf result DiskError.Memory → D.view disk.new ≡ D.view disk.old }
+        ensures writes { Writes D.Disk (same_name (Page self.number)) 0 disk.old disk.new result }
     {
         disk.seal(alloc, Name::Page(self.number))?;
         Ok(PageFile::new(self.number, self.index))
@@ -160,7 +139,7 @@ impl PageWriter {
     ) -> Result<(), DiskError>
         requires { IsTrue D.tells → IsLoose (D.view disk.old).state (Page self.now.number) }
         ensures does { IsTrue D.tells → Does (append (Page self.now.number) (text_added self.now pages.now)) result (D.view disk.old) (D.view disk.new) }
-        ensures cause { DiskCause (D.faults disk.old) (D.faults disk.new) result }
+        ensures cause { HasCause (D.faults disk.old) (D.faults disk.new) result }
     {
         let name = Name::Page(self.number);
         if self.added > 0 {

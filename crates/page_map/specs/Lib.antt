@@ -1,4 +1,3 @@
-pub mod Errors
 pub mod Maps
 pub mod Reads
 pub mod Changes

@@ -1,7 +1,6 @@
 //! Maps of a memory's pages: the layers of page files, and above them the pages that were written since. Forks share their pages.
 #![tactic(auto)]
 
-mod error;
 mod laws;
 mod map;
 mod own;
@@ -10,7 +9,6 @@ mod pieces;
 mod reads;
 mod writes;
 
-pub use error::MapError;
 pub use laws::{
     a_map_has_the_bytes_of_its_pages, a_map_is_its_memory_after_its_calls,
     a_map_is_its_memory_after_other_calls, a_map_reads_as_one,

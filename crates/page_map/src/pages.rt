@@ -3,10 +3,10 @@ ghost use Rattle.std.specs.Prelude.{◌≡◌, ◌≢◌, ℕ, ◌+◌, ◌*◌,
 ghost use Rattle.std.specs.List.{AllByRecursion};
 ghost use Rattle.format_spec.specs.declared.limits.TheConstants.{PAGE_SIZE as page_size, MAX_MEMORY_PAGES};
 ghost use Rattle.page_spec.specs.Layers.{Layer};
+ghost use Rattle.disk_model.specs.Causes.{Fails};
 ghost use Rattle.disk_model.specs.Looking.{OnlyLooks};
 ghost use Rattle.page_file.specs.Files.{IsAsKnown};
 ghost use Rattle.layer_stack.specs.Stacks.{AreLayers, EndBy};
-ghost use Rattle.page_map.specs.Errors.{HasCause};
 ghost use Rattle.page_map.specs.Maps.{owns_at, own_at, if_after};
 ghost use Rattle.page_map.specs.Reads.{IsLive, bytes_of, dirty_of};
 ghost use Rattle.page_map.specs.Changes.{SameMaps, KeepsOthers};
@@ -17,9 +17,9 @@ use crate::own::OwnPages;
 use crate::pieces::{pages_of_range, piece_of};
 use crate::reads::read_range;
 use crate::writes::{write_fork, write_page};
-use crate::{MapError, PageMap};
+use crate::PageMap;
 use byte_codec::NoMemory;
-use disk_model::Disk;
+use disk_model::{Disk, DiskError};
 use layer_stack::Stack;
 use std::alloc::Global;
 use std::marker::Model;
@@ -107,7 +107,7 @@ impl Pages {
         disk: &mut D,
         at: u64,
         into: &mut [u8],
-    ) -> Result<(), MapError>
+    ) -> Result<(), DiskError>
         requires live { IsLive self.old map.now }
         requires within { at + length into.old ≤ map.now.length * page_size }
         requires kept { IsTrue D.tells → AllByRecursion (IsAsKnown (D.view disk.old).state.files) map.now.stack }
@@ -115,7 +115,7 @@ impl Pages {
         ensures bytes { IsTrue D.tells → OnOk result (ReadsFrom (D.view disk.old).state.files self.old map.now at (length into.old) into.new) }
         ensures unchanged { SameMaps self.old self.new }
         ensures looks { IsTrue D.tells → OnlyLooks (page_size * length (pages_for_read self.old map.now.id at (length into.old))) (D.view disk.old) (D.view disk.new) }
-        ensures cause { HasCause (D.faults disk.old) (D.faults disk.new) result }
+        ensures cause { Fails D.Disk disk.old disk.new result }
     {
         read_range(&self.own, alloc, disk, map.id, &map.stack, at, into)
     }
@@ -131,7 +131,7 @@ impl Pages {
         at: u64,
         bytes: &[u8],
         stamp: u64,
-    ) -> Result<(), MapError>
+    ) -> Result<(), DiskError>
         requires live { IsLive self.old map.old }
         requires within { at + length bytes.now ≤ map.old.length * page_size }
         requires kept { IsTrue D.tells → AllByRecursion (IsAsKnown (D.view disk.old).state.files) map.old.stack }
@@ -144,7 +144,7 @@ impl Pages {
         ensures apart { (other : ℕ) → other ≢ map.old.id → IsSome (owns_at self.old other) → other ≢ map.new.id }
         ensures refused { OnErr result ((map.new ≡ map.old) × SameMaps self.old self.new) }
         ensures looks { IsTrue D.tells → OnlyLooks (page_size * length (pages_for_write self.old map.old.id at (length bytes.now))) (D.view disk.old) (D.view disk.new) }
-        ensures cause { HasCause (D.faults disk.old) (D.faults disk.new) result }
+        ensures cause { Fails D.Disk disk.old disk.new result }
     {
         let pages = pages_of_range(at, bytes.len() as u64);
         match pages.1 - pages.0 {

@@ -3,18 +3,17 @@ ghost use Rattle.std.specs.Prelude.{◌≡◌, ℕ, ◌+◌, ◌*◌, ◌≤◌,
 ghost use Rattle.std.specs.List.{AllByRecursion};
 ghost use Rattle.format_spec.specs.declared.limits.TheConstants.{PAGE_SIZE as page_size, MAX_MEMORY_PAGES};
 ghost use Rattle.page_spec.specs.Layers.{Layer, page_from};
+ghost use Rattle.disk_model.specs.Causes.{Fails};
 ghost use Rattle.disk_model.specs.Looking.{OnlyLooks};
 ghost use Rattle.page_file.specs.Files.{IsAsKnown};
 ghost use Rattle.layer_stack.specs.Stacks.{AreLayers};
-ghost use Rattle.page_map.specs.Errors.{HasCause};
 ghost use Rattle.page_map.specs.Maps.{owns_at, own_at};
 ghost use Rattle.page_map.specs.Reads.{page_of, bytes_with, AreWhole};
 ghost use Rattle.page_map.specs.Pieces.{pages_for_read};
 
-use crate::MapError;
 use crate::own::OwnPages;
 use crate::pieces::{pages_of_range, piece_of};
-use disk_model::Disk;
+use disk_model::{Disk, DiskError};
 use format_spec::PAGE_SIZE;
 use layer_stack::Stack;
 use page_delta::DeltaId;
@@ -30,7 +29,7 @@ pub(crate) fn read_range<D: Disk>(
     stack: &Stack,
     at: u64,
     into: &mut [u8],
-) -> Result<(), MapError>
+) -> Result<(), DiskError>
     requires live { IsSome (owns_at own.now id) }
     requires whole { AreWhole (own_at own.now id) }
     requires few { at + length into.old ≤ MAX_MEMORY_PAGES * page_size }
@@ -39,7 +38,7 @@ pub(crate) fn read_range<D: Disk>(
     ensures bytes { IsTrue D.tells → OnOk result ((layers : List Layer) (count : ℕ) → AreLayers (D.view disk.old).state.files stack.now layers → at + length into.old ≤ count * page_size
         → into.new ≡ take (length into.old) (drop at (bytes_with layers (own_at own.now id) count))) }
     ensures looks { IsTrue D.tells → OnlyLooks (page_size * length (pages_for_read own.now id at (length into.old))) (D.view disk.old) (D.view disk.new) }
-    ensures cause { HasCause (D.faults disk.old) (D.faults disk.new) result }
+    ensures cause { Fails D.Disk disk.old disk.new result }
 {
     let pages = pages_of_range(at, into.len() as u64);
     for page in pages.0..pages.1 {
@@ -60,7 +59,7 @@ fn read_piece<D: Disk>(
     page: u32,
     start: usize,
     into: &mut [u8],
-) -> Result<(), MapError>
+) -> Result<(), DiskError>
     requires live { IsSome (owns_at own.now id) }
     requires within { start + length into.old ≤ page_size }
     requires kept { IsTrue D.tells → AllByRecursion (IsAsKnown (D.view disk.old).state.files) stack.now }
@@ -68,7 +67,7 @@ fn read_piece<D: Disk>(
     ensures bytes { IsTrue D.tells → OnOk result ((layers : List Layer) → AreLayers (D.view disk.old).state.files stack.now layers
         → into.new ≡ take (length into.old) (drop start (page_of layers (own_at own.now id page) page))) }
     ensures looks { IsTrue D.tells → OnlyLooks (if is_some (own_at own.now id page) then 0 else page_size) (D.view disk.old) (D.view disk.new) }
-    ensures cause { HasCause (D.faults disk.old) (D.faults disk.new) result }
+    ensures cause { Fails D.Disk disk.old disk.new result }
 {
     match own.page(id, page) {
         Some(bytes) => {
@@ -87,14 +86,14 @@ fn read_layers<D: Disk>(
     page: u32,
     start: usize,
     into: &mut [u8],
-) -> Result<(), MapError>
+) -> Result<(), DiskError>
     requires within { start + length into.old ≤ page_size }
     requires kept { IsTrue D.tells → AllByRecursion (IsAsKnown (D.view disk.old).state.files) stack.now }
 
     ensures bytes { IsTrue D.tells → OnOk result ((layers : List Layer) → AreLayers (D.view disk.old).state.files stack.now layers
         → into.new ≡ take (length into.old) (drop start (page_from (reverse layers) page))) }
     ensures looks { IsTrue D.tells → OnlyLooks page_size (D.view disk.old) (D.view disk.new) }
-    ensures cause { HasCause (D.faults disk.old) (D.faults disk.new) result }
+    ensures cause { Fails D.Disk disk.old disk.new result }
 {
     let mut buffer = [0; PAGE_SIZE];
     stack.read(alloc, disk, page, &mut buffer)?;
@@ -111,13 +110,13 @@ pub(crate) fn read_page<D: Disk>(
     stack: &Stack,
     page: u32,
     into: &mut PageBytes,
-) -> Result<(), MapError>
+) -> Result<(), DiskError>
     requires live { IsSome (owns_at own.now id) }
     requires kept { IsTrue D.tells → AllByRecursion (IsAsKnown (D.view disk.old).state.files) stack.now }
 
     ensures bytes { IsTrue D.tells → OnOk result ((layers : List Layer) → AreLayers (D.view disk.old).state.files stack.now layers → into.new ≡ page_of layers (own_at own.now id page) page) }
     ensures looks { IsTrue D.tells → OnlyLooks (if is_some (own_at own.now id page) then 0 else page_size) (D.view disk.old) (D.view disk.new) }
-    ensures cause { HasCause (D.faults disk.old) (D.faults disk.new) result }
+    ensures cause { Fails D.Disk disk.old disk.new result }
 {
     match own.page(id, page) {
         Some(bytes) => {

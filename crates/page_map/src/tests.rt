@@ -7,7 +7,7 @@ ghost use Rattle.layer_stack.specs.Stacks.{EndBy};
 ghost use Rattle.page_map.specs.Reads.{IsLive};
 
 use super::*;
-use disk_model::{Disk, MemDisk, Name};
+use disk_model::{Disk, DiskError, MemDisk, Name};
 use layer_stack::Stack;
 use page_file::{FileIndex, PageError, PageFile, PageWriter};
 use std::alloc::Global;
@@ -83,7 +83,7 @@ fn write_bytes(
     at: u64,
     bytes: &[u8],
     stamp: u64,
-) -> Result<(), MapError>
+) -> Result<(), DiskError>
     requires live { IsLive pages.old map.old }
     requires size { map.old.length ≡ 40 }
     requires kept { AllByRecursion (IsAsKnown (mem_view disk.old).state.files) map.old.stack }
@@ -102,7 +102,7 @@ fn four_bytes(
     map: &PageMap,
     disk: &mut MemDisk,
     at: u64,
-) -> Result<[u8; 4], MapError>
+) -> Result<[u8; 4], DiskError>
     requires live { IsLive pages.old map.now }
     requires size { map.now.length ≡ 40 }
     requires kept { AllByRecursion (IsAsKnown (mem_view disk.old).state.files) map.now.stack }
@@ -141,7 +141,7 @@ fn a_write_that_fails_half_way_leaves_all_reads(rt: HostRuntime) -> Result<(), F
     let mut disk = MemDisk::new(alloc, Vec::from_slice(alloc, &[17])?, None);
     let (mut pages, mut map) = map_of_40(alloc, &mut disk)?;
     let failed = write_bytes(alloc, &mut pages, &mut map, &mut disk, 8100, &[9; 200], 7);
-    assert_eq!(rt; failed, Err(MapError::Fault));
+    assert_eq!(rt; failed, Err(DiskError::Fault));
     assert_eq!(rt;
         four_bytes(alloc, &mut pages, &map, &mut disk, 8190)?,
         [51, 51, 82, 82]

@@ -5,20 +5,19 @@ ghost use Rattle.format_spec.specs.declared.limits.TheConstants.{PAGE_SIZE as pa
 ghost use Rattle.state_spec.specs.Memory.{with_bytes_at};
 ghost use Rattle.format_spec.specs.Bytes.{Bytes};
 ghost use Rattle.page_spec.specs.Layers.{Layer};
+ghost use Rattle.disk_model.specs.Causes.{Fails};
 ghost use Rattle.disk_model.specs.Looking.{OnlyLooks};
 ghost use Rattle.page_file.specs.Files.{IsAsKnown};
 ghost use Rattle.layer_stack.specs.Stacks.{AreLayers};
-ghost use Rattle.page_map.specs.Errors.{HasCause};
 ghost use Rattle.page_map.specs.Maps.{OwnPage, owns_at, own_at};
 ghost use Rattle.page_map.specs.Reads.{page_of, bytes_with, AreWhole};
 ghost use Rattle.page_map.specs.Changes.{SameMaps, ChangesOnly, KeepsOthers, Puts, Writes};
 ghost use Rattle.page_map.specs.Pieces.{AreTheirPages, is_foreign, pages_for_write};
 
-use crate::MapError;
 use crate::own::OwnPages;
 use crate::pieces::piece_of;
 use crate::reads::read_page;
-use disk_model::Disk;
+use disk_model::{Disk, DiskError};
 use format_spec::PAGE_SIZE;
 use layer_stack::Stack;
 use page_delta::DeltaId;
@@ -36,7 +35,7 @@ pub(crate) fn write_fork<D: Disk>(
     at: u64,
     bytes: &[u8],
     stamp: u64,
-) -> Result<DeltaId, MapError>
+) -> Result<DeltaId, DiskError>
     requires live { IsSome (owns_at own.old id) }
     requires whole { AreWhole (own_at own.old id) }
     requires pages { AreTheirPages at (length bytes.now) pages.0 pages.1 }
@@ -51,7 +50,7 @@ pub(crate) fn write_fork<D: Disk>(
     ensures others { KeepsOthers own.old own.new id }
     ensures unchanged { OnErr result (SameMaps own.old own.new) }
     ensures looks { IsTrue D.tells → OnlyLooks (page_size * length (pages_for_write own.old id at (length bytes.now))) (D.view disk.old) (D.view disk.new) }
-    ensures cause { HasCause (D.faults disk.old) (D.faults disk.new) result }
+    ensures cause { Fails D.Disk disk.old disk.new result }
 {
     let fork = own.fork(alloc, id)?;
     match write_pages(own, alloc, disk, fork, stack, pages, at, bytes, stamp) {
@@ -78,7 +77,7 @@ pub(crate) fn write_pages<D: Disk>(
     at: u64,
     bytes: &[u8],
     stamp: u64,
-) -> Result<(), MapError>
+) -> Result<(), DiskError>
     requires live { IsSome (owns_at own.old id) }
     requires whole { AreWhole (own_at own.old id) }
     requires pages { AreTheirPages at (length bytes.now) pages.0 pages.1 }
@@ -91,7 +90,7 @@ pub(crate) fn write_pages<D: Disk>(
     ensures live { IsSome (owns_at own.new id) }
     ensures others { ChangesOnly own.old own.new id }
     ensures looks { IsTrue D.tells → OnlyLooks (page_size * length (pages_for_write own.old id at (length bytes.now))) (D.view disk.old) (D.view disk.new) }
-    ensures cause { HasCause (D.faults disk.old) (D.faults disk.new) result }
+    ensures cause { Fails D.Disk disk.old disk.new result }
 {
     for page in pages.0..pages.1 {
         let piece = piece_of(at, bytes.len(), page);
@@ -112,7 +111,7 @@ pub(crate) fn write_page<D: Disk>(
     start: usize,
     bytes: &[u8],
     stamp: u64,
-) -> Result<(), MapError>
+) -> Result<(), DiskError>
     requires live { IsSome (owns_at own.old id) }
     requires whole { AreWhole (own_at own.old id) }
     requires page { page < 2 ^ 20 }
@@ -124,7 +123,7 @@ pub(crate) fn write_page<D: Disk>(
         → page_of layers (own_at own.new id page) page ≡ with_bytes_at (page_of layers (own_at own.old id page) page) start bytes.now) }
     ensures err { OnErr result (own.new ≡ own.old) }
     ensures looks { IsTrue D.tells → OnlyLooks (if nat_lt (length bytes.now) page_size && is_foreign own.old id page then page_size else 0) (D.view disk.old) (D.view disk.new) }
-    ensures cause { HasCause (D.faults disk.old) (D.faults disk.new) result }
+    ensures cause { Fails D.Disk disk.old disk.new result }
 {
     if let Some(whole) = bytes.as_array::<4096>() {
         own.set(alloc, id, page, whole, stamp)?;

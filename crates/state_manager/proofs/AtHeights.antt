@@ -23,16 +23,6 @@ use Rattle.sys_state.specs.Memories.{HaveSizes}
 use Rattle.live_state.specs.StateKept.{StateView, KeepsState, live_of}
 use Rattle.state_spec.proofs.Images.{sorted_images}
 
--- ---- heights, one by one
-
-pub heights_so_far : (hs : List StoredHeight) (i x : ℕ) (done more : List ℕ) → more ≡ done ++ x ∷ [] → i < length hs → ((other : StoredHeight) → x ≡ (slice_index_or hs i other).mark.height)
-    → done ≡ map (λ h. h.mark.height) (take i hs) → more ≡ map (λ h. h.mark.height) (take (i + 1) hs)
-heights_so_far [] i x done more next within is was = absurd (omega (arith, within))
-heights_so_far (h ∷ hs) i x done more next within is was =
-    let f : StoredHeight → ℕ = λ (h : StoredHeight). h.mark.height in
-    next ∙ ap (λ (l : List ℕ). l ++ x ∷ []) was ∙ ap (λ (n : ℕ). map f (take i (h ∷ hs)) ++ n ∷ []) (is h)
-    ∙ sym (ap (map f) (take_more (h ∷ hs) i h within) ∙ map-append f (take i (h ∷ hs)) (get_or (h ∷ hs) i h ∷ []))
-
 -- ---- the live state of a store that opens at a height
 
 ids_ascend : (s : State) (system : System) → kept_of s ≡ system → IsTrue (is_sorted bytes_cmp (part_of system).canisters) → is_sorted bytes_cmp s.canisters ≡ true
@@ -72,95 +62,27 @@ lengths bytes (v ∷ vs) = ap (λ (l : List ℕ). length (bytes v) ∷ l) (lengt
 pub have_sizes : {V : Type 0} (bytes : V → Bytes) (vs : List V) (s : System) → map (λ v. length (bytes v)) vs ≡ map (λ m. m.1 * PAGE_SIZE) (memories_in (part_of s)) → HaveSizes s.canisters (map bytes vs)
 have_sizes bytes vs s h = lengths bytes vs ∙ h
 
-pub height_found : (hs : List StoredHeight) (height : ℕ) (h : StoredHeight) → height_at hs height ≡ Some h → h.mark.height ≡ height
-height_found [] height h e = absurd (cc e)
-height_found (x ∷ hs) height h e = elim (cases_Bool (x.mark.height == height)) [
-  | inl here ↦
-      let one : Some x ≡ Some h = sym (rw here refl) ∙ e in
-      let same : x ≡ h = cc one in
-      ap (λ (y : StoredHeight). y.mark.height) (sym same) ∙ exact_unsigned_eq x.mark.height height here
-  | inr there ↦ height_found hs height h (sym (rw there refl) ∙ e)
-]
-
-pub system_found : (hs : List StoredHeight) (height : ℕ) (system : System) → Some system ≡ option_map (λ h. h.system) (height_at hs height) → (h : StoredHeight) × (height_at hs height ≡ Some h) × (system ≡ h.system)
-system_found hs height system e = by (height_at hs height) refl e
-  where
-    by : (o : Option StoredHeight) → height_at hs height ≡ o → Some system ≡ option_map (λ h. h.system) o → (h : StoredHeight) × (height_at hs height ≡ Some h) × (system ≡ h.system)
-    by None found e = absurd (cc e)
-    by (Some h) found e = (h, found, cc e)
-
 -- ---- the newest height
 
--- the last of ascending heights is the one that is found
-pub record Newest (R : StoredHeight → Published → Type 0) (hs : List StoredHeight) (ps : List Published) (height : ℕ) : Type 0 where
-  pub stored : StoredHeight
-  pub published : Published
-  pub found : height_at hs height ≡ Some stored
-  pub related : R stored published
-  pub last : newest ps ≡ Some published
-
-tail_ascends : (x : ℕ) (xs : List ℕ) → IsStrictlyIncreasing (x ∷ xs) → IsStrictlyIncreasing xs
-tail_ascends x xs up k within =
-    let next : suc k + 1 ≡ suc (k + 1) = omega arith in
-    subst (λ (i : ℕ). slice_index (x ∷ xs) (suc k) < slice_index (x ∷ xs) i) next (up (suc k) (omega (arith, within)))
-
-last_above : (x : ℕ) (xs : List ℕ) (last : ℕ) → IsStrictlyIncreasing (x ∷ xs) → Some last ≡ last_or (Some x) xs → x ≤ last
-last_above x [] last up e = let one : last ≡ x = cc e in omega (arith, one)
-last_above x (y ∷ xs) last up e =
-    let below : x < y = up 0 (omega arith) in
-    omega (arith, below, last_above y xs last (tail_ascends x (y ∷ xs) up) e)
-
-some_last : (h : StoredHeight) (hs : List StoredHeight) → None ≡ last_or (Some h.mark.height) (heights_in hs) → ⊥
-some_last h [] e = absurd (cc e)
-some_last h (i ∷ hs) e = some_last i hs e
+none_is_last : (h : StoredHeight) (hs : List StoredHeight) → None ≡ last_or (Some h) hs → ⊥
+none_is_last h [] e = absurd (cc e)
+none_is_last h (i ∷ hs) e = none_is_last i hs e
 
 module _ (R : StoredHeight → Published → Type 0) where
-  pub newest_found : (hs : List StoredHeight) (ps : List Published) (height : ℕ) → AllZip R hs ps → IsStrictlyIncreasing (heights_in hs) → Some height ≡ last_or None (heights_in hs) → Newest R hs ps height
-  newest_found [] [] height each up e = absurd (cc e)
-  newest_found [] (p ∷ ps) height each up e = absurd each
-  newest_found (h ∷ hs) [] height each up e = absurd each
-  newest_found (h ∷ []) (p ∷ []) height each up e =
-      let one : height ≡ h.mark.height = cc e in
-      let here : (h.mark.height == height) ≡ true = grind (arith, nat_tests, one) in
-      record { stored = h; published = p; found = rw here refl; related = each.0; last = refl }
-  newest_found (h ∷ []) (p ∷ q ∷ ps) height each up e = absurd each.1
-  newest_found (h ∷ i ∷ hs) (p ∷ []) height each up e = absurd each.1
-  newest_found (h ∷ i ∷ hs) (p ∷ q ∷ ps) height each up e =
-      let rest = newest_found (i ∷ hs) (q ∷ ps) height each.1 (tail_ascends h.mark.height (heights_in (i ∷ hs)) up) e in
-      let below : h.mark.height < i.mark.height = up 0 (omega arith) in
-      let above : i.mark.height ≤ height = last_above i.mark.height (heights_in hs) height (tail_ascends h.mark.height (heights_in (i ∷ hs)) up) e in
-      let apart : (h.mark.height == height) ≡ false = grind (arith, nat_tests, below, above) in
-      record { stored = rest.stored; published = rest.published; found = rw apart rest.found; related = rest.related; last = rest.last }
+  -- the last of the heights is the machine's newest one
+  pub newest_found : (hs : List StoredHeight) (ps : List Published) (h : StoredHeight) → AllZip R hs ps → Some h ≡ last_or None hs → (p : Published) × R h p × (newest ps ≡ Some p)
+  newest_found [] ps h each e = absurd (cc e)
+  newest_found (x ∷ hs) [] h each e = absurd each
+  newest_found (x ∷ []) (p ∷ []) h each e = let one : x ≡ h = cc e in (p, subst (λ (y : StoredHeight). R y p) one each.0, refl)
+  newest_found (x ∷ []) (p ∷ q ∷ ps) h each e = absurd each.1
+  newest_found (x ∷ y ∷ hs) (p ∷ []) h each e = absurd each.1
+  newest_found (x ∷ y ∷ hs) (p ∷ q ∷ ps) h each e = newest_found (y ∷ hs) (q ∷ ps) h each.1 e
 
-  pub newest_none : (hs : List StoredHeight) (ps : List Published) → AllZip R hs ps → None ≡ last_or None (heights_in hs) → ps ≡ []
+  pub newest_none : (hs : List StoredHeight) (ps : List Published) → AllZip R hs ps → None ≡ last_or None hs → ps ≡ []
   newest_none [] [] each e = refl
   newest_none [] (p ∷ ps) each e = absurd each
   newest_none (h ∷ hs) [] each e = absurd each
-  newest_none (h ∷ hs) (p ∷ ps) each e = absurd (some_last h hs e)
-
--- what is above the newest height is above all
-pub all_below : (hs : List StoredHeight) (last height : ℕ) → IsStrictlyIncreasing (heights_in hs) → Some last ≡ last_or None (heights_in hs) → last < height → AllByRecursion (λ h. h.mark.height < height) hs
-all_below [] last height up e low = tt
-all_below (h ∷ []) last height up e low = let one : last ≡ h.mark.height = cc e in (omega (arith, one, low), tt)
-all_below (h ∷ i ∷ hs) last height up e low =
-    let above : h.mark.height ≤ last = last_above h.mark.height (heights_in (i ∷ hs)) last up e in
-    (omega (arith, above, low), all_below (i ∷ hs) last height (tail_ascends h.mark.height (heights_in (i ∷ hs)) up) e low)
-
-pub none_below : (hs : List StoredHeight) (height : ℕ) → None ≡ last_or None (heights_in hs) → AllByRecursion (λ h. h.mark.height < height) hs
-none_below [] height e = tt
-none_below (h ∷ hs) height e = absurd (some_last h hs e)
-
--- the newest height is published
-pub last_there : (hs : List StoredHeight) (height : ℕ) → Some height ≡ last_or None (heights_in hs) → is_some (height_at hs height) ≡ true
-last_there [] height e = absurd (cc e)
-last_there (h ∷ []) height e =
-    let one : height ≡ h.mark.height = cc e in
-    let here : (h.mark.height == height) ≡ true = grind (arith, nat_tests, one) in
-    rw here refl
-last_there (h ∷ i ∷ hs) height e = elim (cases_Bool (h.mark.height == height)) [
-  | inl here ↦ rw here refl
-  | inr apart ↦ rw apart (last_there (i ∷ hs) height e)
-]
+  newest_none (h ∷ hs) (p ∷ ps) each e = absurd (none_is_last h hs e)
 
 -- the machine of a store goes on from the newest height
 pub begun : (held : StateView) (p : Published) (ps : List Published) → KeepsState held (p.height + 1, opened_state p) → newest ps ≡ Some p → KeepsState held (live_of (start ps))

@@ -18,7 +18,7 @@ use Rattle.disk_model.specs.Moments.{then}
 use Rattle.disk_model.specs.Spending.{Spends, spends_looks}
 use Rattle.disk_model.specs.State.{DiskState, IsImageNow, IsSettled}
 use Rattle.disk_model.specs.View.{DiskView, LeavesOnly}
-use Rattle.height_store.specs.declared.error.StoreError.{StoreError}
+use Rattle.disk_model.specs.declared.disk.DiskError.{DiskError}
 use Rattle.height_store.specs.Kept.{MatchesFiles, KeepsHeights, ShowsHeight, StandsForEither}
 use Rattle.height_store.specs.Laws.{kept_stands}
 use Rattle.height_store.specs.Store.{StoredHeight, height_at, heights_in}
@@ -42,7 +42,7 @@ use Rattle.machine_spec.proofs.StepsKept.{step_keeps}
 use Rattle.state_manager.specs.Kept.{ManagerView, DoesLine, Keeps, KeepsEach, KeepsStates, Performs, PerformsOn, newest_bytes, published_height}
 use Rattle.live_state.specs.StateKept.{StateView, KeepsState, live_of}
 use Rattle.state_manager.specs.Publishes.{Publishes}
-use Rattle.state_manager.proofs.Spending.{bytes_there, newest_there, spends_nothing}
+use Rattle.state_manager.proofs.Spending.{bytes_found, newest_there, spends_nothing}
 use Rattle.state_manager.proofs.Standing.{FoundHeight, PublishedAt, find_height, knows_same, published_some, shows_same}
 
 on_ok_always : {T E : Type 0} (P : Type 0) (result : Result T E) → P → OnOk result P
@@ -59,7 +59,7 @@ on_failed P (Err e) failed = tt
 
 -- ---- lines that change nothing
 
-module _ (tells : Bool) (held : ManagerView) (before after : DiskView) (result : Result Reply StoreError) (command : Command) where
+module _ (tells : Bool) (held : ManagerView) (before after : DiskView) (result : Result Reply DiskError) (command : Command) where
   pub looks_line : (IsTrue tells → MatchesFiles held.store before.state.files) → (IsTrue tells → (most : ℕ) × OnlyLooks most before after)
       → (IsTrue tells → (m : Machine) → Keeps held before.state m → OnOk result (Spends (appends m command) (reads m command) before after))
       → (IsTrue tells → (m : Machine) → Keeps held before.state m → IfOk result (λ reply. (reply ≡ (step m command).reply) × ((step m command).after ≡ m)))
@@ -73,12 +73,12 @@ module _ (tells : Bool) (held : ManagerView) (before after : DiskView) (result :
     same = refl;
   }
     where
-      answers : (r : Result Reply StoreError) (m : Machine) → Keeps held after.state m → IfOk r (λ reply. (reply ≡ (step m command).reply) × ((step m command).after ≡ m)) → PerformsOn r held after.state m command
+      answers : (r : Result Reply DiskError) (m : Machine) → Keeps held after.state m → IfOk r (λ reply. (reply ≡ (step m command).reply) × ((step m command).after ≡ m)) → PerformsOn r held after.state m command
       answers (Ok reply) m k h = (h.0, subst (λ (n : Machine). Keeps held after.state n) (sym h.1) k)
       answers (Err e) m k h = tt
 
 -- the disk isn't called
-pub still_line : (tells : Bool) (held : ManagerView) (view : DiskView) (result : Result Reply StoreError) (command : Command) → (IsTrue tells → MatchesFiles held.store view.state.files)
+pub still_line : (tells : Bool) (held : ManagerView) (view : DiskView) (result : Result Reply DiskError) (command : Command) → (IsTrue tells → MatchesFiles held.store view.state.files)
     → ((m : Machine) → Keeps held view.state m → appends m command ≡ 0)
     → (IsTrue tells → (m : Machine) → Keeps held view.state m → IfOk result (λ reply. (reply ≡ (step m command).reply) × ((step m command).after ≡ m)))
     → DoesLine tells held held view view result command
@@ -86,7 +86,7 @@ still_line tells held view result command over free reply =
     looks_line tells held view view result command over (λ told. (0, looks_none 0 view)) (λ told m k. on_ok_always _ result (spends_nothing (appends m command) (reads m command) view (free m k))) reply
 
 -- a call failed that changes nothing
-pub failed_line : (tells : Bool) (held : ManagerView) (before after : DiskView) (result : Result Reply StoreError) (command : Command) → IsErr result → (IsTrue tells → MatchesFiles held.store before.state.files)
+pub failed_line : (tells : Bool) (held : ManagerView) (before after : DiskView) (result : Result Reply DiskError) (command : Command) → IsErr result → (IsTrue tells → MatchesFiles held.store before.state.files)
     → (IsTrue tells → (most : ℕ) × OnlyLooks most before after) → DoesLine tells held held before after result command
 failed_line tells held before after result command failed over looks =
     looks_line tells held before after result command over looks (λ told m k. on_failed _ result failed) (λ told m k. if_failed _ result failed)
@@ -94,7 +94,7 @@ failed_line tells held before after result command failed over looks =
 -- a line that needs no disk
 module _ (tells : Bool) (old now : ManagerView) (view : DiskView) (command : Command) (over : IsTrue tells → MatchesFiles old.store view.state.files) (store : now.store ≡ old.store) (same : now.stopped ≡ old.stopped)
     (free : (m : Machine) → appends m command ≡ 0) (good : IsCommand command) where
-  pub apart_line : (result : Result Reply StoreError) → ((m : Machine) → KeepsStates old m → IfOk result (λ reply. Performs (Ok reply) now m command)) → DoesLine tells old now view view result command
+  pub apart_line : (result : Result Reply DiskError) → ((m : Machine) → KeepsStates old m → IfOk result (λ reply. Performs (Ok reply) now m command)) → DoesLine tells old now view view result command
   apart_line result performs = record {
     reply = λ told m k. answers result m k (performs m k.states);
     images = λ told m k. looks_leave 0 view view (StandsForEither m.published (step m command).after.published) (looks_none 0 view) (λ image now. inl (kept_stands old.store.heights view.state m.published k.heights image now));
@@ -104,7 +104,7 @@ module _ (tells : Bool) (old now : ManagerView) (view : DiskView) (command : Com
     same = same;
   }
     where
-      answers : (r : Result Reply StoreError) (m : Machine) → Keeps old view.state m → IfOk r (λ reply. Performs (Ok reply) now m command) → PerformsOn r now view.state m command
+      answers : (r : Result Reply DiskError) (m : Machine) → Keeps old view.state m → IfOk r (λ reply. Performs (Ok reply) now m command) → PerformsOn r now view.state m command
       answers (Ok reply) m k h = (
         h.0,
         record {
@@ -120,8 +120,8 @@ module _ (tells : Bool) (old now : ManagerView) (view : DiskView) (command : Com
 -- ---- lines that read
 
 -- what the disk shows of a published height that a line asks about
-pub shown_some : (held : ManagerView) (s : DiskState) (m : Machine) → IsImageNow s s.files → Keeps held s m → (at : HeightOrLive) (height : ℕ) → Some height ≡ published_height held at → PublishedAt (ShowsHeight s.files) held.store.heights m at height
-shown_some held s m sound k at height e = published_some (ShowsHeight s.files) (shows_same s.files) held m (k.heights.images s.files sound).each at height e
+pub shown_some : (held : ManagerView) (s : DiskState) (m : Machine) → IsImageNow s s.files → Keeps held s m → (at : HeightOrLive) (h : StoredHeight) → Some h ≡ published_height held at → PublishedAt (ShowsHeight s.files) m at h
+shown_some held s m sound k at h e = published_some (ShowsHeight s.files) (shows_same s.files) held m (k.heights.images s.files sound).each at h e
 
 -- ---- `checkpoint`
 
@@ -226,7 +226,7 @@ module _ (tells : Bool) (old now : ManagerView) (before after : DiskView) (a : S
     (low : option_map_or (λ newest. nat_le a.height newest) (last_or None (heights_in old.store.heights)) false ≡ false) (few : length old.store.heights < MAX_PUBLISHED)
     (live : now.live ≡ old.live) (memory : now.memory ≡ old.memory) (closed : now.stopped ≡ old.stopped)
     (sound : IsTrue tells → IsImageNow after.state after.state.files)
-    (root : Result Bytes StoreError) (publishes : Publishes tells a old.store now.store before after root) where
+    (root : Result Bytes DiskError) (publishes : Publishes tells a old.store now.store before after root) where
   images_of : IsTrue tells → (m : Machine) → Keeps old before.state m → LeavesOnly before after (StandsForEither m.published (step m commands.Checkpoint).after.published)
   images_of told m k =
       let kk = last_kept old.memory m.memory a k.states.memory last in
@@ -234,7 +234,7 @@ module _ (tells : Bool) (old now : ManagerView) (before after : DiskView) (a : S
       (subst (λ (h : ℕ). LeavesOnly before after (StandsForEither m.published (m.published ++ whole h kk.0.1 ∷ []))) kk.2.height
       (publishes.images told m.published kk.0 kk.2 k.settled k.heights))
 
-  pub checkpoint_failed : (result : Result Reply StoreError) → IsErr result → DoesLine tells old now before after result commands.Checkpoint
+  pub checkpoint_failed : (result : Result Reply DiskError) → IsErr result → DoesLine tells old now before after result commands.Checkpoint
   checkpoint_failed result failed = record {
     reply = λ told m k. none result failed m;
     images = images_of;
@@ -244,7 +244,7 @@ module _ (tells : Bool) (old now : ManagerView) (before after : DiskView) (a : S
     same = closed;
   }
     where
-      none : (r : Result Reply StoreError) → IsErr r → (m : Machine) → PerformsOn r now after.state m commands.Checkpoint
+      none : (r : Result Reply DiskError) → IsErr r → (m : Machine) → PerformsOn r now after.state m commands.Checkpoint
       none (Ok reply) h m = absurd (false≢true h)
       none (Err e) h m = tt
 
@@ -252,9 +252,9 @@ module _ (tells : Bool) (old now : ManagerView) (before after : DiskView) (a : S
   checkpoint_done hash done = record {
     reply = λ told m k.
         let kk = last_kept old.memory m.memory a k.states.memory last in
-        let told_root : hash ≡ root_of kk.0.1 = subst (λ (r : Result Bytes StoreError). IfOk r (λ x. x ≡ root_of kk.0.1)) done (publishes.root kk.0 kk.2) in
+        let told_root : hash ≡ root_of kk.0.1 = subst (λ (r : Result Bytes DiskError). IfOk r (λ x. x ≡ root_of kk.0.1)) done (publishes.root kk.0 kk.2) in
         let stands : IsSettled after.state × KeepsHeights now.store.heights after.state (m.published ++ whole a.height kk.0.1 ∷ []) =
-        subst (λ (r : Result Bytes StoreError). OnOk r (IsSettled after.state × KeepsHeights now.store.heights after.state (m.published ++ whole a.height kk.0.1 ∷ []))) done (publishes.stands told m.published kk.0 kk.2 k.settled k.heights) in
+        subst (λ (r : Result Bytes DiskError). OnOk r (IsSettled after.state × KeepsHeights now.store.heights after.state (m.published ++ whole a.height kk.0.1 ∷ []))) done (publishes.stands told m.published kk.0 kk.2 k.settled k.heights) in
         let heights : KeepsHeights now.store.heights after.state (m.published ++ whole kk.0.0 kk.0.1 ∷ []) = subst (λ (h : ℕ). KeepsHeights now.store.heights after.state (m.published ++ whole h kk.0.1 ∷ [])) kk.2.height stands.1 in
         let does = checkpoints tells old before m a last k.states low few in
         let keeps : Keeps now after.state (published_with m kk.0) = record {
@@ -265,17 +265,17 @@ module _ (tells : Bool) (old now : ManagerView) (before after : DiskView) (a : S
             memory = rw memory k.states.memory;
             published = kept_known now.store.heights after.state (published_with m kk.0).published (sound told) heights;
           };
-          over = subst (λ (r : Result Bytes StoreError). OnOk r (MatchesFiles now.store after.state.files)) done (publishes.over told);
+          over = subst (λ (r : Result Bytes DiskError). OnOk r (MatchesFiles now.store after.state.files)) done (publishes.over told);
           settled = stands.0;
           heights = heights;
         } in
         subst (λ (o : Outcome). (replies.Published a.height hash ≡ o.reply) × Keeps now after.state o.after) (sym does) (cc (kk.2.height, told_root), keeps);
     images = images_of;
-    over = λ told. subst (λ (r : Result Bytes StoreError). OnOk r (MatchesFiles now.store after.state.files)) done (publishes.over told);
+    over = λ told. subst (λ (r : Result Bytes DiskError). OnOk r (MatchesFiles now.store after.state.files)) done (publishes.over told);
     spends = λ told m k.
         let kk = last_kept old.memory m.memory a k.states.memory last in
         subst (λ (n : ℕ). Spends n 0 before after) (sym (checkpoint_appends tells old before m a last k.states low few))
-        (subst (λ (r : Result Bytes StoreError). OnOk r (Spends (whole_bytes kk.0.1) 0 before after)) done (publishes.spends told kk.0 kk.2));
+        (subst (λ (r : Result Bytes DiskError). OnOk r (Spends (whole_bytes kk.0.1) 0 before after)) done (publishes.spends told kk.0 kk.2));
     given = publishes.given;
     same = closed;
   }
@@ -353,7 +353,7 @@ reset_done tells old now before after height sound over looks there last store c
   spends = λ told m k.
       let is_last = sym (newest_test (λ n. n == height) old.store.heights m.published k.states.published) ∙ last in
       let most : newest_bytes old.store.heights ≡ reads m (commands.Reset height) =
-      newest_there old.store.heights height last ∙ bytes_there old m k.states (Height height) height (rw there refl) ∙ sym (rw is_last refl) in
+      newest_there old.store.heights height last ∙ bytes_found old m k.states height there ∙ sym (rw is_last refl) in
       subst (λ (n : ℕ). Spends 0 n before after) most (spends_looks _ before after (looks told));
   given = rw store (record { least = omega arith; most = omega arith });
   same = closed;

@@ -6,6 +6,8 @@ use Rattle.std.specs.Option.{is_some, option_map_or}
 use Rattle.std.specs.Prelude.{◌⊎◌, ◌↔◌, IsTrue}
 use Rattle.std.specs.Result.{IsErrOf, OnOk}
 use Rattle.store_spec.specs.Image.{Published, without_published}
+use Rattle.disk_model.specs.declared.disk.DiskError.{DiskError}
+use Rattle.disk_model.specs.declared.disk.DiskError.TheVariants as disk
 use Rattle.disk_model.specs.State.{IsImageNow, IsSettled}
 use Rattle.disk_model.specs.Spending.{Spends}
 use Rattle.disk_model.specs.View.{DiskView, LeavesOnly}
@@ -29,7 +31,7 @@ use Rattle.state_manager.specs.Kept.{ManagerView, DoesLine, Keeps, KeepsStates, 
 use Rattle.state_manager.proofs.DiskLines.{apart_line, height_absent, height_there, live_beside}
 
 -- what the store answers, and the reply
-abbrev pub RepliesTo : {T : Type 0} → Result T StoreError → Result Reply StoreError → Type 0
+abbrev pub RepliesTo : {T : Type 0} → Result T StoreError → Result Reply DiskError → Type 0
 RepliesTo (Ok x) reply = reply ≡ Ok replies.Fine
 RepliesTo (Err e) reply = reply ≡ purge_reply e
 
@@ -57,14 +59,14 @@ pub record Purges {T : Type 0} (tells : Bool) (old now : ManagerView) (before af
   pub images : IsTrue tells → (ps : List Published) → IsSettled before.state → KeepsHeights old.store.heights before.state ps → LeavesOnly before after (StandsForEither ps (without_published ps height))
   pub settled : IsTrue tells → OnOk r (IsSettled before.state → IsSettled after.state)
 
-module _ {T : Type 0} (tells : Bool) (old now : ManagerView) (before after : DiskView) (height : ℕ) (r : Result T StoreError) (reply : Result Reply StoreError) (says : RepliesTo r reply) (p : Purges tells old now before after height r)
+module _ {T : Type 0} (tells : Bool) (old now : ManagerView) (before after : DiskView) (height : ℕ) (r : Result T StoreError) (reply : Result Reply DiskError) (says : RepliesTo r reply) (p : Purges tells old now before after height r)
     (live : now.live ≡ old.live) (memory : now.memory ≡ old.memory) (closed : now.stopped ≡ old.stopped)
     (over : IsTrue tells → MatchesFiles old.store before.state.files) (sound : IsTrue tells → IsImageNow after.state after.state.files) where
   refuses : (reason : Refusal) → (now.store ≡ old.store) × (after ≡ before) → ((m : Machine) → KeepsStates old m → step m (commands.Purge height) ≡ outcome_of (replies.Refused reason) m) → reply ≡ Ok (replies.Refused reason)
       → DoesLine tells old now before after reply (commands.Purge height)
   refuses reason same does is =
       subst (λ (v : DiskView). DoesLine tells old now before v reply (commands.Purge height)) (sym same.1)
-      (subst (λ (x : Result Reply StoreError). DoesLine tells old now before before x (commands.Purge height)) (sym is)
+      (subst (λ (x : Result Reply DiskError). DoesLine tells old now before before x (commands.Purge height)) (sym is)
       (apart_line tells old now before (commands.Purge height) over same.0 closed (λ m. refl) (record { form = tt; types = tt }) (Ok (replies.Refused reason))
       (λ m k.
       let states : KeepsStates now m = record { usable = closed ∙ k.usable; live = rw live k.live; memory = rw memory k.memory; published = rw same.0 k.published } in
@@ -84,7 +86,7 @@ module _ {T : Type 0} (tells : Bool) (old now : ManagerView) (before after : Dis
     over_after : (P : Type 0) → OnOk r P → OnOk reply P
     over_after P there = go r reply says no_height last_height there
       where
-        go : (r : Result T StoreError) (reply : Result Reply StoreError) → RepliesTo r reply → (r ≡ Err store.NoHeight → ⊥) → (r ≡ Err store.LastHeight → ⊥) → OnOk r P → OnOk reply P
+        go : (r : Result T StoreError) (reply : Result Reply DiskError) → RepliesTo r reply → (r ≡ Err store.NoHeight → ⊥) → (r ≡ Err store.LastHeight → ⊥) → OnOk r P → OnOk reply P
         go (Ok x) (Ok y) says a b there = there
         go (Ok x) (Err e) says a b there = tt
         go (Err store.NoHeight) reply says a b there = absurd (a refl)
@@ -105,10 +107,10 @@ module _ {T : Type 0} (tells : Bool) (old now : ManagerView) (before after : Dis
         go (Ok y) says a b = let one : Ok x ≡ Ok replies.Fine = sym is ∙ says in cc one
         go (Err store.NoHeight) says a b = absurd (a refl)
         go (Err store.LastHeight) says a b = absurd (b refl)
-        go (Err store.Fault) says a b = let one : Ok x ≡ Err store.Fault = sym is ∙ says in absurd (cc one)
-        go (Err store.Memory) says a b = let one : Ok x ≡ Err store.Memory = sym is ∙ says in absurd (cc one)
-        go (Err (store.BadMark h)) says a b = let one : Ok x ≡ Err (store.BadMark h) = sym is ∙ says in absurd (cc one)
-        go (Err (store.BadPage n)) says a b = let one : Ok x ≡ Err (store.BadPage n) = sym is ∙ says in absurd (cc one)
+        go (Err store.Fault) says a b = let one : Ok x ≡ Err disk.Fault = sym is ∙ says in absurd (cc one)
+        go (Err store.Memory) says a b = let one : Ok x ≡ Err disk.Memory = sym is ∙ says in absurd (cc one)
+        go (Err (store.BadMark h)) says a b = let one : Ok x ≡ Err disk.Memory = sym is ∙ says in absurd (cc one)
+        go (Err (store.BadPage n)) says a b = let one : Ok x ≡ Err disk.Memory = sym is ∙ says in absurd (cc one)
 
   purges : is_some (height_at old.store.heights height) ≡ true → is_newest old.store.heights height ≡ false → DoesLine tells old now before after reply (commands.Purge height)
   purges there older =
@@ -123,11 +125,11 @@ module _ {T : Type 0} (tells : Bool) (old now : ManagerView) (before after : Dis
         same = closed;
       }
     where
-      answers : (x : Result Reply StoreError) → reply ≡ x → (r ≡ Err store.NoHeight → ⊥) → (r ≡ Err store.LastHeight → ⊥) → is_some (height_at old.store.heights height) ≡ true → is_newest old.store.heights height ≡ false
+      answers : (x : Result Reply DiskError) → reply ≡ x → (r ≡ Err store.NoHeight → ⊥) → (r ≡ Err store.LastHeight → ⊥) → is_some (height_at old.store.heights height) ≡ true → is_newest old.store.heights height ≡ false
           → IsTrue tells → (m : Machine) → Keeps old before.state m → PerformsOn x now after.state m (commands.Purge height)
       answers (Err e) is a b there older told m k = tt
       answers (Ok y) is a b there older told m k =
-          let done : (P : Type 0) → OnOk r P → P = λ P h. subst (λ (x : Result Reply StoreError). OnOk x P) is (over_after a b P h) in
+          let done : (P : Type 0) → OnOk r P → P = λ P h. subst (λ (x : Result Reply DiskError). OnOk x P) is (over_after a b P h) in
           let heights = done _ (p.stands told m.published k.settled k.heights) in
           let settled = done _ (p.settled told) k.settled in
           let does = does_purge there older m k.states in

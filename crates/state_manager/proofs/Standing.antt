@@ -19,7 +19,8 @@ use Rattle.machine_spec.specs.Costs.{on_disk}
 use Rattle.machine_spec.specs.Machine.{Machine, Outcome, outcome_of, unless_none, on_state, state_at, kept_at, published_at, without_height}
 use Rattle.store_spec.specs.Image.{Published}
 use Rattle.disk_model.specs.Files.{Files}
-use Rattle.height_store.specs.Kept.{ShowsHeight}
+use Rattle.height_store.specs.Kept.{HasStacks, IsReadable, ShowsHeight}
+use Rattle.height_store.specs.Laws.{stacks_found}
 use Rattle.height_store.specs.Store.{StoredHeight, height_at}
 use Rattle.height_store.specs.Known.{KnowsHeight}
 use Rattle.state_manager.specs.Kept.{ManagerView, KeepsStates, KeepsEach, Performs, held_at, published_height}
@@ -126,11 +127,9 @@ FoundHeight R None height ps = published_at height ps ≡ None
 FoundHeight R (Some h) height ps = AtHeight R h height ps
 
 -- a published height that a line asks about, and the machine's
-pub record PublishedAt (R : StoredHeight → Published → Type 0) (hs : List StoredHeight) (m : Machine) (at : HeightOrLive) (height : ℕ) : Type 0 where
-  pub stored : StoredHeight
+pub record PublishedAt (R : StoredHeight → Published → Type 0) (m : Machine) (at : HeightOrLive) (h : StoredHeight) : Type 0 where
   pub published : Published
-  pub found : height_at hs height ≡ Some stored
-  pub related : R stored published
+  pub related : R h published
   pub state : state_at m at ≡ Some published.state
   pub on_disk : on_disk m at ≡ Some published.state
 
@@ -154,20 +153,18 @@ module _ (R : StoredHeight → Published → Type 0) (same : (h : StoredHeight) 
   same_heights_in (h ∷ hs) [] each = absurd each
   same_heights_in (h ∷ hs) (p ∷ ps) each = cc (same h p each.0, same_heights_in hs ps each.1)
 
-  pub published_some : (held : ManagerView) (m : Machine) → AllZip R held.store.heights m.published → (at : HeightOrLive) (height : ℕ) → Some height ≡ published_height held at → PublishedAt R held.store.heights m at height
-  published_some held m each Live height e = absurd (cc e)
-  published_some held m each (Height h) height e = by (height_at held.store.heights h) refl (find_height held.store.heights m.published h each) e
+  pub published_some : (held : ManagerView) (m : Machine) → AllZip R held.store.heights m.published → (at : HeightOrLive) (h : StoredHeight) → Some h ≡ published_height held at → PublishedAt R m at h
+  published_some held m each Live h e = absurd (cc e)
+  published_some held m each (Height n) h e = by (height_at held.store.heights n) (find_height held.store.heights m.published n each) e
     where
-      by : (o : Option StoredHeight) → height_at held.store.heights h ≡ o → FoundHeight R o h m.published → Some height ≡ (if is_some o then Some h else None) → PublishedAt R held.store.heights m (Height h) height
-      by None found f e = absurd (cc e)
-      by (Some x) found f e =
-          let one : height ≡ h = cc e in
+      by : (o : Option StoredHeight) → FoundHeight R o n m.published → Some h ≡ o → PublishedAt R m (Height n) h
+      by None f e = absurd (cc e)
+      by (Some x) f e =
+          let one : x ≡ h = cc e in
           record {
-            stored = x;
             published = f.published;
-            found = subst (λ (n : ℕ). height_at held.store.heights n ≡ Some x) (sym one) found;
-            related = f.related;
-            state = ap (λ (o : Option State). option_or o (kept_at h m.memory)) f.state;
+            related = subst (λ (y : StoredHeight). R y f.published) one f.related;
+            state = ap (λ (o : Option State). option_or o (kept_at n m.memory)) f.state;
             on_disk = f.state;
           }
 
@@ -177,25 +174,30 @@ knows_same h p knows = knows.height
 pub shows_same : (files : Files) (h : StoredHeight) (p : Published) → ShowsHeight files h p → h.mark.height ≡ p.height
 shows_same files h p shows = sym shows.made.height
 
-pub knows_some : (held : ManagerView) (m : Machine) → KeepsStates held m → (at : HeightOrLive) (height : ℕ) → Some height ≡ published_height held at → PublishedAt KnowsHeight held.store.heights m at height
-knows_some held m k at height e = published_some KnowsHeight knows_same held m k.published at height e
+pub knows_some : (held : ManagerView) (m : Machine) → KeepsStates held m → (at : HeightOrLive) (h : StoredHeight) → Some h ≡ published_height held at → PublishedAt KnowsHeight m at h
+knows_some held m k at h e = published_some KnowsHeight knows_same held m k.published at h e
+
+-- the page files of a published height that a line asks about are there
+pub stacks_there : (files : Files) (held : ManagerView) (at : HeightOrLive) (h : StoredHeight) → Some h ≡ published_height held at → IsReadable held.store.heights files → HasStacks files h
+stacks_there files held Live h e readable = absurd (cc e)
+stacks_there files held (Height n) h e readable = stacks_found files held.store.heights n h e readable
 
 -- Of a height that isn't published, the machine has the state in memory.
 pub published_none : (held : ManagerView) (m : Machine) → KeepsStates held m → (at : HeightOrLive) → None ≡ published_height held at → state_at m at ≡ in_memory m at
 published_none held m k Live e = refl
 published_none held m k (Height h) e = by (height_at held.store.heights h) (find_height KnowsHeight knows_same held.store.heights m.published h k.published) e
   where
-    by : (o : Option StoredHeight) → FoundHeight KnowsHeight o h m.published → None ≡ (if is_some o then Some h else None) → option_or (published_at h m.published) (kept_at h m.memory) ≡ kept_at h m.memory
+    by : (o : Option StoredHeight) → FoundHeight KnowsHeight o h m.published → None ≡ o → option_or (published_at h m.published) (kept_at h m.memory) ≡ kept_at h m.memory
     by None f e = ap (λ (o : Option State). option_or o (kept_at h m.memory)) f
     by (Some x) f e = absurd (cc e)
 
 -- ---- lines that need no disk
 
-pub line_published : (held : ManagerView) (m : Machine) (k : KeepsStates held m) → (at : HeightOrLive) (height : ℕ) → (e : Some height ≡ published_height held at) → (act : State → Outcome) (reply : Reply)
-    → ((s : State) → (act s).after ≡ m) → reply ≡ (act (knows_some held m k at height e).published.state).reply
+pub line_published : (held : ManagerView) (m : Machine) (k : KeepsStates held m) → (at : HeightOrLive) (h : StoredHeight) → (e : Some h ≡ published_height held at) → (act : State → Outcome) (reply : Reply)
+    → ((s : State) → (act s).after ≡ m) → reply ≡ (act (knows_some held m k at h e).published.state).reply
     → (reply ≡ (on_state m at act).reply) × KeepsStates held (on_state m at act).after × ((on_state m at act).after.published ≡ m.published)
-line_published held m k at height e act reply after is =
-    let p = knows_some held m k at height e in
+line_published held m k at h e act reply after is =
+    let p = knows_some held m k at h e in
     unchanged held m k reply (on_state m at act) (asks_there m at p.published.state p.state act reply is (after p.published.state))
 
 pub line_some : (held : ManagerView) (m : Machine) (k : KeepsStates held m) → (at : HeightOrLive) → None ≡ published_height held at → (a : StateView) → (e : Some a ≡ held_at held at) → (act : State → Outcome) (reply : Reply)
@@ -223,10 +225,10 @@ module _ (held : ManagerView) (m : Machine) (k : KeepsStates held m) (at : Heigh
       → Performs (Ok reply) held m command
   told reply h = subst (λ (o : Outcome). (reply ≡ o.reply) × KeepsStates held o.after × (o.after.published ≡ m.published)) (sym same) h
 
-  pub performs_published : (height : ℕ) → (e : Some height ≡ published_height held at) → (result : Result Reply NoMemory)
-      → IfOk result (λ reply. reply ≡ tell (knows_some held m k at height e).published.state) → Performs result held m command
-  performs_published height e (Ok reply) is = told reply (line_published held m k at height e (λ s. outcome_of (tell s) m) reply (λ s. refl) is)
-  performs_published height e (Err x) is = tt
+  pub performs_published : (h : StoredHeight) → (e : Some h ≡ published_height held at) → (result : Result Reply NoMemory)
+      → IfOk result (λ reply. reply ≡ tell (knows_some held m k at h e).published.state) → Performs result held m command
+  performs_published h e (Ok reply) is = told reply (line_published held m k at h e (λ s. outcome_of (tell s) m) reply (λ s. refl) is)
+  performs_published h e (Err x) is = tt
 
   pub performs_in_memory : None ≡ published_height held at → (a : StateView) → (e : Some a ≡ held_at held at) → (result : Result Reply NoMemory)
       → IfOk result (λ reply. reply ≡ tell (at_some held m k at a e).0.1) → Performs result held m command

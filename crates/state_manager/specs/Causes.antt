@@ -1,6 +1,7 @@
 -- Why a manager stops or does not open.
-use Rattle.std.specs.Prelude.{ℕ, ◌≤◌, Result, Ok, Err, IsErrOf}
-use Rattle.disk_model.specs.Call.{count_after}
+use Rattle.std.specs.Prelude.{Result, Ok, Err}
+use Rattle.disk_model.specs.declared.disk.DiskError.{DiskError}
+use Rattle.disk_model.specs.declared.disk.DiskError.TheVariants as disk
 use Rattle.height_store.specs.declared.error.StoreError.{StoreError}
 use Rattle.height_store.specs.declared.error.StoreError.TheVariants as store
 use Rattle.script_text.specs.declared.reply.Reply.{Reply}
@@ -11,16 +12,17 @@ use Rattle.state_manager.specs.declared.stop.Stop.TheVariants as stops
 use Rattle.state_manager.specs.declared.stop.OpenError.{OpenError}
 use Rattle.state_manager.specs.declared.stop.OpenError.TheVariants as opens
 
--- an error of the store that a line stops by; no line leaves a refusal of the store as an error
-abbrev pub stop_of : StoreError → Stop
-stop_of store.Fault = stops.Disk
-stop_of e = stops.Memory
+-- an error of the disk that a line stops by
+abbrev pub stop_of : DiskError → Stop
+stop_of disk.Fault = stops.Disk
+stop_of disk.Memory = stops.Memory
 
--- the reply to a purge that the store refused; any other error stays
-abbrev pub purge_reply : StoreError → Result Reply StoreError
+-- the reply to a purge that the store refused; an error of the disk stays
+abbrev pub purge_reply : StoreError → Result Reply DiskError
 purge_reply store.NoHeight = Ok (Refused refusals.NoHeight)
 purge_reply store.LastHeight = Ok (Refused refusals.LastHeight)
-purge_reply e = Err e
+purge_reply store.Fault = Err disk.Fault
+purge_reply e = Err disk.Memory
 
 abbrev pub open_error : StoreError → OpenError
 open_error (store.BadMark height) = opens.BadMark height
@@ -28,18 +30,12 @@ open_error (store.BadPage number) = opens.BadPage number
 open_error store.Fault = opens.Fault
 open_error e = opens.Memory
 
--- `Disk` comes only where the disk's count of faults rose, or stands at the top of a `u64`
-pub record HasCause {T : Type 0} (old new : ℕ) (result : Result T Stop) : Type 0 where
-  pub never_falls : old ≤ new
-  pub fault : IsErrOf result stops.Disk → count_after old 1 ≤ new
-
--- the same of opening
-pub record OpensByCause {T : Type 0} (old new : ℕ) (result : Result T OpenError) : Type 0 where
-  pub never_falls : old ≤ new
-  pub fault : IsErrOf result opens.Fault → count_after old 1 ≤ new
+abbrev pub disk_error : DiskError → OpenError
+disk_error disk.Fault = opens.Fault
+disk_error disk.Memory = opens.Memory
 
 -- a file of the disk is bad
-abbrev pub IsBadFile : {T : Type 0} → Result T OpenError → Type 0
-IsBadFile (Err (opens.BadMark height)) = Unit {0}
-IsBadFile (Err (opens.BadPage number)) = Unit {0}
-IsBadFile result = ⊥
+abbrev pub IsBadFile : OpenError → Type 0
+IsBadFile (opens.BadMark height) = Unit {0}
+IsBadFile (opens.BadPage number) = Unit {0}
+IsBadFile e = ⊥

@@ -8,7 +8,7 @@ use Rattle.state_spec.specs.State.{State}
 use Rattle.disk_model.specs.State.{DiskState, IsSettled}
 use Rattle.disk_model.specs.Spending.{Spends}
 use Rattle.disk_model.specs.View.{DiskView, LeavesOnly}
-use Rattle.height_store.specs.declared.error.StoreError.{StoreError}
+use Rattle.disk_model.specs.declared.disk.DiskError.{DiskError}
 use Rattle.height_store.specs.Store.{Store, StoredHeight, GivesFew, height_at, heights_in}
 use Rattle.height_store.specs.Kept.{MatchesFiles, KeepsHeights, StandsForEither}
 use Rattle.height_store.specs.Known.{KnowsHeight, bytes_at}
@@ -40,10 +40,10 @@ abbrev pub held_at : ManagerView → HeightOrLive → Option StateView
 held_at held Live = Some held.live
 held_at held (Height h) = find (λ state. state.height == h) held.memory
 
--- the published height that a line asks about
-abbrev pub published_height : ManagerView → HeightOrLive → Option ℕ
+-- what is published at the height that a line asks about
+abbrev pub published_height : ManagerView → HeightOrLive → Option StoredHeight
 published_height held Live = None
-published_height held (Height h) = if is_some (height_at held.store.heights h) then Some h else None
+published_height held (Height h) = height_at held.store.heights h
 
 -- the bytes of the memories of the newest published height
 abbrev pub newest_bytes : List StoredHeight → ℕ
@@ -88,7 +88,7 @@ Performs (Ok reply) now m command =
 Performs (Err e) now m command = Unit {0}
 
 -- the reply to a command is that of the machine's step, and the machine after it is kept
-abbrev pub PerformsOn : Result Reply StoreError → ManagerView → DiskState → Machine → Command → Type 0
+abbrev pub PerformsOn : Result Reply DiskError → ManagerView → DiskState → Machine → Command → Type 0
 PerformsOn (Ok reply) now s m command = (reply ≡ (step m command).reply) × Keeps now s (step m command).after
 PerformsOn (Err e) now s m command = Unit {0}
 
@@ -100,7 +100,7 @@ Applies (Err stop) now s m command = Unit {0}
 -- What a line that may call the disk does, whatever it answers: while it runs every image stands for the published heights
 -- before it or for those after the machine's step, and it gives few numbers to page files. Where it is answered, it has appended
 -- just the bytes that the machine says, and read no more.
-pub record DoesLine (tells : Bool) (old new : ManagerView) (before after : DiskView) (result : Result Reply StoreError) (command : Command) : Type 0 where
+pub record DoesLine (tells : Bool) (old new : ManagerView) (before after : DiskView) (result : Result Reply DiskError) (command : Command) : Type 0 where
   pub reply : IsTrue tells → (m : Machine) → Keeps old before.state m → PerformsOn result new after.state m command
   pub images : IsTrue tells → (m : Machine) → Keeps old before.state m
       → LeavesOnly before after (StandsForEither m.published (step m command).after.published)

@@ -7,7 +7,7 @@ use Rattle.store_spec.specs.Image.{Published}
 use Rattle.disk_model.specs.State.{IsSettled}
 use Rattle.disk_model.specs.Spending.{Spends}
 use Rattle.disk_model.specs.View.{DiskView, LeavesOnly}
-use Rattle.height_store.specs.declared.error.StoreError.{StoreError}
+use Rattle.disk_model.specs.declared.disk.DiskError.{DiskError}
 use Rattle.height_store.specs.Store.{Store, GivesFew}
 use Rattle.height_store.specs.Kept.{MatchesFiles, KeepsHeights, StandsForEither}
 use Rattle.whole_state.specs.Whole.{whole}
@@ -16,7 +16,7 @@ use Rattle.live_state.specs.StateKept.{StateView, KeepsState}
 
 -- What publishing a state at its height does: every image meanwhile stands for the heights before or those after, at most
 -- 2,048 numbers are given, and at Ok the height is published, with the root of the state, and just its bytes were appended.
-pub record Publishes (tells : Bool) (held : StateView) (old new : Store) (before after : DiskView) (result : Result Bytes StoreError) : Type 0 where
+pub record Publishes (tells : Bool) (held : StateView) (old new : Store) (before after : DiskView) (result : Result Bytes DiskError) : Type 0 where
   pub root : (k : ℕ × State) → KeepsState held k → IfOk result (λ root. root ≡ root_of k.1)
   pub stands : IsTrue tells → (ps : List Published) (k : ℕ × State) → KeepsState held k → IsSettled before.state → KeepsHeights old.heights before.state ps
       → OnOk result (IsSettled after.state × KeepsHeights new.heights after.state (ps ++ whole held.height k.1 ∷ []))

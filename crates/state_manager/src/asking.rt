@@ -2,7 +2,7 @@
 
 ghost use Rattle.std.specs.Prelude.{◌≡◌, ◌≤◌, length, IsTrue};
 ghost use Rattle.std.specs.Option.{option_copied};
-ghost use Rattle.height_store.specs.Errors.{HasCause as StoreCause};
+ghost use Rattle.disk_model.specs.Causes.{Fails};
 ghost use Rattle.height_store.specs.Kept.{MatchesFiles};
 ghost use Rattle.machine_spec.specs.Machine.{Machine};
 ghost use Rattle.state_manager.specs.Kept.{KeepsStates, Performs, DoesLine, held_at, published_height};
@@ -10,12 +10,11 @@ ghost use Rattle.state_manager.specs.Kept.{KeepsStates, Performs, DoesLine, held
 use crate::in_memory::{find_height, keep_tree_at};
 use crate::manager::Manager;
 use crate::published::{
-    count_published, is_published, load, read_published, root_published, tree_published,
-    witness_published,
+    count_published, load, read_published, root_published, tree_published, witness_published,
 };
 use byte_codec::NoMemory;
-use disk_model::Disk;
-use height_store::StoreError;
+use disk_model::{Disk, DiskError};
+use height_store::PublishedHeight;
 use live_state::HeightState;
 use script_text::{Command, HeightOrLive, Refusal, Reply};
 use std::alloc::Global;
@@ -32,13 +31,13 @@ impl Manager {
         offset: u64,
         len: u64,
         disk: &mut D,
-    ) -> Result<Reply, StoreError>
+    ) -> Result<Reply, DiskError>
         requires over { IsTrue D.tells → MatchesFiles self.now.store (D.view disk.old).state.files }
         ensures line { DoesLine D.tells self.now self.now (D.view disk.old) (D.view disk.new) result (Command.Read at id.now mem offset len) }
-        ensures cause { StoreCause (D.faults disk.old) (D.faults disk.new) result }
+        ensures cause { Fails D.Disk disk.old disk.new result }
     {
-        if let Some(height) = self.published_at(at) {
-            return read_published(alloc, &self.store, disk, height, id, mem, offset, len);
+        if let Some(found) = self.published_at(at) {
+            return read_published(alloc, found, disk, id, mem, offset, len);
         }
         match self.state_at(at) {
             Some(state) => Ok(state.read(alloc, id, mem, offset, len)?),
@@ -52,13 +51,13 @@ impl Manager {
         alloc: Global,
         at: HeightOrLive,
         disk: &mut D,
-    ) -> Result<Reply, StoreError>
+    ) -> Result<Reply, DiskError>
         requires over { IsTrue D.tells → MatchesFiles self.now.store (D.view disk.old).state.files }
         ensures line { DoesLine D.tells self.now self.now (D.view disk.old) (D.view disk.new) result (Command.Scratch at) }
-        ensures cause { StoreCause (D.faults disk.old) (D.faults disk.new) result }
+        ensures cause { Fails D.Disk disk.old disk.new result }
     {
-        if let Some(height) = self.published_at(at) {
-            let state = load(alloc, &self.store, disk, height)?;
+        if let Some(found) = self.published_at(at) {
+            let state = load(alloc, found, disk)?;
             return Ok(Reply::Scratch(state.root(alloc)?));
         }
         match self.state_at(at) {
@@ -71,8 +70,8 @@ impl Manager {
     pub(crate) fn root(&self, alloc: Global, at: HeightOrLive) -> Result<Reply, NoMemory>
         ensures { (m : Machine) → KeepsStates self.now m → Performs result self.now m (Command.Root at) }
     {
-        if let Some(height) = self.published_at(at) {
-            return Ok(root_published(&self.store, height));
+        if let Some(found) = self.published_at(at) {
+            return Ok(root_published(found));
         }
         match self.state_at(at) {
             Some(state) => Ok(Reply::Root(state.root(alloc)?)),
@@ -84,8 +83,8 @@ impl Manager {
     pub(crate) fn count_manifest(&self, alloc: Global, at: HeightOrLive) -> Result<Reply, NoMemory>
         ensures { (m : Machine) → KeepsStates self.now m → Performs result self.now m (Command.Manifest at) }
     {
-        if let Some(height) = self.published_at(at) {
-            return Ok(count_published(&self.store, height));
+        if let Some(found) = self.published_at(at) {
+            return Ok(count_published(found));
         }
         match self.state_at(at) {
             Some(state) => state.count_manifest(alloc),
@@ -98,8 +97,8 @@ impl Manager {
         ensures step { (m : Machine) → KeepsStates self.old m → Performs result self.new m (Command.Tree at) }
         ensures same { self.new ≡ self.old }
     {
-        if let Some(height) = self.published_at(at) {
-            return tree_published(alloc, &self.store, height);
+        if let Some(found) = self.published_at(at) {
+            return tree_published(alloc, found);
         }
         self.keep_tree(alloc, at)?;
         match self.state_at(at) {
@@ -119,8 +118,8 @@ impl Manager {
         ensures step { (m : Machine) → KeepsStates self.old m → Performs result self.new m (Command.Witness at paths.now) }
         ensures same { self.new ≡ self.old }
     {
-        if let Some(height) = self.published_at(at) {
-            return witness_published(alloc, &self.store, height, paths);
+        if let Some(found) = self.published_at(at) {
+            return witness_published(alloc, found, paths);
         }
         self.keep_tree(alloc, at)?;
         match self.state_at(at) {
@@ -139,13 +138,13 @@ impl Manager {
         }
     }
 
-    // The published height that a line asks about.
-    fn published_at(&self, at: HeightOrLive) -> Option<u64>
-        ensures { result ≡ published_height self.now at }
+    // What is published at the height that a line asks about.
+    fn published_at(&self, at: HeightOrLive) -> Option<&PublishedHeight>
+        ensures { option_copied result ≡ published_height self.now at }
     {
         match at {
-            HeightOrLive::Height(height) if is_published(&self.store, height) => Some(height),
-            _ => None,
+            HeightOrLive::Live => None,
+            HeightOrLive::Height(height) => self.store.find(height),
         }
     }
 

@@ -1,7 +1,8 @@
 //! Lines on the heights that there are, in memory and published.
 
 ghost use Rattle.std.specs.Prelude.{◌≡◌, ◌≤◌, ◌^◌, IsTrue};
-ghost use Rattle.height_store.specs.Errors.{HasCause as StoreCause};
+ghost use Rattle.disk_model.specs.Causes.{Fails};
+ghost use Rattle.height_store.specs.Errors.{IsBadFile};
 ghost use Rattle.height_store.specs.Kept.{MatchesFiles};
 ghost use Rattle.machine_spec.specs.Machine.{Machine};
 ghost use Rattle.state_manager.specs.Causes.{purge_reply};
@@ -9,13 +10,13 @@ ghost use Rattle.state_manager.specs.Kept.{KeepsStates, Performs, DoesLine};
 
 use crate::in_memory::{drop_height, find_height, heights_of};
 use crate::manager::Manager;
-use crate::published::{begin, is_low, is_newest, is_published, published_heights};
+use crate::published::begin;
 use crate::publishing::publish;
 use byte_codec::NoMemory;
-use disk_model::Disk;
+use disk_model::{Disk, DiskError};
 use format_spec::{MAX_HEIGHT, MAX_HEIGHTS, MAX_PUBLISHED};
 use height_store::StoreError;
-use script_text::{Command, Refusal, Reply};
+use script_text::{Command, Numbers, Refusal, Reply};
 use std::alloc::Global;
 
 impl Manager {
@@ -26,7 +27,7 @@ impl Manager {
         Ok(Reply::Heights {
             live: self.live.height(),
             memory: heights_of(alloc, &self.memory)?,
-            published: published_heights(alloc, &self.store)?,
+            published: Numbers::new(self.store.heights(alloc)?),
         })
     }
 
@@ -70,17 +71,17 @@ impl Manager {
         &mut self,
         alloc: Global,
         disk: &mut D,
-    ) -> Result<Reply, StoreError>
+    ) -> Result<Reply, DiskError>
         requires numbers { self.old.store.given ≤ 2 ^ 60 }
         requires over { IsTrue D.tells → MatchesFiles self.old.store (D.view disk.old).state.files }
         ensures line { DoesLine D.tells self.old self.new (D.view disk.old) (D.view disk.new) result Command.Checkpoint }
-        ensures cause { StoreCause (D.faults disk.old) (D.faults disk.new) result }
+        ensures cause { Fails D.Disk disk.old disk.new result }
     {
         let Some(state) = self.memory.last() else {
             return Ok(Reply::Refused(Refusal::NoHeight));
         };
         let height = state.height();
-        if is_low(&self.store, height) {
+        if self.store.is_low(height) {
             return Ok(Reply::Refused(Refusal::HeightLow));
         }
         if self.store.count() as usize >= MAX_PUBLISHED {
@@ -96,10 +97,10 @@ impl Manager {
         alloc: Global,
         height: u64,
         disk: &mut D,
-    ) -> Result<Reply, StoreError>
+    ) -> Result<Reply, DiskError>
         requires over { IsTrue D.tells → MatchesFiles self.old.store (D.view disk.old).state.files }
         ensures line { DoesLine D.tells self.old self.new (D.view disk.old) (D.view disk.new) result (Command.Purge height) }
-        ensures cause { StoreCause (D.faults disk.old) (D.faults disk.new) result }
+        ensures cause { Fails D.Disk disk.old disk.new result }
     {
         match self.store.purge(alloc, height, disk) {
             Ok(()) => Ok(Reply::Fine),
@@ -113,15 +114,15 @@ impl Manager {
         alloc: Global,
         height: u64,
         disk: &mut D,
-    ) -> Result<Reply, StoreError>
+    ) -> Result<Reply, DiskError>
         requires over { IsTrue D.tells → MatchesFiles self.old.store (D.view disk.old).state.files }
         ensures line { DoesLine D.tells self.old self.new (D.view disk.old) (D.view disk.new) result (Command.Reset height) }
-        ensures cause { StoreCause (D.faults disk.old) (D.faults disk.new) result }
+        ensures cause { Fails D.Disk disk.old disk.new result }
     {
-        if !is_published(&self.store, height) {
+        if !self.store.is_published(height) {
             return Ok(Reply::Refused(Refusal::NoHeight));
         }
-        if !is_newest(&self.store, height) {
+        if !self.store.is_newest(height) {
             return Ok(Reply::Refused(Refusal::HeightLow));
         }
         self.live = begin(alloc, &self.store, disk)?;
@@ -130,14 +131,16 @@ impl Manager {
     }
 }
 
-// The reply to a purge that the store refused; any other error stays.
-fn refused_purge(error: StoreError) -> Result<Reply, StoreError>
+// The reply to a purge that the store refused; an error of the disk stays. The error names no bad file.
+fn refused_purge(error: StoreError) -> Result<Reply, DiskError>
+    requires { IsBadFile error → ⊥ }
     ensures { result ≡ purge_reply error }
 {
     match error {
         StoreError::NoHeight => Ok(Reply::Refused(Refusal::NoHeight)),
         StoreError::LastHeight => Ok(Reply::Refused(Refusal::LastHeight)),
-        StoreError::BadMark(_) | StoreError::BadPage(_) | StoreError::Fault | StoreError::Memory =>
-            Err(error),
+        StoreError::Fault => Err(DiskError::Fault),
+        StoreError::Memory => Err(DiskError::Memory),
+        StoreError::BadMark(_) | StoreError::BadPage(_) => unreachable!(),
     }
 }

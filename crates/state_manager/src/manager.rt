@@ -1,17 +1,17 @@
 //! The manager of the live state, those in memory and the published ones.
 
-ghost use Rattle.std.specs.Prelude.{◌≡◌, ◌↔◌, ◌≤◌, ◌+◌, ◌^◌, ℕ, List, true, false, Some, None, Err, map, is_some, IsTrue, IsSome, IsErrOf, IfOk, IfErr, OnOk};
+ghost use Rattle.std.specs.Prelude.{◌≡◌, ◌↔◌, ◌≤◌, ◌+◌, ◌^◌, ℕ, List, true, false, Some, None, Err, map, is_some, IsTrue, IsSome, IsErrAnd, IsErrOf, IfOk, IfErr, OnOk};
 ghost use Rattle.std.specs.List.{last_or};
 ghost use Rattle.store_spec.specs.Image.{Published, StandsFor, Opens};
 ghost use Rattle.disk_model.specs.declared.name.Kind.TheVariants as kind;
 ghost use Rattle.disk_model.specs.declared.name.Name.{Name};
 ghost use Rattle.disk_model.specs.declared.name.Name.TheVariants as name;
+ghost use Rattle.disk_model.specs.Causes.{Fails, FailsFor, OnlyIf};
 ghost use Rattle.disk_model.specs.Files.{IsListing};
 ghost use Rattle.disk_model.specs.State.{IsImageNow};
 ghost use Rattle.disk_model.specs.Spending.{Spends};
 ghost use Rattle.disk_model.specs.View.{EachImage, LeavesOnly};
 ghost use Rattle.height_store.specs.Bad.{IsFirstBadMark, IsFirstBadPage, marks_bytes};
-ghost use Rattle.height_store.specs.Errors.{HasCause as StoreCause};
 ghost use Rattle.height_store.specs.Kept.{MatchesFiles, StandsForSome, StandsAsBefore, StandsForEither};
 ghost use Rattle.height_store.specs.Opened.{ReadsAtMost};
 ghost use Rattle.height_store.specs.Store.{GivesFew, is_named, is_needed};
@@ -19,15 +19,15 @@ ghost use Rattle.script_text.specs.Commands.{FitsForm};
 ghost use Rattle.machine_spec.specs.Costs.{appends, reads};
 ghost use Rattle.machine_spec.specs.Machine.{Machine, start};
 ghost use Rattle.machine_spec.specs.Step.{step};
-ghost use Rattle.state_manager.specs.Causes.{HasCause, OpensByCause, IsBadFile};
+ghost use Rattle.state_manager.specs.Causes.{IsBadFile, disk_error, stop_of};
 ghost use Rattle.state_manager.specs.Kept.{Keeps, KeepsStates, Performs, Applies, DoesLine, needs_disk, newest_bytes};
 
 use crate::checks::check_witness;
 use crate::published::begin;
 use crate::stop::{OpenError, Stop};
 use byte_codec::NoMemory;
-use disk_model::Disk;
-use height_store::{HeightStore, StoreError};
+use disk_model::{Disk, DiskError};
+use height_store::HeightStore;
 use live_state::HeightState;
 use script_text::{Command, Reply};
 use std::alloc::Global;
@@ -73,9 +73,9 @@ impl Manager {
         ensures usable { IfOk result (λ manager. (manager.stopped ≡ None) × (manager.store.given ≡ 0)) }
         ensures bad_mark { IsTrue D.tells → (height : ℕ) → IsErrOf result (OpenError.BadMark height) → IsFirstBadMark (D.view disk.old).state.files height }
         ensures bad_page { IsTrue D.tells → (number : ℕ) → IsErrOf result (OpenError.BadPage number) → IsFirstBadPage (D.view disk.old).state.files number }
-        ensures bad_keeps { IsTrue D.tells → IsBadFile result → LeavesOnly (D.view disk.old) (D.view disk.new) (IsImageNow (D.view disk.old).state) }
+        ensures bad_keeps { IsTrue D.tells → IsErrAnd result IsBadFile → LeavesOnly (D.view disk.old) (D.view disk.new) (IsImageNow (D.view disk.old).state) }
         ensures opens { IsTrue D.tells → OnOk result (Opens (D.view disk.old).state.files) }
-        ensures bad_reads { IsTrue D.tells → IsBadFile result → (D.view disk.new).state.files ≡ (D.view disk.old).state.files }
+        ensures bad_reads { IsTrue D.tells → IsErrAnd result IsBadFile → (D.view disk.new).state.files ≡ (D.view disk.old).state.files }
         ensures needed { IsTrue D.tells → IfOk result (λ manager. (q : Name) → is_needed manager.store.heights q ≡ true → (D.view disk.new).state.files q ≡ (D.view disk.old).state.files q) }
         ensures marks { IsTrue D.tells → (n : ℕ) → (D.view disk.new).state.files (name.Mark n) ≡ (D.view disk.old).state.files (name.Mark n) }
         ensures pages { IsTrue D.tells → IfOk result (λ manager. (n : ℕ) → is_some ((D.view disk.new).state.files (name.Page n)) ≡ is_named manager.store.heights n) }
@@ -85,7 +85,7 @@ impl Manager {
             ReadsAtMost (D.view disk.old).state.files manager.store ((D.view disk.old).bytes_read + newest_bytes manager.store.heights) (D.view disk.new).bytes_read) }
         ensures bad_mark_reads { IsTrue D.tells → (heights : List ℕ) → IsListing kind.Mark (D.view disk.old).state.files heights → (height : ℕ) → IsErrOf result (OpenError.BadMark height)
             → (D.view disk.new).bytes_read ≤ (D.view disk.old).bytes_read + marks_bytes (D.view disk.old).state.files heights }
-        ensures cause { OpensByCause (D.faults disk.old) (D.faults disk.new) result }
+        ensures cause { FailsFor D.Disk disk_error IsBadFile disk.old disk.new result }
     {
         let store = HeightStore::open(alloc, disk)?;
         let live = begin(alloc, &store, disk)?;
@@ -150,12 +150,12 @@ impl Manager {
         alloc: Global,
         command: &Command,
         disk: &mut D,
-    ) -> Result<Reply, StoreError>
+    ) -> Result<Reply, DiskError>
         requires needs { needs_disk command.now ≡ true }
         requires numbers { self.old.store.given ≤ 2 ^ 60 }
         requires over { IsTrue D.tells → MatchesFiles self.old.store (D.view disk.old).state.files }
         ensures line { DoesLine D.tells self.old self.new (D.view disk.old) (D.view disk.new) result command.now }
-        ensures cause { StoreCause (D.faults disk.old) (D.faults disk.new) result }
+        ensures cause { Fails D.Disk disk.old disk.new result }
     {
         match command {
             Command::Read {
@@ -179,12 +179,12 @@ impl Manager {
         alloc: Global,
         command: &Command,
         disk: &mut D,
-    ) -> Result<Reply, StoreError>
+    ) -> Result<Reply, DiskError>
         requires fits { FitsForm command.now }
         requires numbers { self.old.store.given ≤ 2 ^ 60 }
         requires over { IsTrue D.tells → MatchesFiles self.old.store (D.view disk.old).state.files }
         ensures line { DoesLine D.tells self.old self.new (D.view disk.old) (D.view disk.new) result command.now }
-        ensures cause { StoreCause (D.faults disk.old) (D.faults disk.new) result }
+        ensures cause { Fails D.Disk disk.old disk.new result }
     {
         // Its contract says what the types of the command's fields hold.
         command.types();
@@ -223,7 +223,7 @@ impl Manager {
         ensures silent { result ≡ Err Stop.Closed → (self.new ≡ self.old) × (disk.new ≡ disk.old) }
         ensures closes { IfErr result (λ stop. self.old.stopped ≡ None → self.new.stopped ≡ Some stop) }
         ensures stays { OnOk result (self.new.stopped ≡ self.old.stopped) }
-        ensures cause { HasCause (D.faults disk.old) (D.faults disk.new) result }
+        ensures cause { FailsFor D.Disk stop_of (OnlyIf Stop.Closed (IsSome self.old.stopped)) disk.old disk.new result }
     {
         if self.stopped.is_some() {
             return Err(Stop::Closed);

@@ -1,8 +1,9 @@
 //! Why a manager answers no reply, or does not open.
 
 ghost use Rattle.std.specs.Prelude.{◌≡◌};
-ghost use Rattle.state_manager.specs.Causes.{open_error, stop_of};
+ghost use Rattle.state_manager.specs.Causes.{disk_error, open_error, stop_of};
 
+use disk_model::DiskError;
 use height_store::StoreError;
 use thiserror::Error;
 
@@ -20,13 +21,13 @@ pub enum Stop {
     Closed,
 }
 
-impl From<StoreError> for Stop {
+impl From<DiskError> for Stop {
     ghost from_gives = { λ e made. made ≡ stop_of e };
 
-    fn from(error: StoreError) -> Stop {
+    fn from(error: DiskError) -> Stop {
         match error {
-            StoreError::Fault => Stop::Disk,
-            _ => Stop::Memory,
+            DiskError::Fault => Stop::Disk,
+            DiskError::Memory => Stop::Memory,
         }
     }
 }
@@ -57,6 +58,17 @@ impl From<StoreError> for OpenError {
             StoreError::BadPage(number) => OpenError::BadPage(number),
             StoreError::Fault => OpenError::Fault,
             _ => OpenError::Memory,
+        }
+    }
+}
+
+impl From<DiskError> for OpenError {
+    ghost from_gives = { λ e made. made ≡ disk_error e };
+
+    fn from(error: DiskError) -> OpenError {
+        match error {
+            DiskError::Fault => OpenError::Fault,
+            DiskError::Memory => OpenError::Memory,
         }
     }
 }

@@ -1,6 +1,7 @@
 -- Numbers that are given to page files, and what stays of the others.
-use Rattle.std.proofs.Common.{◌≡◌, ℕ, zero, suc, length, take, map, sum_by, get_or, ◌+◌, ◌≤◌, ◌<◌, ◌==◌, Bool, true, false, ◌&&◌, ◌||◌, not, nat_eq, nat_lt, List, [], ◌∷◌, ◌++◌, is_some, inl, inr, refl, sym, ap, subst, ◌∙◌, arith}
+use Rattle.std.proofs.Common.{◌≡◌, ℕ, zero, suc, length, take, map, sum_by, get_or, ◌+◌, ◌≤◌, ◌<◌, ◌==◌, Bool, true, false, ◌&&◌, ◌||◌, not, nat_eq, nat_lt, List, [], ◌∷◌, ◌++◌, is_some, Some, None, Result, Ok, inl, inr, refl, sym, ap, subst, ◌∙◌, arith}
 use Rattle.std.specs.List.{list_any, AllByRecursion, AllZip}
+use Rattle.std.specs.Prelude.{IsOk}
 use Rattle.std.proofs.lemmas.Bool.{cases_Bool, false≢true, or_from}
 use Rattle.std.proofs.lemmas.Bool.Decides.{nat_tests}
 use Rattle.format_spec.specs.Bytes.{Bytes}
@@ -8,19 +9,21 @@ use Rattle.disk_model.specs.declared.name.Kind.TheVariants as kind
 use Rattle.disk_model.specs.declared.name.Name.{Name}
 use Rattle.disk_model.specs.declared.name.Name.TheVariants as name
 use Rattle.disk_model.specs.Files.{Files, IsListing, same_name}
-use Rattle.disk_model.specs.State.{IsSettled}
+use Rattle.disk_model.specs.declared.disk.Disk.{Ghosts}
+use Rattle.disk_model.specs.declared.disk.DiskError.{DiskError}
 use Rattle.disk_model.specs.View.{DiskView}
 use Rattle.disk_model.specs.Laws.{same_name_eq}
-use Rattle.disk_model.specs.Frame.{TouchesOnly, touches_then, touches_wider}
-use Rattle.disk_model.specs.Spending.{Spends, spends_none, spends_then}
+use Rattle.disk_model.specs.Frame.{TouchesOnly}
+use Rattle.disk_model.specs.Writing.{Writes, Wrote, write_then, write_wider}
 use Rattle.page_file.specs.Files.{NumberedFile, IsAsKnown, IsFinished}
 use Rattle.height_store.specs.Store.{Store, StoredHeight, IsNextFree, heights_in, is_used}
 use Rattle.height_store.specs.Kept.{IsReadable, HasRoom, HasMark, HasStacks}
 use Rattle.height_store.specs.Shown.{or_right, listing_apart}
-use Rattle.std.proofs.lemmas.List.{take_more, map_push}
-use Rattle.std.proofs.lemmas.List.Sums.{sum_by_push}
+use Rattle.height_store.specs.Written.{is_of}
+use Rattle.std.proofs.lemmas.List.{take_more, map_push, take-map}
+use Rattle.std.proofs.lemmas.List.Sums.{sum_by_push, sum_by-take-le}
 use Rattle.store_spec.specs.Whole.{file_bytes}
-use Rattle.whole_state.specs.Written.{GivesNumbers, IsWholeStack, is_given_since, AreFinished, AreUsed}
+use Rattle.whole_state.specs.Written.{GivesNumbers, IsWholeStack, is_given_for, is_given_since, AreFinished, AreUsed}
 use Rattle.format_spec.proofs.Lists.{all_push, all_weaker, none_or_some}
 
 -- ---- tests
@@ -96,9 +99,9 @@ gives_then most old mid new first second = record {
 }
 
 -- the next number
-pub touches_next : (old new : Store) (number : ℕ) (before after : DiskView) → IsNextFree old.named old.next number → new ≡ record old { given = old.given + 1; next = number + 1 } → TouchesOnly (same_name (name.Page number)) before after
-    → TouchesOnly (is_given_since old new) before after
-touches_next old new number before after free is touches = touches_wider (same_name (name.Page number)) (is_given_since old new) before after within touches
+pub next_written : {D T : Type 0} (disk : Ghosts D) (result : Result T DiskError) (count : ℕ) (old new : Store) (number : ℕ) (before after : D) → IsNextFree old.named old.next number → new ≡ record old { given = old.given + 1; next = number + 1 }
+    → Writes disk (same_name (name.Page number)) count before after result → Writes disk (is_given_since old new) count before after result
+next_written disk result count old new number before after free is writes = write_wider disk result (same_name (name.Page number)) (is_given_since old new) count before after within writes
   where
     used : is_used new number ≡ true
     used = or_right (list_any (nat_eq number) new.named) (nat_lt number new.next) (subst (λ (n : ℕ). nat_lt number n ≡ true) (sym (ap (λ (s : Store). s.next) is)) (lt_next number))
@@ -138,20 +141,20 @@ module _ (most : ℕ) (old new : Store) (f g : Files) (gives : GivesNumbers most
 
 -- ---- what a memory costs
 
-pub empty_spent : (memory : Bytes) (view : DiskView) → true ≡ (length memory == 0) → Spends (file_bytes memory) 0 view view
-empty_spent memory view is = rw (sym is) (spends_none view)
+pub empty_costs : (memory : Bytes) → true ≡ (length memory == 0) → 0 ≡ file_bytes memory
+empty_costs memory is = rw (sym is) refl
 
-pub some_spent : (memory : Bytes) (old new : DiskView) → false ≡ (length memory == 0) → Spends (32 + 12 + length memory) 0 old new → Spends (file_bytes memory) 0 old new
-some_spent memory old new is spends = rw (sym is) spends
+pub some_costs : (memory : Bytes) → false ≡ (length memory == 0) → 32 + 12 + length memory ≡ file_bytes memory
+some_costs memory is = rw (sym is) refl
+
+pub counted_as : {D T : Type 0} (disk : Ghosts D) (result : Result T DiskError) (given : Name → Bool) (a b : ℕ) (old new : D) → a ≡ b → Writes disk given a old new result → Writes disk given b old new result
+counted_as disk result given a b old new is writes = subst (λ n. Writes disk given n old new result) is writes
 
 -- ---- memories one after another
 
-pub record WritesSome (first store : Store) (memories : List Bytes) (stacks : List (List NumberedFile)) (old new : DiskView) : Type 0 where
+pub record WritesSome (store : Store) (memories : List Bytes) (stacks : List (List NumberedFile)) (new : DiskView) : Type 0 where
   pub room : HasRoom store new.state.files
   pub finished : AllZip (AreFinished new.state) memories stacks
-  pub touches : TouchesOnly (is_given_since first store) old new
-  pub settled : IsSettled old.state → IsSettled new.state
-  pub spends : Spends (sum_by file_bytes memories) 0 old new
 
 file_here : (mid store : Store) (bytes : Bytes) (old new : DiskView) → TouchesOnly (is_given_since mid store) old new → (file : NumberedFile) → is_used mid file.number ≡ true → IsFinished file bytes old.state → IsFinished file bytes new.state
 file_here mid store bytes old new touches file used done =
@@ -187,23 +190,24 @@ pub all_used : (most : ℕ) (old new : Store) (stacks : List (List NumberedFile)
 all_used most old new [] gives used = tt
 all_used most old new (stack ∷ stacks) gives used = (used_stays most old new stack gives used.0, all_used most old new stacks gives used.1)
 
-pub touches_both : (i : ℕ) (first mid store : Store) (old between new : DiskView) → GivesNumbers i first mid → GivesNumbers 1 mid store → TouchesOnly (is_given_since first mid) old between → TouchesOnly (is_given_since mid store) between new
-    → TouchesOnly (is_given_since first store) old new
-touches_both i first mid store old between new before gives touched touches =
-    touches_then (is_given_since first store) old between new
-    (touches_wider (is_given_since first mid) (is_given_since first store) old between (λ q. given_first 1 first mid store q gives) touched)
-    (touches_wider (is_given_since mid store) (is_given_since first store) between new (λ q. given_second i first mid store q before) touches)
+pub memory_written : {D T : Type 0} (disk : Ghosts D) (result : Result T DiskError) (i : ℕ) (first mid store : Store) (memories all : List Bytes) (bytes : Bytes) (old between new : D) → GivesNumbers i first mid → GivesNumbers 1 mid store → all ≡ memories ++ bytes ∷ []
+    → Wrote disk (is_given_since first mid) (sum_by file_bytes memories) old between → Writes disk (is_given_since mid store) (file_bytes bytes) between new result → Writes disk (is_given_since first store) (sum_by file_bytes all) old new result
+memory_written disk result i first mid store memories all bytes old between new before gives is so_far writes =
+    write_then disk (Ok tt) result (is_given_since first store) (sum_by file_bytes memories) (file_bytes bytes) (sum_by file_bytes all) old between new refl (sym (ap (sum_by file_bytes) is ∙ sum_by_push file_bytes memories bytes))
+    (write_wider disk (Ok tt) (is_given_since first mid) (is_given_since first store) (sum_by file_bytes memories) old between (λ q. given_first 1 first mid store q gives) so_far)
+    (write_wider disk result (is_given_since mid store) (is_given_since first store) (file_bytes bytes) between new (λ q. given_second i first mid store q before) writes)
+
+-- some of the memories cost no more than all
+pub fewer_cost : {V : Type 0} (bytes : V → Bytes) (ms : List V) (i : ℕ) → sum_by file_bytes (map bytes (take i ms)) ≤ sum_by file_bytes (map bytes ms)
+fewer_cost bytes ms i = omega (arith, sum_by-take-le file_bytes (map bytes ms) i, ap (sum_by file_bytes) (take-map bytes i ms))
 
 -- one memory more
-pub writes_more : (i : ℕ) (first mid store : Store) (memories : List Bytes) (bytes : Bytes) (stacks : List (List NumberedFile)) (stack : List NumberedFile) (old between new : DiskView)
-    → GivesNumbers i first mid → GivesNumbers 1 mid store → AllByRecursion (AreUsed mid) stacks → TouchesOnly (is_given_since mid store) between new → AreFinished new.state bytes stack → (IsSettled between.state → IsSettled new.state) → Spends (file_bytes bytes) 0 between new
-    → WritesSome first mid memories stacks old between → WritesSome first store (memories ++ bytes ∷ []) (stacks ++ stack ∷ []) old new
-writes_more i first mid store memories bytes stacks stack old between new before gives used touches done settled spends so_far = record {
+pub writes_more : (mid store : Store) (memories all : List Bytes) (bytes : Bytes) (stacks new_stacks : List (List NumberedFile)) (stack : List NumberedFile) (between new : DiskView)
+    → GivesNumbers 1 mid store → AllByRecursion (AreUsed mid) stacks → all ≡ memories ++ bytes ∷ [] → new_stacks ≡ stacks ++ stack ∷ [] → TouchesOnly (is_given_since mid store) between new → AreFinished new.state bytes stack
+    → WritesSome mid memories stacks between → WritesSome store all new_stacks new
+writes_more mid store memories all bytes stacks new_stacks stack between new gives used is pushed touches done so_far = record {
   room = room_kept 1 mid store between.state.files new.state.files gives touches.reads so_far.room;
-  finished = zip_push (AreFinished new.state) memories stacks bytes stack (stacks_stay mid store between new touches memories stacks used so_far.finished) done;
-  touches = touches_both i first mid store old between new before gives so_far.touches touches;
-  settled = λ was. settled (so_far.settled was);
-  spends = subst (λ (n : ℕ). Spends n 0 old new) (sym (sum_by_push file_bytes memories bytes)) (spends_then (sum_by file_bytes memories) (file_bytes bytes) 0 0 old between new so_far.spends spends);
+  finished = rw (is, pushed) (zip_push (AreFinished new.state) memories stacks bytes stack (stacks_stay mid store between new touches memories stacks used so_far.finished) done);
 }
 
 -- ---- one turn
@@ -229,6 +233,30 @@ whole_more taken all now stacks new stack is pushed so_far here = rw (is, pushed
 pub used_push : (old store : Store) (stacks new : List (List NumberedFile)) (stack : List NumberedFile) → new ≡ stacks ++ stack ∷ [] → GivesNumbers 1 old store → AllByRecursion (AreUsed old) stacks → AreUsed store stack → AllByRecursion (AreUsed store) new
 used_push old store stacks new stack pushed gives used here = rw pushed (all_push (AreUsed store) stacks stack (all_used 1 old store stacks gives used) here)
 
-pub written_more : (first store : Store) (taken all : List Bytes) (now : Bytes) (stacks new : List (List NumberedFile)) (stack : List NumberedFile) (old view : DiskView) → all ≡ taken ++ now ∷ [] → new ≡ stacks ++ stack ∷ []
-    → WritesSome first store (taken ++ now ∷ []) (stacks ++ stack ∷ []) old view → WritesSome first store all new old view
-written_more first store taken all now stacks new stack old view is pushed written = rw (is, pushed) written
+-- ---- the names that are given in all
+
+since_within : (old new : Store) (height : ℕ) (q : Name) → is_given_for old height q ≡ false → is_given_since old new q ≡ false
+since_within old new height (name.Page n) apart = elim (cases_Bool (is_used old n)) [
+  | inl used ↦ apart_used (is_used new n) (is_used old n) used
+  | inr unused ↦ absurd (false≢true (sym apart ∙ ap not unused))
+]
+since_within old new height (name.Mark n) apart = refl
+since_within old new height (name.Draft n) apart = refl
+since_within old new height (name.Stage n) apart = refl
+
+mark_within : (old : Store) (height : ℕ) (q : Name) → is_given_for old height q ≡ false → is_of height q ≡ false
+mark_within old height (name.Page n) apart = refl
+mark_within old height (name.Mark n) apart = apart
+mark_within old height (name.Draft n) apart = apart
+mark_within old height (name.Stage n) apart = apart
+
+-- the page files
+pub files_written : {D T : Type 0} (disk : Ghosts D) (result : Result T DiskError) (old mid : Store) (height count : ℕ) (before after : D) → Writes disk (is_given_since old mid) count before after result → Writes disk (is_given_for old height) count before after result
+files_written disk result old mid height count before after writes = write_wider disk result (is_given_since old mid) (is_given_for old height) count before after (since_within old mid height) writes
+
+-- and then the mark
+pub mark_written : {D S T : Type 0} (disk : Ghosts D) (files : Result S DiskError) (result : Result T DiskError) (old mid : Store) (height own a b count : ℕ) (v0 v1 v2 : D) → IsOk files → own ≡ height → a + b ≡ count
+    → Writes disk (is_given_since old mid) a v0 v1 files → Writes disk (is_of own) b v1 v2 result → Writes disk (is_given_for old height) count v0 v2 result
+mark_written disk files result old mid height own a b count v0 v1 v2 ok is sum first second =
+    write_then disk files result (is_given_for old height) a b count v0 v1 v2 ok sum (files_written disk files old mid height a v0 v1 first)
+    (write_wider disk result (is_of own) (is_given_for old height) b v1 v2 (λ q apart. ap (λ n. is_of n q) is ∙ mark_within old height q apart) second)

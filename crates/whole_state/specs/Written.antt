@@ -9,6 +9,7 @@ use Rattle.disk_model.specs.declared.name.Name.TheVariants as name
 use Rattle.disk_model.specs.State.{DiskState}
 use Rattle.page_file.specs.Files.{NumberedFile, IsFinished}
 use Rattle.height_store.specs.Store.{Store, is_used}
+use Rattle.height_store.specs.Written.{is_of}
 
 -- whole pages, and no more than a memory has
 pub record IsMemoryBytes (bytes : Bytes) : Type 0 where
@@ -57,3 +58,8 @@ is_given_since old new q = false
 -- no page file of these has a number that can still be given
 abbrev pub AreUsed : Store → List NumberedFile → Type 0
 AreUsed store stack = AllByRecursion (λ file. is_used store file.number ≡ true) stack
+
+-- the names that may be given to publish a state at a height: new page files, the draft and the mark
+abbrev pub is_given_for : Store → ℕ → Name → Bool
+is_given_for old height (name.Page n) = not (is_used old n)
+is_given_for old height q = is_of height q

@@ -6,17 +6,15 @@ ghost use Rattle.format_spec.specs.declared.limits.TheConstants.{PAGE_SIZE as pa
 ghost use Rattle.page_spec.specs.PageFile.{index_length};
 ghost use Rattle.disk_model.specs.declared.name.Name.TheVariants.{Page};
 ghost use Rattle.disk_model.specs.Files.{same_name};
-ghost use Rattle.disk_model.specs.State.{IsAbsent, IsLoose, IsSettled};
-ghost use Rattle.disk_model.specs.Frame.{TouchesOnly};
-ghost use Rattle.disk_model.specs.Spending.{Spends};
-ghost use Rattle.page_file.specs.Errors.{HasCause, NoBadPage};
+ghost use Rattle.disk_model.specs.State.{IsAbsent, IsLoose};
+ghost use Rattle.disk_model.specs.Writing.{Writes};
 ghost use Rattle.page_file.specs.Files.{IsWriting, IsFinished};
 ghost use Rattle.whole_state.specs.Written.{IsMemoryBytes, pages_in, whole_index, whole_file};
 
 use byte_codec::NoMemory;
-use disk_model::Disk;
+use disk_model::{Disk, DiskError};
 use format_spec::PAGE_SIZE;
-use page_file::{FileIndex, PageError, PageFile, PageWriter};
+use page_file::{FileIndex, PageFile, PageWriter};
 use std::alloc::Global;
 
 /// Writes the page file of this number with all pages of a memory, which has one at least. There is no file of this
@@ -26,18 +24,14 @@ pub(crate) fn write_whole<D: Disk>(
     disk: &mut D,
     number: u64,
     memory: &[u8],
-) -> Result<PageFile, PageError>
+) -> Result<PageFile, DiskError>
     requires some { 1 ≤ length memory.now }
     requires memory { IsMemoryBytes memory.now }
     requires absent { IsTrue D.tells → IsAbsent (D.view disk.old).state (Page number) }
 
     ensures file { IfOk result (λ file. file ≡ whole_file number (pages_in memory.now)) }
     ensures finished { IsTrue D.tells → IfOk result (λ file. IsFinished file memory.now (D.view disk.new).state) }
-    ensures spends { IsTrue D.tells → OnOk result (Spends (INDEX_HEAD + INDEX_RANGE + length memory.now) 0 (D.view disk.old) (D.view disk.new)) }
-    ensures touches { IsTrue D.tells → TouchesOnly (same_name (Page number)) (D.view disk.old) (D.view disk.new) }
-    ensures settled { IsTrue D.tells → OnOk result (IsSettled (D.view disk.old).state → IsSettled (D.view disk.new).state) }
-    ensures cause { HasCause (D.faults disk.old) (D.faults disk.new) result }
-    ensures no_bad_page { NoBadPage result }
+    ensures writes { Writes D.Disk (same_name (Page number)) (INDEX_HEAD + INDEX_RANGE + length memory.now) disk.old disk.new result }
 {
     let index = all_pages(alloc, (memory.len() / PAGE_SIZE) as u32)?;
     let mut writer = PageWriter::begin(alloc, disk, number, index)?;
@@ -64,7 +58,7 @@ fn add_pages<D: Disk>(
     disk: &mut D,
     writer: &mut PageWriter,
     memory: &[u8],
-) -> Result<(), PageError>
+) -> Result<(), DiskError>
     requires some { 1 ≤ length memory.now }
     requires room { length memory.now ≡ page_size * length writer.old.index.numbers }
     requires none { writer.old.added ≡ 0 }
@@ -73,11 +67,7 @@ fn add_pages<D: Disk>(
     ensures writer { OnOk result (writer.new ≡ record writer.old { added = length writer.old.index.numbers }) }
     ensures added { IsTrue D.tells → OnOk result (IsWriting writer.old [] (D.view disk.old).state → IsWriting writer.new memory.now (D.view disk.new).state) }
     ensures there { IsTrue D.tells → OnOk result (IsLoose (D.view disk.new).state (Page writer.old.number)) }
-    ensures spends { IsTrue D.tells → OnOk result (Spends (index_length writer.old.index + length memory.now) 0 (D.view disk.old) (D.view disk.new)) }
-    ensures touches { IsTrue D.tells → TouchesOnly (same_name (Page writer.old.number)) (D.view disk.old) (D.view disk.new) }
-    ensures settled { IsTrue D.tells → OnOk result (IsSettled (D.view disk.old).state → IsSettled (D.view disk.new).state) }
-    ensures cause { HasCause (D.faults disk.old) (D.faults disk.new) result }
-    ensures no_bad_page { NoBadPage result }
+    ensures writes { Writes D.Disk (same_name (Page writer.old.number)) (index_length writer.old.index + length memory.now) disk.old disk.new result }
 {
     let mut page = [0; PAGE_SIZE];
     for place in 0..memory.len() / PAGE_SIZE {

@@ -12,20 +12,18 @@ ghost use Rattle.sys_state.specs.System.{part_of};
 ghost use Rattle.manifest.specs.Fits.{FitMemories};
 ghost use Rattle.disk_model.specs.State.{IsSettled};
 ghost use Rattle.disk_model.specs.View.{LeavesOnly};
-ghost use Rattle.disk_model.specs.Frame.{TouchesOnly};
-ghost use Rattle.disk_model.specs.Spending.{Spends};
-ghost use Rattle.height_store.specs.Errors.{HasCause, NoBadFile, NoBadHeight};
+ghost use Rattle.disk_model.specs.Writing.{Writes};
 ghost use Rattle.height_store.specs.Kept.{IsReadable, IsWritable, HasRoom, KeepsHeights, StandsForEither};
 ghost use Rattle.height_store.specs.declared.limits.TheConstants.{MAX_GIVEN};
 ghost use Rattle.height_store.specs.Store.{StoredHeight, GivesFew};
 ghost use Rattle.whole_state.specs.Whole.{HasParts, whole};
-ghost use Rattle.whole_state.specs.Written.{IsMemoryBytes, IsWholeStack, AreFinished, AreUsed, GivesNumbers, is_given_since};
+ghost use Rattle.whole_state.specs.Written.{IsMemoryBytes, IsWholeStack, AreFinished, AreUsed, GivesNumbers, is_given_for, is_given_since};
 
 use crate::marking::mark_of;
 use crate::pages::write_whole;
-use disk_model::Disk;
+use disk_model::{Disk, DiskError};
 use hash_domain::Hash32;
-use height_store::{HeightStore, StoreError};
+use height_store::HeightStore;
 use layer_stack::Stack;
 use std::alloc::Global;
 use sys_state::SysState;
@@ -43,7 +41,7 @@ pub fn checkpoint<D: Disk>(
     height: u64,
     sys: &SysState,
     memories: &[Vec<u8>],
-) -> Result<Hash32, StoreError>
+) -> Result<Hash32, DiskError>
     requires from_one { 1 ≤ height }
     requires at_most { height ≤ MAX_HEIGHT }
     requires above { AllByRecursion (λ h. h.mark.height < height) store.old.heights }
@@ -66,12 +64,7 @@ pub fn checkpoint<D: Disk>(
         → HasParts s sys.now (map (λ memory. memory.items) memories.now)
         → IsSettled (D.view disk.old).state → KeepsHeights store.old.heights (D.view disk.old).state ps
         → LeavesOnly (D.view disk.old) (D.view disk.new) (StandsForEither ps (ps ++ whole height s ∷ [])) }
-    ensures spends { IsTrue D.tells
-        → OnOk result (Spends (whole_length (length (system_text (part_of sys.now))) (map (λ memory. memory.items) memories.now)) 0 (D.view disk.old) (D.view disk.new)) }
-    ensures settled { IsTrue D.tells → OnOk result (IsSettled (D.view disk.old).state → IsSettled (D.view disk.new).state) }
-    ensures cause { HasCause (D.faults disk.old) (D.faults disk.new) result }
-    ensures no_bad_file { NoBadFile result }
-    ensures no_bad_height { NoBadHeight result }
+    ensures writes { Writes D.Disk (is_given_for store.old height) (whole_length (length (system_text (part_of sys.now))) (map (λ memory. memory.items) memories.now)) disk.old disk.new result }
 {
     let system = sys.encode(alloc)?;
     let stacks = write_memories(alloc, store, disk, memories)?;
@@ -87,7 +80,7 @@ fn write_memories<D: Disk>(
     store: &mut HeightStore,
     disk: &mut D,
     memories: &[Vec<u8>],
-) -> Result<Vec<Stack>, StoreError>
+) -> Result<Vec<Stack>, DiskError>
     requires memories { AllByRecursion IsMemoryBytes (map (λ memory. memory.items) memories.now) }
     requires few { length memories.now ≤ MAX_GIVEN }
     requires numbers { store.old.given ≤ 2 ^ 60 }
@@ -97,12 +90,7 @@ fn write_memories<D: Disk>(
     ensures whole { IfOk result (λ stacks. AllZip IsWholeStack (map (λ memory. memory.items) memories.now) stacks.items) }
     ensures finished { IsTrue D.tells → IfOk result (λ stacks. AllZip (AreFinished (D.view disk.new).state) (map (λ memory. memory.items) memories.now) stacks.items) }
     ensures room { IsTrue D.tells → OnOk result (HasRoom store.new (D.view disk.new).state.files) }
-    ensures spends { IsTrue D.tells → OnOk result (Spends (sum_by file_bytes (map (λ memory. memory.items) memories.now)) 0 (D.view disk.old) (D.view disk.new)) }
-    ensures touches { IsTrue D.tells → TouchesOnly (is_given_since store.old store.new) (D.view disk.old) (D.view disk.new) }
-    ensures settled { IsTrue D.tells → OnOk result (IsSettled (D.view disk.old).state → IsSettled (D.view disk.new).state) }
-    ensures cause { HasCause (D.faults disk.old) (D.faults disk.new) result }
-    ensures no_bad_file { NoBadFile result }
-    ensures no_bad_height { NoBadHeight result }
+    ensures writes { Writes D.Disk (is_given_since store.old store.new) (sum_by file_bytes (map (λ memory. memory.items) memories.now)) disk.old disk.new result }
 {
     let mut stacks = Vec::with_capacity(alloc, memories.len())?;
     for memory in memories {
@@ -117,7 +105,7 @@ fn write_memory<D: Disk>(
     store: &mut HeightStore,
     disk: &mut D,
     memory: &[u8],
-) -> Result<Stack, StoreError>
+) -> Result<Stack, DiskError>
     requires memory { IsMemoryBytes memory.now }
     requires numbers { store.old.given < 2 ^ 61 }
     requires room { IsTrue D.tells → HasRoom store.old (D.view disk.old).state.files }
@@ -126,12 +114,7 @@ fn write_memory<D: Disk>(
     ensures whole { IfOk result (λ stack. IsWholeStack memory.now stack) }
     ensures used { IfOk result (λ stack. AreUsed store.new stack) }
     ensures finished { IsTrue D.tells → IfOk result (λ stack. AreFinished (D.view disk.new).state memory.now stack) }
-    ensures spends { IsTrue D.tells → OnOk result (Spends (file_bytes memory.now) 0 (D.view disk.old) (D.view disk.new)) }
-    ensures touches { IsTrue D.tells → TouchesOnly (is_given_since store.old store.new) (D.view disk.old) (D.view disk.new) }
-    ensures settled { IsTrue D.tells → OnOk result (IsSettled (D.view disk.old).state → IsSettled (D.view disk.new).state) }
-    ensures cause { HasCause (D.faults disk.old) (D.faults disk.new) result }
-    ensures no_bad_file { NoBadFile result }
-    ensures no_bad_height { NoBadHeight result }
+    ensures writes { Writes D.Disk (is_given_since store.old store.new) (file_bytes memory.now) disk.old disk.new result }
 {
     let mut stack = Stack::empty(alloc);
     if memory.is_empty() {

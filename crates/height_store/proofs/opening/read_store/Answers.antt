@@ -3,6 +3,9 @@ use Rattle.std.proofs.lemmas.List.{length-map}
 use Rattle.format_spec.specs.declared.limits.TheConstants.{MAX_PUBLISHED}
 use Rattle.std.specs.List.{list_any, AllByRecursion}
 use Rattle.std.specs.List.Sorted.{IsStrictlyIncreasing}
+use Rattle.std.proofs.lemmas.Result.{err_from_is_err_and}
+use Rattle.height_store.specs.Bad.{IsFirstBadPage}
+use Rattle.height_store.proofs.FilesFound.{page_handed_on, page_refused}
 use Rattle.std.proofs.Common.{subst, sym, ◌∙◌, ap}
 use Rattle.disk_model.specs.State.{DiskState}
 use Rattle.disk_model.specs.Looking.{looks_then}
@@ -33,6 +36,16 @@ pub returns-clause-only_looks : goal.returns-clause-only_looks
 returns-clause-only_looks g c = λ told.
     let second = c.open_pages.ensures.only_looks told in
     (_, looks_then _ second.0 _ _ _ (c.read_marks.ensures.reads told) second.1)
+
+pub returns-in_err-files-clause-bad_page : goal.returns-in_err-files-clause-bad_page
+returns-in_err-files-clause-bad_page g c = λ told number is.
+    let p = err_from_is_err_and c.from_residual-in_err-files.result c.from_residual-in_err-files.ensures.1 in
+    let err = page_handed_on _ c.from_residual-in_err-files.result p.0 c.in_err-files.field-0.0 number p.1 p.2 is in
+    subst (λ (s : DiskState). IsFirstBadPage s.files number) (c.in_ok-marks.ensures.looks told).state (c.in_err-files.ensures.bad_page told number err)
+
+pub returns-in_err-files-clause-cause : goal.returns-in_err-files-clause-cause
+returns-in_err-files-clause-cause g c =
+    page_refused g.D.Disk c.open_pages.result c.from_residual-in_err-files.result c.in_err-files.field-0.0 _ _ _ c.from_residual-in_err-files.ensures.1 c.in_err-files.was c.read_marks.ensures.cause.never_falls c.open_pages.ensures.cause
 
 pub heights_of-requires-clause-named : goal.heights_of-requires-clause-named
 heights_of-requires-clause-named g c = among_by _ _ _ _ c.deref-3.ensures.value c.deref.ensures.value c.in_ok-files.ensures.named

@@ -4,7 +4,7 @@ use Rattle.std.proofs.lemmas.Result.{err_from_is_err_and}
 use Rattle.disk_model.specs.State.{DiskState}
 use Rattle.disk_model.specs.Looking.{OnlyLooks, looks_then}
 use Rattle.page_file.specs.Files.{IsAsKnown}
-use Rattle.height_store.specs.declared.error.StoreError.TheVariants.{BadPage}
+use Rattle.page_file.specs.declared.error.PageError.TheVariants.{BadPage}
 use Rattle.height_store.specs.Bad.{IsGoodNaming}
 use Rattle.height_store.specs.Naming.{IsFirstBadNaming, index_bytes}
 use Rattle.height_store.proofs.MarksRead.{handed_on}

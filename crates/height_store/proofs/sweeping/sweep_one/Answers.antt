@@ -1,19 +1,14 @@
-use Rattle.std.proofs.Common.{refl}
-use Rattle.disk_model.specs.Call.{remove}
-use Rattle.disk_model.specs.Frame.{done_settles}
-use Rattle.height_store.proofs.Swept.{touches_one, appends_nothing}
+use Rattle.std.proofs.Common.{arith}
+use Rattle.disk_model.specs.Writing.{write_failed, write_done}
+use Rattle.height_store.proofs.Swept.{one_swept}
 use Rattle.height_store.proofs.sweeping.sweep_one.Goals as goal
 
-pub returns-in_err-remove-clause-touches : goal.returns-in_err-remove-clause-touches
-returns-in_err-remove-clause-touches g c = λ told.
-    touches_one c.args.kind c.args.number c.args.keep.now c.is_among.result c.name_in.result _ _ _ c.is_among.ensures c.if-not-is_among.true c.name_in.ensures (g.met.D.Disk.reads_as_image c.args.disk.now told) (c.remove.ensures.does told)
+pub returns-in_err-remove-clause-writes : goal.returns-in_err-remove-clause-writes
+returns-in_err-remove-clause-writes g c =
+    write_failed g.D.Disk c.remove.result _ _ _ 0 0 _ _ c.from_residual.ensures.1 c.in_err-remove.was (omega arith)
+    (one_swept g.D.Disk c.args.kind c.args.number c.args.keep.now c.is_among.result c.name_in.result _ _ _ c.is_among.ensures c.if-not-is_among.true c.name_in.ensures (g.met.D.Disk.reads_as_image c.args.disk.now) c.remove.ensures.does c.remove.ensures.cause)
 
-pub returns-in_ok-remove-clause-touches : goal.returns-in_ok-remove-clause-touches
-returns-in_ok-remove-clause-touches g c = λ told.
-    touches_one c.args.kind c.args.number c.args.keep.now c.is_among.result c.name_in.result _ _ _ c.is_among.ensures c.if-not-is_among.true c.name_in.ensures (g.met.D.Disk.reads_as_image c.args.disk.now told) (c.remove.ensures.does told)
-
-pub returns-in_ok-remove-clause-settled : goal.returns-in_ok-remove-clause-settled
-returns-in_ok-remove-clause-settled g c = λ told settled. done_settles (remove c.name_in.result) _ _ (c.in_ok-remove.ensures.does told) settled
-
-pub returns-in_err-remove-clause-appended : goal.returns-in_err-remove-clause-appended
-returns-in_err-remove-clause-appended g c = λ told. appends_nothing (remove c.name_in.result) c.remove.result _ _ refl (λ n. refl) (c.remove.ensures.does told)
+pub returns-in_ok-remove-clause-writes : goal.returns-in_ok-remove-clause-writes
+returns-in_ok-remove-clause-writes g c =
+    write_done g.D.Disk c.remove.result _ _ _ 0 _ _ c.in_ok-remove.was
+    (one_swept g.D.Disk c.args.kind c.args.number c.args.keep.now c.is_among.result c.name_in.result _ _ _ c.is_among.ensures c.if-not-is_among.true c.name_in.ensures (g.met.D.Disk.reads_as_image c.args.disk.now) c.remove.ensures.does c.remove.ensures.cause)

@@ -1,6 +1,7 @@
 use Rattle.std.proofs.Common.{ℕ, ◌∙◌, length, map, ap, sym, subst}
 use Rattle.std.specs.Result.{OnOk}
 use Rattle.disk_model.specs.Spending.{Spends}
+use Rattle.disk_model.specs.Writing.{writes_spend}
 use Rattle.state_spec.specs.State.{State}
 use Rattle.state_spec.specs.SystemText.{system_text}
 use Rattle.store_spec.specs.Whole.{whole_length}
@@ -24,13 +25,13 @@ returns-clause-publishes g c =
     record {
       root = λ k keeps. c.checkpoint.ensures.root k.1 (parts k keeps);
       stands = λ told ps k keeps settled heights.
-          on_ok_both _ _ c.checkpoint.result (on_ok_given _ _ c.checkpoint.result (c.checkpoint.ensures.settled told) settled)
+          on_ok_both _ _ c.checkpoint.result (on_ok_given _ _ c.checkpoint.result (c.checkpoint.ensures.writes.only told).settles settled)
           (rw (sym c.height.ensures.value) (c.checkpoint.ensures.stands told ps k.1 (parts k keeps) settled heights));
       images = λ told ps k keeps settled heights. rw (sym c.height.ensures.value) (c.checkpoint.ensures.images told ps k.1 (parts k keeps) settled heights);
       over = λ told. over_after c.checkpoint.result c.args.store.now c.checkpoint.new.store _ _ (c.requires.over told) (c.checkpoint.ensures.readable told) (c.checkpoint.ensures.writable told);
       spends = λ told k keeps.
           subst (λ (n : ℕ). OnOk c.checkpoint.result (Spends n 0 (g.D.Disk.view c.args.disk.now) (g.D.Disk.view c.checkpoint.new.disk)))
           (ap (λ (system : System). whole_length (length (system_text (part_of system))) (map (λ v. v.items) c.memories.result.now)) c.system.ensures
-          ∙ written_bytes c.args.state.now k keeps _ (sym c.memories.ensures.value)) (c.checkpoint.ensures.spends told);
+          ∙ written_bytes c.args.state.now k keeps _ (sym c.memories.ensures.value)) (writes_spend c.checkpoint.result _ _ _ _ (c.checkpoint.ensures.writes.only told));
       given = c.checkpoint.ensures.given;
     }

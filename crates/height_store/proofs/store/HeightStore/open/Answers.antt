@@ -35,7 +35,7 @@ returns-in_err-sweep_strays-clause-images g c = λ told each.
     let first = looks_leave_before looks.0 _ _ _ (looks_leave_before 0 _ _ _ (settle_leaves c.settle.result _ _ sound (c.settle.ensures.does told)) (c.list_all.ensures.looks told)) looks.1 in
     opened_images c.in_ok-store.store _ _ _ _ _ sound (c.in_ok-settle.ensures.does told).state (c.list_all.ensures.looks told) looks
     (c.in_ok-store.ensures.found told) c.in_ok-store.ensures.good c.in_ok-store.ensures.named first
-    (touches_named _ _ _ _ c.named.ensures.named (c.sweep_strays.ensures.touches told)) each
+    (touches_named _ _ _ _ c.named.ensures.named (c.sweep_strays.ensures.writes.only told).touches) each
 
 pub returns-clause-images : goal.returns-clause-images
 returns-clause-images g c = λ told each.
@@ -44,24 +44,24 @@ returns-clause-images g c = λ told each.
     let first = looks_leave_before looks.0 _ _ _ (looks_leave_before 0 _ _ _ (settle_leaves c.settle.result _ _ sound (c.settle.ensures.does told)) (c.list_all.ensures.looks told)) looks.1 in
     opened_images c.in_ok-store.store _ _ _ _ _ sound (c.in_ok-settle.ensures.does told).state (c.list_all.ensures.looks told) looks
     (c.in_ok-store.ensures.found told) c.in_ok-store.ensures.good c.in_ok-store.ensures.named first
-    (touches_named _ _ _ _ c.named.ensures.named (c.sweep_strays.ensures.touches told)) each
+    (touches_named _ _ _ _ c.named.ensures.named (c.sweep_strays.ensures.writes.only told).touches) each
 
 pub returns-clause-stands : goal.returns-clause-stands
 returns-clause-stands g c = λ told ps each stands.
     opened_stands c.in_ok-store.store (g.D.Disk.view c.args.disk.now) _ _ _ _ (g.met.D.Disk.reads_as_image c.args.disk.now told) (c.in_ok-settle.ensures.does told).state (c.list_all.ensures.looks told) (c.read_store.ensures.only_looks told)
     (c.in_ok-store.ensures.found told) c.in_ok-store.ensures.good c.in_ok-store.ensures.named
-    (touches_named _ _ _ _ c.named.ensures.named (c.sweep_strays.ensures.touches told)) ps each stands
+    (touches_named _ _ _ _ c.named.ensures.named (c.sweep_strays.ensures.writes.only told).touches) ps each stands
 
 pub returns-clause-over : goal.returns-clause-over
 returns-clause-over g c = λ told.
     opened_over c.in_ok-store.store (g.D.Disk.view c.list_all.new.disk).state.files _ _ (ap (λ (s : DiskState). s.files) (c.read_store.ensures.only_looks told).1.state) (c.in_ok-store.ensures.found told)
-    (touches_named _ _ _ _ c.named.ensures.named (c.sweep_strays.ensures.touches told))
+    (touches_named _ _ _ _ c.named.ensures.named (c.sweep_strays.ensures.writes.only told).touches)
     (gone_named _ _ (g.D.Disk.view c.sweep_strays.new.disk).state.files c.named.ensures.named (c.in_ok-sweep_strays.ensures.gone told))
 
 pub returns-clause-pages : goal.returns-clause-pages
 returns-clause-pages g c = λ told.
     opened_pages c.in_ok-store.store (g.D.Disk.view c.list_all.new.disk).state.files _ _ (ap (λ (s : DiskState). s.files) (c.read_store.ensures.only_looks told).1.state) (c.in_ok-store.ensures.found told)
-    (touches_named _ _ _ _ c.named.ensures.named (c.sweep_strays.ensures.touches told))
+    (touches_named _ _ _ _ c.named.ensures.named (c.sweep_strays.ensures.writes.only told).touches)
     (gone_named _ _ (g.D.Disk.view c.sweep_strays.new.disk).state.files c.named.ensures.named (c.in_ok-sweep_strays.ensures.gone told))
     c.in_ok-store.ensures.named
 

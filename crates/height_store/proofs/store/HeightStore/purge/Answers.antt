@@ -4,7 +4,7 @@ use Rattle.std.proofs.lemmas.Bool.Decides.{nat_tests}
 use Rattle.disk_model.specs.declared.name.Name.TheVariants as name
 use Rattle.disk_model.specs.Files.{same_name}
 use Rattle.disk_model.specs.Call.{remove}
-use Rattle.disk_model.specs.Frame.{touches_call, done_settles}
+use Rattle.disk_model.specs.Writing.{writes_call, writes_done, writes_failed}
 use Rattle.store_spec.specs.Image.{without_published}
 use Rattle.height_store.specs.Kept.{IsReadable, IsWritable, KeepsHeights}
 use Rattle.height_store.specs.Store.{Store, IsStore}
@@ -49,16 +49,15 @@ pub returns-clause-images : goal.returns-clause-images
 returns-clause-images g c = λ told ps settled keeps.
     removed_images c.remove.result _ _ c.args.self.now.heights ps c.args.height (g.met.D.Disk.reads_as_image c.args.disk.now told) settled keeps (c.remove.ensures.does told)
 
-pub returns-in_err-remove-clause-touches : goal.returns-in_err-remove-clause-touches
-returns-in_err-remove-clause-touches g c = λ told.
-    touches_call (remove (name.Mark c.args.height)) c.remove.result _ _ (same_name (name.Mark c.args.height)) (λ q apart. apart) (g.met.D.Disk.reads_as_image c.args.disk.now told) (c.remove.ensures.does told)
+pub returns-in_err-remove-clause-writes : goal.returns-in_err-remove-clause-writes
+returns-in_err-remove-clause-writes g c = λ told.
+    writes_failed c.remove.result _ _ 0 0 _ _ c.from_residual.ensures.0 (omega arith)
+    (writes_call (remove (name.Mark c.args.height)) c.remove.result _ _ (same_name (name.Mark c.args.height)) (λ q apart. apart) (g.met.D.Disk.reads_as_image c.args.disk.now told) (c.remove.ensures.does told))
 
-pub returns-clause-touches : goal.returns-clause-touches
-returns-clause-touches g c = λ told.
-    touches_call (remove (name.Mark c.args.height)) c.remove.result _ _ (same_name (name.Mark c.args.height)) (λ q apart. apart) (g.met.D.Disk.reads_as_image c.args.disk.now told) (c.remove.ensures.does told)
-
-pub returns-clause-settled : goal.returns-clause-settled
-returns-clause-settled g c = λ told settled. done_settles (remove (name.Mark c.args.height)) _ _ (c.in_ok-remove.ensures.does told) settled
+pub returns-clause-writes : goal.returns-clause-writes
+returns-clause-writes g c = λ told.
+    writes_done c.remove.result _ _ _ _ 0 _ _ c.in_ok-remove.was refl
+    (writes_call (remove (name.Mark c.args.height)) c.remove.result _ _ (same_name (name.Mark c.args.height)) (λ q apart. apart) (g.met.D.Disk.reads_as_image c.args.disk.now told) (c.remove.ensures.does told))
 
 pub invariant_of-self : goal.invariant_of-self
 invariant_of-self g c = subst IsStore (sym (lost _ c.args.self.now c.drop_height.new.heights.items c.args.height c.self.view_is c.drop_height.ensures))

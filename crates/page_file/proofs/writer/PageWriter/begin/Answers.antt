@@ -1,16 +1,16 @@
+use Rattle.std.proofs.Common.{arith}
 use Rattle.disk_model.specs.declared.name.Name.TheVariants.{Page}
 use Rattle.disk_model.specs.Files.{same_name}
 use Rattle.disk_model.specs.Call.{create}
-use Rattle.disk_model.specs.Frame.{touches_call, done_settles}
+use Rattle.disk_model.specs.Writing.{one_write, write_done, write_failed}
 use Rattle.page_file.proofs.writer.PageWriter.begin.Goals as goal
 
-pub returns-in_err-create-clause-touches : goal.returns-in_err-create-clause-touches
-returns-in_err-create-clause-touches g c = λ told.
-    touches_call (create (Page c.args.number)) _ _ _ (same_name (Page c.args.number)) (λ q apart. apart) (g.met.D.Disk.reads_as_image c.args.disk.now told) (c.create.ensures.does told)
+pub returns-in_err-create-clause-writes : goal.returns-in_err-create-clause-writes
+returns-in_err-create-clause-writes g c =
+    write_failed g.D.Disk c.create.result _ _ _ 0 0 _ _ c.from_residual-in_err-create.ensures.1 c.in_err-create.was (omega arith)
+    (one_write g.D.Disk (create (Page c.args.number)) _ (same_name (Page c.args.number)) _ _ (λ q apart. apart) (g.met.D.Disk.reads_as_image c.args.disk.now) c.create.ensures.does c.create.ensures.cause)
 
-pub returns-clause-touches : goal.returns-clause-touches
-returns-clause-touches g c = λ told.
-    touches_call (create (Page c.args.number)) _ _ _ (same_name (Page c.args.number)) (λ q apart. apart) (g.met.D.Disk.reads_as_image c.args.disk.now told) (c.create.ensures.does told)
-
-pub returns-clause-settled : goal.returns-clause-settled
-returns-clause-settled g c = λ told settled. done_settles (create (Page c.args.number)) _ _ (c.in_ok-create.ensures.does told) settled
+pub returns-clause-writes : goal.returns-clause-writes
+returns-clause-writes g c =
+    write_done g.D.Disk c.create.result _ _ _ 0 _ _ c.in_ok-create.was
+    (one_write g.D.Disk (create (Page c.args.number)) _ (same_name (Page c.args.number)) _ _ (λ q apart. apart) (g.met.D.Disk.reads_as_image c.args.disk.now) c.create.ensures.does c.create.ensures.cause)

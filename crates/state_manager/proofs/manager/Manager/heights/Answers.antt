@@ -9,5 +9,5 @@ use Rattle.state_manager.proofs.manager.Manager.heights.Goals as goal
 
 pub returns : goal.returns
 returns c =
-    subst (λ (h : ManagerView). (m : Machine) → KeepsStates h m → (replies.Heights c.height.result c.in_ok-heights_of.field-0 c.in_ok-published_heights.field-0 ≡ replies.Heights m.height (map (λ k. k.0) m.memory) (heights_of m.published)) × KeepsStates h m × (m.published ≡ m.published)) c.self.view_is
-    (λ m k. (cc (c.height.ensures.value ∙ k.live.height, c.in_ok-heights_of.ensures ∙ ap (map (λ a. a.height)) c.deref.ensures.value ∙ same_heights _ m.memory k.memory, c.in_ok-published_heights.ensures ∙ same_heights_in KnowsHeight knows_same _ m.published k.published), k, refl))
+    subst (λ (h : ManagerView). (m : Machine) → KeepsStates h m → (replies.Heights c.height.result c.in_ok-heights_of.field-0 c.new.result ≡ replies.Heights m.height (map (λ k. k.0) m.memory) (heights_of m.published)) × KeepsStates h m × (m.published ≡ m.published)) c.self.view_is
+    (λ m k. (cc (c.height.ensures.value ∙ k.live.height, c.in_ok-heights_of.ensures ∙ ap (map (λ a. a.height)) c.deref.ensures.value ∙ same_heights _ m.memory k.memory, c.new.ensures ∙ c.in_ok-heights.ensures ∙ same_heights_in KnowsHeight knows_same _ m.published k.published), k, refl))

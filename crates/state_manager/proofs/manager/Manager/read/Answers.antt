@@ -1,27 +1,28 @@
 use Rattle.std.proofs.Common.{◌∙◌, Ok, ap, refl}
 use Rattle.std.proofs.lemmas.Result.{IfOk-weaker}
 use Rattle.disk_model.specs.Looking.{looks_none}
-use Rattle.height_store.specs.Store.{height_at}
 use Rattle.script_text.specs.declared.command.Command.TheVariants as commands
 use Rattle.machine_spec.specs.LiveSteps.{read_reply}
 use Rattle.machine_spec.specs.Machine.{outcome_of}
-use Rattle.state_manager.specs.Kept.{ManagerView}
 use Rattle.state_manager.proofs.DiskLines.{failed_line, looks_line, shown_some, still_line}
 use Rattle.state_manager.proofs.Spending.{read_spends}
-use Rattle.state_manager.proofs.Standing.{asks_none, asks_there, at_none, at_some, published_none}
+use Rattle.state_manager.proofs.Standing.{asks_none, asks_there, at_none, at_some, published_none, stacks_there}
 use Rattle.state_manager.proofs.manager.Manager.read.Goals as goal
+
+pub read_published-requires : goal.read_published-requires
+read_published-requires g c = λ told. stacks_there _ c.args.self.now c.args.at c.in-Some.found.now c.in-Some.ensures (c.requires.over told).readable
 
 pub returns-in-Some-clause-line : goal.returns-in-Some-clause-line
 returns-in-Some-clause-line g c =
     looks_line g.D.Disk.tells c.args.self.now (g.D.Disk.view c.args.disk.now) _ c.read_published.result (commands.Read c.args.at c.args.id.now c.args.mem c.args.offset c.args.len) c.requires.over (λ told. (_, c.read_published.ensures.looks told))
     (λ told m k.
-    let p = shown_some c.args.self.now _ m (g.met.D.Disk.reads_as_image c.args.disk.now told) k c.args.at c.in-Some.height c.in-Some.ensures in
+    let p = shown_some c.args.self.now _ m (g.met.D.Disk.reads_as_image c.args.disk.now told) k c.args.at c.in-Some.found.now c.in-Some.ensures in
     read_spends m c.args.at p.published.state p.on_disk c.args.id.now c.args.mem c.args.offset c.args.len _ _ c.read_published.result (c.read_published.ensures.told told)
-    (c.read_published.ensures.reply told p.stored p.published (ap (λ (h : ManagerView). height_at h.store.heights c.in-Some.height) c.self.view_is ∙ p.found) p.related))
+    (c.read_published.ensures.reply told p.published p.related))
     (λ told m k.
-    let p = shown_some c.args.self.now _ m (g.met.D.Disk.reads_as_image c.args.disk.now told) k c.args.at c.in-Some.height c.in-Some.ensures in
+    let p = shown_some c.args.self.now _ m (g.met.D.Disk.reads_as_image c.args.disk.now told) k c.args.at c.in-Some.found.now c.in-Some.ensures in
     IfOk-weaker c.read_published.result _ _ (λ reply is. asks_there m c.args.at p.published.state p.state (λ s. outcome_of (read_reply s c.args.id.now c.args.mem c.args.offset c.args.len) m) reply is refl)
-    (c.read_published.ensures.reply told p.stored p.published (ap (λ (h : ManagerView). height_at h.store.heights c.in-Some.height) c.self.view_is ∙ p.found) p.related))
+    (c.read_published.ensures.reply told p.published p.related))
 
 pub returns-in_err-read-in-Some-state_at-clause-line : goal.returns-in_err-read-in-Some-state_at-clause-line
 returns-in_err-read-in-Some-state_at-clause-line g c =

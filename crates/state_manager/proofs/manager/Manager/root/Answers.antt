@@ -1,18 +1,16 @@
 use Rattle.std.proofs.Common.{refl, ap, ◌∙◌}
 use Rattle.state_spec.specs.Root.{root_of}
 use Rattle.format_spec.specs.Bytes.{Bytes}
-use Rattle.height_store.specs.Store.{height_at}
 use Rattle.script_text.specs.declared.reply.Reply.TheVariants as replies
 use Rattle.machine_spec.specs.Machine.{outcome_of}
-use Rattle.state_manager.specs.Kept.{ManagerView}
 use Rattle.state_manager.proofs.Standing.{at_some, knows_some, line_none, line_published, line_some}
 use Rattle.state_manager.proofs.manager.Manager.root.Goals as goal
 
 pub returns-in-Some : goal.returns-in-Some
 returns-in-Some c = λ m k.
-    let p = knows_some c.args.self.now m k c.args.at c.in-Some.height c.in-Some.ensures in
-    line_published c.args.self.now m k c.args.at c.in-Some.height c.in-Some.ensures (λ s. outcome_of (replies.Root (root_of s)) m) c.root_published.result (λ s. refl)
-    (c.root_published.ensures p.stored p.published (ap (λ (h : ManagerView). height_at h.store.heights c.in-Some.height) c.self.view_is ∙ p.found) p.related)
+    let p = knows_some c.args.self.now m k c.args.at c.in-Some.found.now c.in-Some.ensures in
+    line_published c.args.self.now m k c.args.at c.in-Some.found.now c.in-Some.ensures (λ s. outcome_of (replies.Root (root_of s)) m) c.root_published.result (λ s. refl)
+    (c.root_published.ensures p.published p.related)
 
 pub returns-in_ok-root-in-Some-state_at : goal.returns-in_ok-root-in-Some-state_at
 returns-in_ok-root-in-Some-state_at c = λ m k.

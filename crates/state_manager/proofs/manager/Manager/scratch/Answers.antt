@@ -3,18 +3,18 @@ use Rattle.disk_model.specs.Looking.{looks_none}
 use Rattle.disk_model.specs.Spending.{Spends, spends_looks}
 use Rattle.format_spec.specs.Bytes.{Bytes}
 use Rattle.state_spec.specs.Root.{root_of}
-use Rattle.height_store.specs.Store.{height_at}
-use Rattle.height_store.specs.Known.{bytes_at}
 use Rattle.height_store.specs.KnownLaws.{shown_known}
 use Rattle.script_text.specs.declared.command.Command.TheVariants as commands
 use Rattle.script_text.specs.declared.reply.Reply.TheVariants as replies
 use Rattle.machine_spec.specs.Machine.{outcome_of}
 use Rattle.store_spec.specs.Image.{opened_state}
-use Rattle.state_manager.specs.Kept.{ManagerView}
 use Rattle.state_manager.proofs.DiskLines.{failed_line, looks_line, shown_some, still_line}
 use Rattle.state_manager.proofs.Spending.{bytes_there}
-use Rattle.state_manager.proofs.Standing.{asks_none, asks_there, at_none, at_some, published_none}
+use Rattle.state_manager.proofs.Standing.{asks_none, asks_there, at_none, at_some, published_none, stacks_there}
 use Rattle.state_manager.proofs.manager.Manager.scratch.Goals as goal
+
+pub load-requires : goal.load-requires
+load-requires g c = λ told. stacks_there _ c.args.self.now c.args.at c.in-Some.found.now c.in-Some.ensures (c.requires.over told).readable
 
 pub returns-in_err-state-clause-line : goal.returns-in_err-state-clause-line
 returns-in_err-state-clause-line g c = failed_line g.D.Disk.tells c.args.self.now (g.D.Disk.view c.args.disk.now) _ c.from_residual.result (commands.Scratch c.args.at) c.from_residual.ensures.0 c.requires.over (λ told. (_, c.load.ensures.looks told))
@@ -26,12 +26,12 @@ pub returns-in-Some-clause-line : goal.returns-in-Some-clause-line
 returns-in-Some-clause-line g c =
     looks_line g.D.Disk.tells c.args.self.now (g.D.Disk.view c.args.disk.now) _ (Ok (replies.Scratch c.in_ok-root.field-0)) (commands.Scratch c.args.at) c.requires.over (λ told. (_, c.load.ensures.looks told))
     (λ told m k.
-    let most = ap (λ (h : ManagerView). bytes_at h.store.heights c.in-Some.height) c.self.view_is ∙ bytes_there c.args.self.now m k.states c.args.at c.in-Some.height c.in-Some.ensures in
+    let most = bytes_there c.args.self.now m k.states c.args.at c.in-Some.found.now c.in-Some.ensures in
     subst (λ (n : ℕ). Spends 0 n (g.D.Disk.view c.args.disk.now) (g.D.Disk.view c.load.new.disk)) most (spends_looks _ _ _ (c.load.ensures.looks told)))
     (λ told m k.
-    let p = shown_some c.args.self.now _ m (g.met.D.Disk.reads_as_image c.args.disk.now told) k c.args.at c.in-Some.height c.in-Some.ensures in
-    let state = c.in_ok-state.ensures.state told p.stored p.published (ap (λ (h : ManagerView). height_at h.store.heights c.in-Some.height) c.self.view_is ∙ p.found) p.related in
-    let root = c.in_ok-root.ensures (p.published.height + 1, opened_state p.published) state ∙ (shown_known _ p.stored p.published p.related).same_root in
+    let p = shown_some c.args.self.now _ m (g.met.D.Disk.reads_as_image c.args.disk.now told) k c.args.at c.in-Some.found.now c.in-Some.ensures in
+    let state = c.in_ok-state.ensures.state told p.published p.related in
+    let root = c.in_ok-root.ensures (p.published.height + 1, opened_state p.published) state ∙ (shown_known _ c.in-Some.found.now p.published p.related).same_root in
     asks_there m c.args.at p.published.state p.state (λ s. outcome_of (replies.Scratch (root_of s)) m) (replies.Scratch c.in_ok-root.field-0) (ap (λ (r : Bytes). replies.Scratch r) root) refl)
 
 pub returns-in_err-root-in-Some-state_at-clause-line : goal.returns-in_err-root-in-Some-state_at-clause-line

@@ -1,19 +1,17 @@
 use Rattle.std.proofs.Common.{refl, ap, ◌∙◌}
 use Rattle.machine_spec.specs.HeightSteps.{tree_root}
 use Rattle.format_spec.specs.Bytes.{Bytes}
-use Rattle.height_store.specs.Store.{height_at}
 use Rattle.script_text.specs.declared.command.Command.TheVariants as commands
 use Rattle.script_text.specs.declared.reply.Reply.TheVariants as replies
 use Rattle.machine_spec.specs.Machine.{outcome_of}
-use Rattle.state_manager.specs.Kept.{ManagerView}
 use Rattle.state_manager.proofs.Standing.{at_some, knows_some, line_none, line_some, performs_published, with_tree}
 use Rattle.state_manager.proofs.manager.Manager.tree.Goals as goal
 
 pub returns-in-Some-clause-step : goal.returns-in-Some-clause-step
 returns-in-Some-clause-step c = λ m k.
-    let p = knows_some c.args.self.now m k c.args.at c.in-Some.height c.in-Some.ensures in
-    performs_published c.args.self.now m k c.args.at (commands.Tree c.args.at) (λ s. replies.Tree (tree_root s)) refl c.in-Some.height c.in-Some.ensures c.tree_published.result
-    (c.tree_published.ensures p.stored p.published (ap (λ (h : ManagerView). height_at h.store.heights c.in-Some.height) c.self.view_is ∙ p.found) p.related)
+    let p = knows_some c.args.self.now m k c.args.at c.in-Some.found.now c.in-Some.ensures in
+    performs_published c.args.self.now m k c.args.at (commands.Tree c.args.at) (λ s. replies.Tree (tree_root s)) refl c.in-Some.found.now c.in-Some.ensures c.tree_published.result
+    (c.tree_published.ensures p.published p.related)
 
 pub returns-in_ok-tree_root-in-Some-state_at-clause-step : goal.returns-in_ok-tree_root-in-Some-state_at-clause-step
 returns-in_ok-tree_root-in-Some-state_at-clause-step c = λ m k.

@@ -1,17 +1,16 @@
-use Rattle.std.proofs.Common.{◌≡◌, ◌≤◌, ◌*◌, Some, length, map, sum_by, take, IsTrue}
+use Rattle.std.proofs.Common.{◌≡◌, ◌≤◌, ◌*◌, length, map, sum_by, take, IsTrue}
 use Rattle.format_spec.specs.declared.limits.TheConstants.{PAGE_SIZE}
 use Rattle.disk_model.specs.Looking.{OnlyLooks}
 use Rattle.height_store.specs.Kept.{ShowsHeight}
-use Rattle.height_store.specs.Store.{StoredHeight, height_at}
 use Rattle.store_spec.specs.Image.{Published}
 use Rattle.state_spec.specs.State.{memory_bytes}
-use Rattle.height_store.proofs.reading.read_memories.Given as goal
+use Rattle.height_store.proofs.store.PublishedHeight.read_memories.Given as goal
 
 abbrev pub invariant-loop-file : goal.invariant-loop-file
 invariant-loop-file g l = record {
   sizes : map (λ memory. length memory.items) l.memories.items ≡ take l.file (map (λ count. count * PAGE_SIZE) l.pages.items);
   faults : g.D.Disk.faults l.initial.disk ≤ g.D.Disk.faults l.disk;
   looks : IsTrue g.D.Disk.tells → OnlyLooks (sum_by (λ count. count * PAGE_SIZE) (take l.file l.pages.items)) (g.D.Disk.view l.initial.disk) (g.D.Disk.view l.disk);
-  bytes : IsTrue g.D.Disk.tells → (h : StoredHeight) (p : Published) → height_at l.store.heights l.height ≡ Some h → ShowsHeight (g.D.Disk.view l.initial.disk).state.files h p
+  bytes : IsTrue g.D.Disk.tells → (p : Published) → ShowsHeight (g.D.Disk.view l.initial.disk).state.files l.self p
       → map (λ memory. memory.items) l.memories.items ≡ take l.file (memory_bytes p.state);
 }

@@ -1,5 +1,0 @@
-use Rattle.std.proofs.Common.{◌≡◌, map, take}
-use Rattle.height_store.proofs.knowing.sums_of.Given as goal
-
-abbrev pub invariant-loop-mem : goal.invariant-loop-mem
-invariant-loop-mem l = map (λ list. list.items) l.lists.items ≡ map (λ mem. mem.sums) (take l.mem-index l.mems)

@@ -1,6 +1,0 @@
-use Rattle.std.proofs.Common.{◌≡◌, take}
-use Rattle.sys_state.proofs.MemoryPages.{pages_in}
-use Rattle.height_store.proofs.pages.pages_of_memories.Given as goal
-
-abbrev pub invariant-loop-i : goal.invariant-loop-i
-invariant-loop-i l = l.pages.items ≡ pages_in (take l.i l.sys.canisters)
