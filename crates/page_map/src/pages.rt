@@ -13,11 +13,11 @@ ghost use Rattle.page_map.specs.Changes.{SameMaps, KeepsOthers};
 ghost use Rattle.page_map.specs.Calls.{ReadsFrom, SameShape, Overwrites, Stamps, Grows, Rebases, ReadAlike};
 ghost use Rattle.page_map.specs.Pieces.{pages_for_read, pages_for_write};
 
+use crate::PageMap;
 use crate::own::OwnPages;
 use crate::pieces::{pages_of_range, piece_of};
 use crate::reads::read_range;
 use crate::writes::{write_fork, write_page};
-use crate::PageMap;
 use byte_codec::NoMemory;
 use disk_model::{Disk, DiskError};
 use layer_stack::Stack;
