@@ -1,0 +1,10 @@
+pub mod Mapping
+pub mod Finding
+pub mod Ranges
+pub mod Slices
+pub mod Numbers
+pub mod Items
+pub mod Parts
+pub mod Room
+pub mod Kept
+pub mod Calls
