@@ -92,13 +92,13 @@ class Folder:
     """A folder with some published heights in it."""
 
     def __init__(self, path, published, rng):
-        self.path, self.rng, self.files, self.healthy = path, rng, {}, {}
+        self.path, self.rng, self.files, self.marks, self.healthy = path, rng, {}, {}, {}
         for kind in KINDS:
             os.makedirs(os.path.join(path, kind))
         for height, (state, _) in published.items():
             *memories, _ = files_of(state)
-            layers = [self.numbers_of(content) for _, content in memories]
-            put(path_of(path, "mark", height), mark(height, state, layers))
+            self.marks[height] = state, [self.numbers_of(content) for _, content in memories]
+            put(path_of(path, "mark", height), mark(height, *self.marks[height]))
         for kind in ["page", "draft", "stage"]:
             put(path_of(path, kind, 2**40 + rng.randrange(9)), b"stray")
             put(os.path.join(path, kind, "notes"), b"not a file of the store")
@@ -116,17 +116,22 @@ class Folder:
         return numbers
 
     def damage(self):
-        """Damages a file or two, and answers what a run has to say of them."""
+        """Damages a file or two or adds a mark too many, and answers what a run has to say of it."""
         bad = {"mark": set(), "page": set()}
         for _ in range(self.rng.choice([1, 1, 2])):
             kind = self.rng.choice(["mark", "page"])
-            numbers = list(self.files) if kind == "page" else numbers_in(self.path, "mark")
-            number = self.rng.choice(numbers or [0])
+            number = self.rng.choice(list(self.files if kind == "page" else self.marks) or [0])
             path = path_of(self.path, kind, number)
             if os.path.exists(path) and path not in self.healthy:
                 self.healthy[path] = got(path)
                 self.damaged_page_file(path, number) if kind == "page" else self.damaged_mark(path)
                 bad[kind].add(number)
+        if len(self.marks) == MAX_PUBLISHED and self.rng.random() < 0.5:
+            newest = max(self.marks)
+            path = path_of(self.path, "mark", newest + 1)
+            put(path, mark(newest + 1, *self.marks[newest]))
+            self.healthy[path] = None
+            bad["mark"].add(newest + 1)
         kind = "mark" if bad["mark"] else "page"
         return f"stopped: bad {kind} {min(bad[kind])}" if bad[kind] else None
 
@@ -145,7 +150,7 @@ class Folder:
 
     def restore(self):
         for path, text in self.healthy.items():
-            put(path, text)
+            os.remove(path) if text is None else put(path, text)
 
 
 def flipped(text, at, rng):
