@@ -513,7 +513,8 @@ class Machine:
         return f"heights live {self.height} memory {listed(self.memory)} published {listed(self.published)}"
 
     def do_root(self, height):
-        return f"root {root_of(self.state(height)).hex()}"
+        state = self.state(height)
+        return f"root {(self.published[height][1] if height in self.published else root_of(state)).hex()}"
 
     def do_scratch(self, height):
         return f"scratch {root_of(self.state(height)).hex()}"

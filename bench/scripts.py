@@ -124,13 +124,16 @@ class Script:
     def line_grow(self):
         name, memory = self.identifier(), self.memory()
         room = MAX_MEMORY_PAGES - self.size(name, memory) // PAGE
-        return f"grow {name} {memory} {self.rng.choice([0, 1, 1, 2, 3, 255, 256, 257, room + 1, room + 2, 2**52, 2**64 - 1])}"
+        many = [255, 256, 257] if self.chance(0.1) else [room + 1, room + 2, 2**52, 2**64 - 1]
+        return f"grow {name} {memory} {self.rng.choice([0, 1, 2, 3] if self.chance(0.6) else many)}"
 
     def line_write(self):
         name, memory = self.identifier(), self.memory()
         content = self.content(0, 1, 1, 2, 3, 8, 40, PAGE - 1, PAGE, PAGE + 1, 10000)
         end, limit = self.size(name, memory), PAGE * MAX_MEMORY_PAGES
-        offset = self.near(0, 0, PAGE, 2 * PAGE, 3 * PAGE, end, end, end - len(content), CHUNK, CHUNK - len(content))
+        offset = self.near(0, 0, PAGE, 2 * PAGE, 3 * PAGE, end, end, end - len(content))
+        if self.chance(0.04):
+            offset = self.near(CHUNK, CHUNK - len(content))
         if self.chance(0.1):
             offset = self.rng.choice([limit, limit + 1, limit - len(content) + 1, 2**63, 2**64 - 1])
         return f"write {name} {memory} {offset} {hexadecimal(content)}"
@@ -159,6 +162,9 @@ class Script:
             length = self.rng.choice([65535, 65536])
         end = self.size(name, memory)
         offset = self.near(0, PAGE, 2 * PAGE, end, end - length, end - length, CHUNK, CHUNK - length)
+        if self.chance(0.6):
+            length = min(length, end)
+            offset = self.rng.choice([0, end - length, self.rng.randrange(end - length + 1)])
         return f"read {self.live_or_height()} {name} {memory} {2**64 - 1 if self.chance(0.03) else offset} {length}"
 
     def line_round(self):
@@ -391,7 +397,7 @@ class Case:
         script = self.script()
         script.some(LIVE, 20)
         script.add("canister 00")
-        for length in [MAX_LINE, MAX_LINE - 1, MAX_LINE, self.rng.choice([MAX_LINE - 1, MAX_LINE + 1, 2 * MAX_LINE])]:
+        for length in [MAX_LINE, MAX_LINE - 1, MAX_LINE, self.rng.choice([MAX_LINE, MAX_LINE + 1, MAX_LINE + 1, 2 * MAX_LINE])]:
             start = self.rng.choice([b"#", b"write 00 heap 10 ", b"write 00 heap 0 ", b"put /a ", b"x"])
             script.add(start + b"0" * (length - len(start)))
             script.add("root live")
