@@ -21,12 +21,12 @@ use Rattle.live_state.proofs.Stepped.{alters_keeps}
 -- a canister that has more pages
 module _ (back : List (Bytes × CanisterRecord)) (id : Bytes) (mem : Mem) (more : ℕ) (c : CanisterRecord) where
   abbrev grown : List (Bytes × CanisterRecord) → List (Bytes × CanisterRecord)
-  grown front = front ++ (id, calls.extended mem more c) ∷ back
+  grown front = front ++ (id, calls.with_more_pages mem more c) ∷ back
 
   same_children : (front : List (Bytes × CanisterRecord)) → canister_children (parts (grown front)) ≡ canister_children (parts (front ++ (id, c) ∷ back))
   same_children [] = by mem
     where
-      by : (m : Mem) → canister_children (parts ((id, calls.extended m more c) ∷ back)) ≡ canister_children (parts ((id, c) ∷ back))
+      by : (m : Mem) → canister_children (parts ((id, calls.with_more_pages m more c) ∷ back)) ≡ canister_children (parts ((id, c) ∷ back))
       by Heap = refl
       by Stable = refl
   same_children (f ∷ front) = cc (same_children front)
@@ -35,7 +35,7 @@ module _ (back : List (Bytes × CanisterRecord)) (id : Bytes) (mem : Mem) (more 
   same_node [] children = ap (λ (below : Children). put_node (codes "canister") (λ before. below) children) (same_children [])
   same_node (f ∷ front) children = ap (λ (below : Children). put_node (codes "canister") (λ before. below) children) (same_children (f ∷ front))
 
-same_tree : (old new : System) (id : Bytes) (mem : Mem) (more : ℕ) → calls.Changes old new id (calls.extended mem more) → state_tree (part_of new) ≡ state_tree (part_of old)
+same_tree : (old new : System) (id : Bytes) (mem : Mem) (more : ℕ) → calls.Changes old new id (calls.with_more_pages mem more) → state_tree (part_of new) ≡ state_tree (part_of old)
 unfolding state_tree root_children
 same_tree old new id mem more h =
     let time : new.time ≡ old.time = ap (λ (s : System). s.time) h.now in
@@ -44,7 +44,7 @@ same_tree old new id mem more h =
 
 -- the tree that is kept stays the state's
 pub kept_grown : (why : Option SysError) (result : Result Reply NoMemory) (old new : System) (id : Bytes) (mem : Mem) (more : ℕ) (other rest : Type 0) (tree : Option HashTree)
-    → Alters why result (calls.Changes old new id (calls.extended mem more) × other) ((new ≡ old) × rest)
+    → Alters why result (calls.Changes old new id (calls.with_more_pages mem more) × other) ((new ≡ old) × rest)
     → IfSome tree (λ t. tree_view t ≡ state_tree (part_of old)) → IfSome tree (λ t. tree_view t ≡ state_tree (part_of new))
 kept_grown why result old new id mem more other rest tree alters kept =
     let same = alters_keeps why result _ _ (state_tree (part_of new) ≡ state_tree (part_of old)) alters (λ d. same_tree old new id mem more d.0) (λ s. ap (λ (x : System). state_tree (part_of x)) s.0) in

@@ -51,7 +51,7 @@ picked : (mem : Mem) (c : Canister) → pick mem c.heap.bytes c.stable.bytes ≡
 picked Heap c = refl
 picked Stable c = refl
 
-record_with : (mem : Mem) (c : Canister) (new : Memory) (more : ℕ) → pages_of new ≡ pages_of (memory_of c mem) + more → record_of (with_memory c mem new) ≡ calls.extended mem more (record_of c)
+record_with : (mem : Mem) (c : Canister) (new : Memory) (more : ℕ) → pages_of new ≡ pages_of (memory_of c mem) + more → record_of (with_memory c mem new) ≡ calls.with_more_pages mem more (record_of c)
 record_with Heap c new more h = ap (λ (n : ℕ). record (record_of c) { heap = n }) h
 record_with Stable c new more h = ap (λ (n : ℕ). record (record_of c) { stable = n }) h
 
@@ -89,13 +89,13 @@ module _ (old now : StateView) (m : Machine) (k : KeepsState old (live_of m)) (b
 
   -- a memory of a canister has changed
   kept_memory : (c : Canister) (new : Memory) (more : ℕ) (x : Bytes) → canister_in m.live id ≡ Some c → pages_of new ≡ pages_of (memory_of c mem) + more
-      → calls.Changes old.system now.system id (calls.extended mem more)
+      → calls.Changes old.system now.system id (calls.with_more_pages mem more)
       → now.memories ≡ set old.memories (index_of (place_of bytes_cmp id old.system.canisters) mem) x
       → (get_or old.memories (index_of (place_of bytes_cmp id old.system.canisters) mem) [] ≡ (memory_of c mem).bytes → x ≡ new.bytes)
       → KeepsState now (live_of (record m { live = with_canister m.live id (with_memory c mem new) }))
   kept_memory c new more x found pages done memories bytes =
       let n : ℕ = place_of bytes_cmp id old.system.canisters in
-      kept_change old now m k beside id (calls.extended mem more) c (with_memory c mem new) found (record_with mem c new more pages) done
+      kept_change old now m k beside id (calls.with_more_pages mem more) c (with_memory c mem new) found (record_with mem c new more pages) done
       (λ front back count all.
       let at : length (bytes_in front) ≡ 2 * n = length-in_turn heap_bytes stable_bytes front ∙ ap (λ (j : ℕ). 2 * j) count in
       let was : get_or old.memories (index_of n mem) [] ≡ (memory_of c mem).bytes = ap (λ (ms : List Bytes). get_or ms (index_of n mem) []) all ∙ pair_get (bytes_in front) (bytes_in back) c.heap.bytes c.stable.bytes [] n mem at ∙ picked mem c in
@@ -110,13 +110,13 @@ module _ (old now : StateView) (m : Machine) (k : KeepsState old (live_of m)) (b
 
   pub step_grow : (n : ℕ) (r : CanisterRecord) (x : Bytes) (result : Result Reply NoMemory) → calls.canister_in old.system id ≡ Some r
       → Alters (calls.extend_refusal old.system id mem n) result
-      (calls.Changes old.system now.system id (calls.extended mem n) × (now.memories ≡ set old.memories (index_of (place_of bytes_cmp id old.system.canisters) mem) x) × (x ≡ get_or old.memories (index_of (place_of bytes_cmp id old.system.canisters) mem) [] ++ zeros (n * PAGE_SIZE)))
+      (calls.Changes old.system now.system id (calls.with_more_pages mem n) × (now.memories ≡ set old.memories (index_of (place_of bytes_cmp id old.system.canisters) mem) x) × (x ≡ get_or old.memories (index_of (place_of bytes_cmp id old.system.canisters) mem) [] ++ zeros (n * PAGE_SIZE)))
       (Same old now)
       → AfterState result now (grow_step m id mem n)
   step_grow n r x result there h =
       let its = its_canister r there in
       let c : Canister = its.0 in
-      let done : Type 0 = calls.Changes old.system now.system id (calls.extended mem n) × (now.memories ≡ set old.memories (index_of (place_of bytes_cmp id old.system.canisters) mem) x) × (x ≡ get_or old.memories (index_of (place_of bytes_cmp id old.system.canisters) mem) [] ++ zeros (n * PAGE_SIZE)) in
+      let done : Type 0 = calls.Changes old.system now.system id (calls.with_more_pages mem n) × (now.memories ≡ set old.memories (index_of (place_of bytes_cmp id old.system.canisters) mem) x) × (x ≡ get_or old.memories (index_of (place_of bytes_cmp id old.system.canisters) mem) [] ++ zeros (n * PAGE_SIZE)) in
       let f = subst (λ (o : Option CanisterRecord). Alters (calls.pages_refusal old.system mem n o) result done (Same old now)) (there ∙ ap (λ (y : CanisterRecord). Some y) (sym its.2)) h in
       let g = subst (λ (p : ℕ). Alters (if nat_lt (memory_limit 1) (p + n) then Some errors.MemoryFull else if nat_lt (state_limit 1) (calls.all_pages_of old.system + n) then Some errors.StateFull else None) result done (Same old now)) (pages_alike mem c) f in
       let e = subst (λ (p : ℕ). Alters (if nat_lt (memory_limit 1) (pages_of (memory_of c mem) + n) then Some errors.MemoryFull else if nat_lt (state_limit 1) (p + n) then Some errors.StateFull else None) result done (Same old now)) all_pages g in
@@ -153,13 +153,13 @@ module _ (old now : StateView) (m : Machine) (k : KeepsState old (live_of m)) (b
 
   pub step_write : (at pages : ℕ) (w : Bytes) (r : CanisterRecord) (x : Bytes) (result : Result Reply NoMemory) → calls.canister_in old.system id ≡ Some r → pages ≡ calls.pages_of mem r → pages ≤ MAX_MEMORY_PAGES
       → Alters (write_refusal old.system id mem pages at (length w)) result
-      (calls.Changes old.system now.system id (calls.extended mem (pages_more pages at (length w))) × (now.memories ≡ set old.memories (index_of (place_of bytes_cmp id old.system.canisters) mem) x) × (x ≡ bytes_after_write (get_or old.memories (index_of (place_of bytes_cmp id old.system.canisters) mem) []) at w))
+      (calls.Changes old.system now.system id (calls.with_more_pages mem (pages_more pages at (length w))) × (now.memories ≡ set old.memories (index_of (place_of bytes_cmp id old.system.canisters) mem) x) × (x ≡ bytes_after_write (get_or old.memories (index_of (place_of bytes_cmp id old.system.canisters) mem) []) at w))
       (Same old now)
       → AfterState result now (write_step m id mem at w)
   step_write at pages w r x result there pages_is few h =
       let its = its_canister r there in
       let c : Canister = its.0 in
-      let done : Type 0 = calls.Changes old.system now.system id (calls.extended mem (pages_more pages at (length w))) × (now.memories ≡ set old.memories (index_of (place_of bytes_cmp id old.system.canisters) mem) x) × (x ≡ bytes_after_write (get_or old.memories (index_of (place_of bytes_cmp id old.system.canisters) mem) []) at w) in
+      let done : Type 0 = calls.Changes old.system now.system id (calls.with_more_pages mem (pages_more pages at (length w))) × (now.memories ≡ set old.memories (index_of (place_of bytes_cmp id old.system.canisters) mem) x) × (x ≡ bytes_after_write (get_or old.memories (index_of (place_of bytes_cmp id old.system.canisters) mem) []) at w) in
       let full : Bool = nat_lt (MAX_MEMORY_PAGES * PAGE_SIZE) (at + length w) in
       let more : Bool = nat_lt (state_limit m.live.version) (state_pages m.live + (pages_with (memory_of c mem) at (length w) - pages_of (memory_of c mem))) in
       let why = same_if full (Some errors.MemoryFull) (calls.extend_refusal old.system id mem (pages_more pages at (length w))) (if more then Some errors.StateFull else None) (only_state at (length w) pages r c there its.2 pages_is few) in
