@@ -11,7 +11,7 @@ use Rattle.state_manager.proofs.published.begin.Goals as goal
 
 pub load-requires : goal.load-requires
 load-requires g c = λ told.
-    stacks_found _ c.args.store.now.heights c.in-Some.found.now.mark.height c.in-Some.found.now (last_found c.args.store.now.heights c.in-Some.found.now c.in-Some.ensures.ascends c.in-Some.ensures.last) (c.requires told)
+    stacks_found _ c.args.store.now.heights c.in-Some.found.now.mark.height c.in-Some.found.now (last_found c.args.store.now.heights c.in-Some.found.now c.in-Some.ensures.ascends c.in-Some.ensures.last) (c.requires.readable told)
 
 pub returns-in-None-clause-state : goal.returns-in-None-clause-state
 returns-in-None-clause-state g c = λ told ps each.

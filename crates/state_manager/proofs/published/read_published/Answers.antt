@@ -9,9 +9,9 @@ use Rattle.height_store.specs.KnownLaws.{shown_known}
 use Rattle.state_manager.proofs.ReadHeights.{file_there, index_fits, pages_are, past, reads_no_canister, these}
 use Rattle.state_manager.proofs.published.read_published.Goals as goal
 
-pub returns-in_default-place-clause-reply : goal.returns-in_default-place-clause-reply
-returns-in_default-place-clause-reply g c = λ told p shows.
-    reads_no_canister c.args.found.now p (shown_known _ c.args.found.now p shows) c.args.id.now c.args.mem c.args.offset c.args.len c.sys-sys.result.now c.sys-sys.ensures.sys c.in_default-place.ensures.found
+pub returns-in_default-clause-reply : goal.returns-in_default-clause-reply
+returns-in_default-clause-reply g c = λ told p shows.
+    reads_no_canister c.args.found.now p (shown_known _ c.args.found.now p shows) c.args.id.now c.args.mem c.args.offset c.args.len c.sys-sys.result.now c.sys-sys.ensures.sys c.in_default.ensures.found
 
 pub returns-then-saturating_add-pages-clause-reply : goal.returns-then-saturating_add-pages-clause-reply
 returns-then-saturating_add-pages-clause-reply g c = λ told p shows.
