@@ -1,4 +1,4 @@
--- A field that was read with no rule, reading_by_rule by its rule.
+-- A field that was read with no rule, judged by its rule.
 use Rattle.std.proofs.Common.{◌≡◌, ℕ, ◌+◌, Bool, true, false, cond, drop, Option, Some, None, Ok, Err, refl, ap, ◌∙◌}
 use Rattle.format_spec.specs.Fields.{Cursor, Form, field, reading_by_rule, any}
 use Rattle.format_spec.proofs.Readings.{ok_is}

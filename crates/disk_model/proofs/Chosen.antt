@@ -16,7 +16,7 @@ use Rattle.disk_model.specs.Frame.{done_apart}
 
 -- ---- the possibility that a choice takes
 
--- f is outcome_chosen among these, of which there is one at least
+-- f is chosen among these, of which there is one at least
 abbrev IsPicked : Bool → Files → List Files → Type 0
 IsPicked happened f [] = ⊥
 IsPicked happened f (x ∷ xs) = f ≡ outcome_chosen happened (x ∷ xs)

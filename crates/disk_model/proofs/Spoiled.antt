@@ -1,4 +1,4 @@
--- Loose files spoiled_file one by one, and all at once.
+-- Loose files spoiled one by one, and all at once.
 use Rattle.std.proofs.Common.{◌≡◌, ℕ, Bool, true, false, ◌&&◌, List, [], ◌∷◌, Option, Some, None, is_some, unwrap_or, if◌then◌else◌, Vec, refl, inl, inr, sym, ◌∙◌, ap, subst}
 use Rattle.std.specs.Map.{keys_of}
 use Rattle.std.specs.List.{AllByRecursion}

@@ -64,7 +64,7 @@ module _ (first : Files) (es : List Event) (act : Act) where
   pub reads_after : (room later : List Event) (files : Files) → room ≡ es → later ≡ room ++ record { act = act; done = true } ∷ [] → files ≡ (done (call_of act) state).files → files ≡ (state_after (disk_of_files first) later).files
   reads_after room later files same is then = then ∙ sym (ap (λ es. (state_after (disk_of_files first) es).files) (pushed room later same is) ∙ ap (λ (s : DiskState). s.files) (state_push (disk_of_files first) es _))
 
-  -- and the bytes appended are count_after
+  -- and the bytes appended are counted
   pub total_after : (room later : List Event) (n : ℕ) → room ≡ es → later ≡ room ++ record { act = act; done = true } ∷ [] → n ≡ count_after 0 (appended_after (call_of act) (appended_of 0 es)) → n ≡ count_after 0 (appended_of 0 later)
   total_after room later n same is then = then ∙ sym (ap (λ es. count_after 0 (appended_of 0 es)) (pushed room later same is) ∙ ap (count_after 0) (appended_push 0 es _))
 

@@ -1,6 +1,6 @@
 -- Why calls fail that stand on a disk.
-use Rattle.std.specs.Prelude.{◌≡◌, ◌⊎◌, ℕ, ◌≤◌, Result, Ok, Err, IfErr, IsErrAnd, IsErrOf}
-use Rattle.std.proofs.Common.{◌∙◌, ap, arith, refl, sym, subst}
+use Rattle.std.specs.Prelude.{◌≡◌, ◌⊎◌, ℕ, ◌≤◌, Result, IfErr, IsErrOf}
+use Rattle.std.proofs.Common.{arith}
 use Rattle.disk_model.specs.declared.disk.Disk.{Ghosts}
 use Rattle.disk_model.specs.declared.disk.DiskError.{DiskError}
 use Rattle.disk_model.specs.declared.disk.DiskError.TheVariants.{Fault}
@@ -25,10 +25,6 @@ pub record FailsFor {D T E : Type 0} (disk : Ghosts D) (of_disk : DiskError → 
   pub fault : IsErrOf result (of_disk Fault) → Rose (disk.faults old) (disk.faults new)
   pub only : IfErr result (λ e. IsOfDisk of_disk e ⊎ Refuses e)
 
--- a call that refuses nothing
-abbrev pub Never : {E : Type 0} → E → Type 0
-Never e = ⊥
-
 -- a call that refuses with this error alone, where this holds
 abbrev pub OnlyIf : {E : Type 0} → E → Type 0 → E → Type 0
 OnlyIf refusal P e = (e ≡ refusal) × P
@@ -38,16 +34,3 @@ OnlyIf refusal P e = (e ≡ refusal) × P
 -- what failed since a later moment
 pub fails_later : {D T : Type 0} (disk : Ghosts D) (result : Result T DiskError) (old mid new : D) → disk.faults old ≤ disk.faults mid → Fails disk mid new result → Fails disk old new result
 fails_later disk result old mid new le fails = record { never_falls = omega (arith, fails.never_falls); fault = λ fault. omega (arith, fails.fault fault) }
-
-same_error : {T E : Type 0} (r : Result T E) (x e kind : E) → r ≡ Err x → x ≡ e → r ≡ Err kind → e ≡ kind
-same_error r x e kind was is err = let inside : x ≡ kind = cc in sym is ∙ inside
-
--- an error that is handed on
-pub refused_on : {D S T E : Type 0} (disk : Ghosts D) (of_disk : DiskError → E) (Refuses : E → Type 0) (old new : D) (result : Result S E) (failed : Result T E) (e : E) → IsErrAnd failed (λ x. x ≡ e) → result ≡ Err e
-    → FailsFor disk of_disk Refuses old new result → FailsFor disk of_disk Refuses old new failed
-refused_on disk of_disk Refuses old new result (Ok x) e is was fails = absurd is
-refused_on {E} disk of_disk Refuses old new result (Err x) e is was fails = record {
-  never_falls = fails.never_falls;
-  fault = λ fault. fails.fault (was ∙ ap (λ (d : E). Err d) (same_error (Err x) x e (of_disk Fault) refl is fault));
-  only = subst (λ d. IsOfDisk of_disk d ⊎ Refuses d) (sym is) (subst (λ r. IfErr r (λ d. IsOfDisk of_disk d ⊎ Refuses d)) was fails.only);
-}

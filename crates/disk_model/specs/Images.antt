@@ -12,7 +12,7 @@ abbrev pub spoiled_file : ℕ → List ℕ → Option (List ℕ)
 spoiled_file how bytes =
     if how == 0 then None else (if how == 1 then Some bytes else (if how == 2 then Some (take (length bytes / 2) bytes) else Some (replicate (length bytes) 255)))
 
--- what was chosen, spoiled_file where a file is loose
+-- what was chosen, spoiled where a file is loose
 abbrev pub spoiled_where : ℕ → (Name → Bool) → Files → Files → Files
 spoiled_where how loose reading chosen = λ q. if loose q && is_some (reading q) then spoiled_file how (unwrap_or (reading q) []) else chosen q
 

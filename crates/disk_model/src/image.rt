@@ -36,7 +36,8 @@ fn redo_chosen(
     event: &Event,
     happened: bool,
 ) -> Result<(), AllocError>
-    ensures { OnOk result ((q : Name) → files_in chosen.new.entries q ≡ chosen_after happened (call_of event.now.act) event.now.done (files_in reading.now.entries) (files_in chosen.old.entries) q) }
+    ensures { OnOk result ((q : Name) → files_in chosen.new.entries q ≡ chosen_after happened (call_of event.now.act) event.now.done
+        (files_in reading.now.entries) (files_in chosen.old.entries) q) }
 {
     match &event.act {
         Act::Settle => {

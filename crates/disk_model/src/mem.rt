@@ -44,7 +44,7 @@ impl MemDisk {
     ghost use Rattle.disk_model.specs.Mem.{mem_view, faults_of, fails_of, stop_of, fresh_view, is_to_fail, HasOrders, FollowsOrders};
     ghost use Rattle.disk_model.specs.Images.{image_of};
 
-    /// An empty disk, whose calls of these numbers fail, count_after from 0, and all from number `stop` on.
+    /// An empty disk, whose calls of these numbers fail, counted from 0, and all from number `stop` on.
     pub fn new(alloc: Global, fails: Vec<u64>, stop: Option<u64>) -> MemDisk
         ensures empty { mem_view result ≡ fresh_view (λ _. None) }
         ensures faults { faults_of result ≡ 0 }

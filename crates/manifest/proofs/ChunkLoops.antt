@@ -19,7 +19,8 @@ by_slot wanted before c = refl
 get_is : {X : Type 0} (xs : List X) (i : ℕ) (x : X) → i < length xs → x ≡ get_or xs i x → slice_get xs i ≡ Some x
 get_is {X = X} xs i x lt is = slice_get-get_or xs i x lt ∙ ap (λ (y : X). Some y) (sym is)
 
-module _ (wanted : List Slot) (i : ℕ) (rows : List ChunkRow) (start now : Cursor) (slot : Slot) (so_far : each (chunk_after wanted) (length wanted - i) rows now ≡ each (chunk_after wanted) (length wanted) [] start) (slots_are : map slot_of rows ≡ take i wanted) (more : i < length wanted) (here : slot ≡ get_or wanted i slot) where
+module _ (wanted : List Slot) (i : ℕ) (rows : List ChunkRow) (start now : Cursor) (slot : Slot) (so_far : each (chunk_after wanted) (length wanted - i) rows now ≡ each (chunk_after wanted) (length wanted) [] start)
+    (slots_are : map slot_of rows ≡ take i wanted) (more : i < length wanted) (here : slot ≡ get_or wanted i slot) where
   chunk_next : (r : Result (ChunkRow × Cursor) ℕ) → chunk_in (Some slot) now ≡ r → chunk_after wanted rows now ≡ r
   chunk_next r e =
       let count : length rows ≡ i = sym (length-map rows slot_of) ∙ ap length slots_are ∙ omega (arith, length-take i wanted) in

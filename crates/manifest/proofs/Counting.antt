@@ -24,7 +24,8 @@ use Rattle.manifest.specs.Counts.{counts_by, counts_in, sized_counts, rows_size,
 use Rattle.manifest.specs.Fits.{FitMemories}
 use Rattle.manifest.proofs.Growing.{length-sums_from}
 use Rattle.manifest.proofs.Memories.{named}
-use Rattle.manifest.proofs.States.{of_state, kept_parts}
+use Rattle.sys_state.proofs.OfState.{parts_of_state}
+use Rattle.manifest.proofs.States.{of_state}
 use Rattle.state_spec.proofs.RowSizes.{length-file_name, length-file_row_text, length-chunk_row_text, length-chunk_hashes}
 use Rattle.format_spec.proofs.Parts.{parts_length}
 
@@ -99,7 +100,19 @@ counted fs hashed =
     record {
       files_are = length-map fs file_row;
       chunks_are = rows_count 0 fs;
-      bytes_are = omega (arith, eight, four, four', length-append a (be32 (length rows)), length-append b (flat_map file_row_text rows), length-append c (be32 (length chunks)), length-append d (flat_map chunk_row_text chunks), files_text fs, all_text chunks (rows_hashed 0 fs hashed), rows_count 0 fs);
+      bytes_are = omega (
+        arith,
+        eight,
+        four,
+        four',
+        length-append a (be32 (length rows)),
+        length-append b (flat_map file_row_text rows),
+        length-append c (be32 (length chunks)),
+        length-append d (flat_map chunk_row_text chunks),
+        files_text fs,
+        all_text chunks (rows_hashed 0 fs hashed),
+        rows_count 0 fs,
+      );
     }
 
 -- ---- the files of a state
@@ -214,7 +227,7 @@ four_counts a b c d = record { files = a; chunks = b; pieces = c; bytes = d }
 pub by_state : (s : State) (sys : System) → s.version ≡ 1 → kept_of s ≡ sys → FitMemories (part_of sys) (memory_bytes s) → counts_by (part_of sys) ≡ counts_in (manifest_of s)
 by_state s sys one kept fit =
     let p = part_of sys in
-    let parts-are : system_of s ≡ p = sym (kept_parts s) ∙ ap part_of kept in
+    let parts-are : system_of s ≡ p = sym (parts_of_state s) ∙ ap part_of kept in
     let all = state_counted p s (system_text p) refl one parts-are fit in
     let m = manifest_of s in
     let chunks : ℕ = chunks_in (memories_in p) + part_count CHUNK_SIZE (length (system_text p)) in

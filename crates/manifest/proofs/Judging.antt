@@ -118,7 +118,8 @@ module _ (files : List FileRow) (chunks : List ChunkRow) (n at begin : ℕ) (jud
   count_is = length-map (range_with_len 0 k) (slot_at n row.size) ∙ length-range_with_len 0 k
 
   cut_here : (map slot_of (take k (drop begin chunks)) ≡ slots_of n row.size) × (map slot_of (drop k (drop begin chunks)) ≡ slots (suc n) (drop (n + 1) files)) × (k ≤ length (drop begin chunks))
-  cut_here = subst (λ (m : ℕ). (map slot_of (take m (drop begin chunks)) ≡ slots_of n row.size) × (map slot_of (drop m (drop begin chunks)) ≡ slots (suc n) (drop (n + 1) files)) × (m ≤ length (drop begin chunks))) count_is (cut_at (slots_of n row.size) (slots (suc n) (drop (n + 1) files)) (drop begin chunks) slots_are)
+  cut_here = subst (λ (m : ℕ). (map slot_of (take m (drop begin chunks)) ≡ slots_of n row.size) × (map slot_of (drop m (drop begin chunks)) ≡ slots (suc n) (drop (n + 1) files)) × (m ≤ length (drop begin chunks))) count_is
+      (cut_at (slots_of n row.size) (slots (suc n) (drop (n + 1) files)) (drop begin chunks) slots_are)
 
   -- the rows are there
   pub rows_room : begin + k ≤ length chunks

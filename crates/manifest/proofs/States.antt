@@ -9,8 +9,6 @@ use Rattle.state_spec.specs.SystemText.{system_text}
 use Rattle.state_spec.specs.Files.{system_name, memories_in}
 use Rattle.state_spec.proofs.FileSums.{manifest_by_sizes}
 use Rattle.state_spec.specs.Manifest.{Manifest, FileSums, sums_of, chunk_hashes, file_sums, file_row, manifest_from, manifest_of}
-use Rattle.sys_state.specs.declared.record.CanisterRecord.{CanisterRecord}
-use Rattle.sys_state.specs.System.{kept_of, part_of, record_of, part_of_record}
 use Rattle.manifest.specs.Fits.{FitSums, FitMemories}
 use Rattle.manifest.specs.Adding.{Adds, all_memory_sums}
 use Rattle.manifest.proofs.Growing.{added}
@@ -66,24 +64,6 @@ pub of_state : (s : State) (p : SystemPart) (memories : List Bytes) → FitMemor
 of_state s p memories fit one parts-are bytes-are =
     (λ i. manifest_from (sym one i) (file_sums (sym parts-are i) (map chunk_hashes (sym bytes-are i))))
     ∙ sym (manifest_by_sizes s (subst (λ (q : SystemPart). FitMemories q (memory_bytes s)) (sym parts-are) (subst (FitMemories p) (sym bytes-are) fit)))
-
-abbrev kept : Bytes × Canister → Bytes × CanisterRecord
-kept c = (c.0, record_of c.1)
-
-abbrev bare : Bytes × CanisterRecord → Bytes × CanisterPart
-bare c = (c.0, part_of_record c.1)
-
-abbrev parts_in : Bytes × Canister → Bytes × CanisterPart
-parts_in c = (c.0, State.part_of c.1)
-
--- what of the state is kept has its parts
-pub kept_parts : (s : State) → part_of (kept_of s) ≡ system_of s
-unfolding system_of
-kept_parts s = ap (λ (cs : List (Bytes × CanisterPart)). record { time = s.time; canisters = cs; entries = s.entries }) (go s.canisters)
-  where
-    go : (cs : List (Bytes × Canister)) → map bare (map kept cs) ≡ map parts_in cs
-    go [] = refl
-    go (c ∷ cs) = ap (λ (rest : List (Bytes × CanisterPart)). (c.0, State.part_of c.1) ∷ rest) (go cs)
 
 -- the hashes of all memories, one memory after another
 pub scratch_hashes : {V W : Type 0} (hashes : V → List Bytes) (bytes : W → Bytes) (sums : List V) (memories : List W) (i : ℕ) → length memories ≤ i

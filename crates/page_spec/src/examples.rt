@@ -18,7 +18,7 @@ pub fn stale_chunks()
     ensures written { stale (255 ∷ 256 ∷ []) 0 257 ≡ 0 ∷ 1 ∷ [] }
 {}
 
-/// Which layers are merged_pages, counted from 0, and what comes of it.
+/// Which layers are merged, counted from 0, and what comes of it.
 #[tactic(auto, unfolding(crate::specs::Computing::pages_compute))]
 pub fn merge_plans()
     ensures both { plan (180 ∷ 120 ∷ []) ≡ Some 0 }

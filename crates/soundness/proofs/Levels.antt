@@ -190,7 +190,7 @@ none_behind l (labeled k b) us a h e =
 none_behind l (leaf b) us a h e = e
 none_behind l (pruned x) us a h e = e
 
--- two entries with l bytes_below-trans them
+-- two entries with l between them
 between_none : (l : Bytes) (u v : Tree) (us : List Tree) → Ascends (u ∷ v ∷ us) → is_below (label_of u) l ≡ true → is_above (label_of v) l ≡ true → below_label l (u ∷ v ∷ us) ≡ None
 between_none l empty v us a p q = absurd cc
 between_none l (fork c d) v us a p q = absurd cc

@@ -1,4 +1,4 @@
--- The strings that are hashed_strings for the root of a state of bytes are byte strings.
+-- The strings that are hashed for the root of a state of bytes are byte strings.
 use Rattle.std.proofs.Common.{◌≡◌, ℕ, suc, ◌+◌, ◌/◌, ◌%◌, ◌<◌, ◌&&◌, true, List, [], ◌∷◌, ◌++◌, length, map, codes, Option, Some, None, IfSome, refl, arith, nat_lt, nat_le}
 use Rattle.std.specs.List.{list_all, AllByRecursion, flat_map, enumerate_from}
 use Rattle.std.specs.Prelude.{slice_index}
@@ -150,7 +150,8 @@ manifest_bytes v fs h =
     let z : Bytes = y ++ flat_map file_row_text rows in
     let w : Bytes = z ++ be32 (length chunks) in
     join_bytes w (flat_map chunk_row_text chunks)
-    (join_bytes z (be32 (length chunks)) (join_bytes y (flat_map file_row_text rows) (join_bytes x (be32 (length rows)) (join_bytes (codes "ICMF") (be32 v) (by_test (codes "ICMF") refl) (high_bytes 4 v)) (high_bytes 4 (length rows))) (flat_bytes file_row_text rows (file_rows_bytes fs h))) (high_bytes 4 (length chunks)))
+    (join_bytes z (be32 (length chunks)) (join_bytes y (flat_map file_row_text rows) (join_bytes x (be32 (length rows)) (join_bytes (codes "ICMF") (be32 v) (by_test (codes "ICMF") refl) (high_bytes 4 v)) (high_bytes 4 (length rows))) (flat_bytes file_row_text rows (file_rows_bytes fs h)))
+    (high_bytes 4 (length chunks)))
     (flat_bytes chunk_row_text chunks (chunk_rows_bytes 0 fs))
 
 -- ---- the strings

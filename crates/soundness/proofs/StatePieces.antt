@@ -97,7 +97,8 @@ text_length s h =
     let rows_number : length rows ≡ length (memory_rows cs) + 1 = ap (λ (x : List FileRow). length x) (rows_are s) ∙ length-append (memory_rows cs) (system_row s ∷ []) in
     let chunk_number : length chunks ≡ length (chunks_in fs) = sym (length-map chunks (λ (r : ChunkRow). r.sum.hash)) ∙ ap (λ (x : List Bytes). length x) (row_hashes 0 fs) ∙ length-map (chunks_in fs) chunk_hash in
     let chunk_text = chunks_text chunks (subst Are32 (sym (row_hashes 0 fs)) (chunks_32 (chunks_in fs))) in
-    step (length (manifest_text (manifest_of s))) (length (flat_map file_row_text rows)) (length (flat_map chunk_row_text chunks)) (length (flat_map file_row_text (memory_rows cs))) (length cs) (length chunks) (length (chunks_in fs)) (all_sizes rows) (all_sizes (memory_rows cs)) (length (system_text (system_of s))) (all_pages (map named cs)) (length fs) (length rows) (length (memory_rows cs)) (length (ids_of cs)) (length (map named cs))
+    step (length (manifest_text (manifest_of s))) (length (flat_map file_row_text rows)) (length (flat_map chunk_row_text chunks)) (length (flat_map file_row_text (memory_rows cs))) (length cs) (length chunks)
+    (length (chunks_in fs)) (all_sizes rows) (all_sizes (memory_rows cs)) (length (system_text (system_of s))) (all_pages (map named cs)) (length fs) (length rows) (length (memory_rows cs)) (length (ids_of cs)) (length (map named cs))
     all files_text (rows_text s.version cs h.system.canisters_fit) chunk_text chunk_number (chunks_bound fs) sizes sums h.system.pages_fit (system_size s.version (system_of s) h.system).1 row_number rows_number (row_count cs) ids_count named_count h.system.few_canisters
   where
     step : (w f c m n k j a b t p g r q i d : ℕ) → w ≡ 16 + f + c → f ≡ m + 47 → m ≤ 228 * n → c ≡ 48 * k → k ≡ j → j * 1048576 ≤ a + g * 1048576 → a ≡ b + t → b ≡ p * 4096 → p ≤ 262144 → t ≤ 67108864 → r ≡ g → r ≡ q + 1 → q ≡ 2 * i → i ≡ n → d ≡ n → d ≤ 1024 → (16 ≤ w) × (w ≤ 386160)

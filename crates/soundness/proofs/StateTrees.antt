@@ -18,7 +18,7 @@ use Rattle.soundness.proofs.Levels.{labels_in}
 use Rattle.tree_spec.proofs.Forks.{half_some}
 use Rattle.std.proofs.lemmas.Map.Lookups.{exact_bytes}
 
--- ---- root_children trees under forks
+-- ---- labelled trees under forks
 
 abbrev pub Child : Tree → Type 0
 Child empty = ⊥

@@ -26,7 +26,8 @@ root_as m = refl
 
 module _ (s : State) (m : MetaManifest) (ps : List Bytes) (root : root_of_meta m ≡ root_of s) (right : map piece_hash ps ≡ m.pieces) where
   pub manifest_or_meet : (joined ps ≡ manifest_text (manifest_of s)) ⊎ Meet (hashed_strings s) (root_string m.version m.pieces ∷ map piece_string ps)
-  manifest_or_meet = by (one_or_meet (root_string s.version (meta_of (manifest_of s)).pieces) (root_string m.version m.pieces) (hashed_strings s) (root_string m.version m.pieces ∷ map piece_string ps) (in_root s) (first_of_list (root_string m.version m.pieces) (map piece_string ps)) (sym (root_is s) ∙ sym root ∙ root_as m))
+  manifest_or_meet = by (one_or_meet (root_string s.version (meta_of (manifest_of s)).pieces) (root_string m.version m.pieces) (hashed_strings s)
+      (root_string m.version m.pieces ∷ map piece_string ps) (in_root s) (first_of_list (root_string m.version m.pieces) (map piece_string ps)) (sym (root_is s) ∙ sym root ∙ root_as m))
     where
       by_pieces : (pieces_in s ≡ ps) ⊎ Meet (map piece_string (pieces_in s)) (map piece_string ps) → (joined ps ≡ manifest_text (manifest_of s)) ⊎ Meet (hashed_strings s) (root_string m.version m.pieces ∷ map piece_string ps)
       by_pieces (inr c) = inr (meet_within (map piece_string (pieces_in s)) (map piece_string ps) (hashed_strings s) (root_string m.version m.pieces ∷ map piece_string ps) (in_pieces s) (λ x h. behind_first (root_string m.version m.pieces) (map piece_string ps) x h) c)

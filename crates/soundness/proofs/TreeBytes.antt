@@ -1,4 +1,4 @@
--- The strings that are hashed_strings for a tree from bytes, and for the tree of a state of bytes, are byte strings.
+-- The strings that are hashed for a tree from bytes, and for the tree of a state of bytes, are byte strings.
 use Rattle.std.proofs.Common.{◌≡◌, ◌⊎◌, ℕ, zero, suc, ◌+◌, ◌/◌, ◌%◌, Bool, true, false, cond, List, [], ◌∷◌, ◌++◌, map, length, take, drop, fold, codes, Option, Some, None, refl, subst, inl, inr, arith, nat_lt, Ordering, Less, Equal, Greater}
 use Rattle.std.specs.List.{AllByRecursion}
 use Rattle.std.proofs.lemmas.Bool.{ltb-true}

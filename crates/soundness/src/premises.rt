@@ -17,7 +17,7 @@ pub fn cut_trees_may_disagree()
     ensures no_clash { Clash (hashed_strings only_b) (hashed_strings only_a) → ⊥ }
 {}
 
-/// With hashes of any length, a label takes a byte of the hash below it: two trees of one hash, with one string hashed_strings
+/// With hashes of any length, a label takes a byte of the hash below it: two trees of one hash, with one string hashed
 /// for both, have different labels. So hashes must have 32 bytes.
 pub fn short_hashes_move_labels()
     ensures one_hash { (l : Bytes) (b : ℕ) (h : Bytes)

@@ -1,11 +1,11 @@
--- Strings that are with_zeros_up_to by zeros and with_bytes_at from a place on.
+-- Strings that are extended by zeros and overwritten from a place on.
 use Rattle.std.proofs.Common.{◌≡◌, ◌⊎◌, ℕ, ◌+◌, ◌-◌, ◌<◌, ◌≤◌, min, max, [], ◌++◌, length, take, drop, get_or, refl, sym, ap, ◌∙◌, inl, inr, arith, length-append, length-take, length-drop, append_assoc, append-nil}
 use Rattle.std.proofs.lemmas.Bool.{cases_lt}
 use Rattle.std.proofs.lemmas.List.{length-replicate, take_at, drop_at, drop-drop, take-append-le, drop-append-le, get_or-take, get_or-drop, get_or_append_left, get_or-append_right, get_or-replicate, same_lists, replicate-append-replicate, take-append-drop, length-take-le}
 use Rattle.format_spec.specs.Bytes.{Bytes}
 use Rattle.state_spec.specs.Memory.{zeros, with_zeros_up_to, with_bytes_at}
 
--- ---- with_zeros_up_to
+-- ---- extended by zeros
 
 pub length_extended : (s : Bytes) (n : ℕ) → length (with_zeros_up_to s n) ≡ max (length s) n
 length_extended s n = omega (arith, length-append s (zeros (n - length s)), length-replicate {A = ℕ} (n - length s) 0)
@@ -29,7 +29,7 @@ pub extended_new : (s : Bytes) (n k d : ℕ) → length s ≤ k → k < n → ge
 extended_new s n k d h lt =
     get_or-append_right s (zeros (n - length s)) (length s) k d refl h ∙ get_or-replicate (n - length s) (k - length s) 0 d (omega (arith, h, lt))
 
--- ---- with_bytes_at
+-- ---- overwritten from a place on
 
 pub overwritten_none : (s : Bytes) (at : ℕ) → with_bytes_at s at [] ≡ s
 overwritten_none s at =
@@ -99,7 +99,7 @@ slice_at s b n k d h = get_or-take n (drop b s) k d h ∙ get_or-drop b s k d
 pub slice_length : (s : Bytes) (b n : ℕ) → b + n ≤ length s → length (take n (drop b s)) ≡ n
 slice_length s b n h = length-take-le n (drop b s) (omega (arith, h, length-drop b s))
 
--- a slice of what is with_zeros_up_to: as it was, or zeros
+-- a slice of what is extended: as it was, or zeros
 pub slice_old : (s : Bytes) (m b n : ℕ) → b + n ≤ length s → take n (drop b (with_zeros_up_to s m)) ≡ take n (drop b s)
 slice_old s m b n h =
     ap (take n) (drop-append-le b s (zeros (m - length s)) (omega (arith, h)))

@@ -37,12 +37,6 @@ module _ {A B : Type 0} (f g : A → B) where
     pub in_turn-remove : take (2 * n) (in_turn f g (xs ++ x ∷ ys)) ++ drop 2 (drop (2 * n) (in_turn f g (xs ++ x ∷ ys))) ≡ in_turn f g (xs ++ ys)
     in_turn-remove = (λ i. take-in_turn xs (x ∷ ys) n count i ++ drop 2 (drop-in_turn xs (x ∷ ys) n count i)) ∙ sym (in_turn-append xs ys)
 
-  -- one element more
-  pub in_turn-more : (xs : List A) (i : ℕ) (x : A) → slice_get xs i ≡ Some x → in_turn f g (take (i + 1) xs) ≡ in_turn f g (take i xs) ++ f x ∷ g x ∷ []
-  in_turn-more xs i x there =
-      ap (in_turn f g) (take_more xs i x (slice_get_within xs i x there) ∙ ap (λ (y : A). take i xs ++ y ∷ []) (get_or_from_slice_get xs i x x there))
-      ∙ in_turn-append (take i xs) (x ∷ [])
-
   pub map-in_turn : {C : Type 0} (h : B → C) (xs : List A) → map h (in_turn f g xs) ≡ in_turn (λ x. h (f x)) (λ x. h (g x)) xs
   map-in_turn h [] = refl
   map-in_turn h (x ∷ xs) = ap (λ ys. h (f x) ∷ h (g x) ∷ ys) (map-in_turn h xs)

@@ -41,7 +41,7 @@ pages_joined s even =
     mapped f [] = refl
     mapped f (x ∷ xs) = ap (λ (y : Bytes). f x ++ y) (mapped f xs)
 
--- a page of whole pages that are with_zeros_up_to by zeros: the page with_zeros_up_to by zeros
+-- a page of whole pages that are extended by zeros: the page extended by zeros
 pub padded : (s : Bytes) (n q : ℕ) → length s % PAGE_SIZE ≡ 0 → q * PAGE_SIZE + PAGE_SIZE ≤ length (with_zeros_up_to s n) → page_at (with_zeros_up_to s n) q ≡ with_zeros_up_to (page_at s q) PAGE_SIZE
 padded s n q even h = by (cases_lt (q * PAGE_SIZE) (length s))
   where

@@ -9,17 +9,12 @@ use Rattle.sync_spec.specs.Core as core
 use Rattle.sync_spec.specs.CoreLaws.{turns, sends, fails, delivers, items_missing}
 use Rattle.sync_spec.specs.Events.{Events, Asked, Given, came, nothing, failed, all_went_out, core_after_asks, core_after_ask}
 use Rattle.sync_spec.specs.Install.{bytes_had}
-use Rattle.sync_spec.specs.Sync.{Sync, Stage, at_meta, at_pieces, at_chunks, at_system, at_memories, Heights, outcome_with, late, peer_fault, content_bytes, known_at, is_right_at, is_for, sync_after_asks, outcome_of_look, outcome_of_message, outcome_of_answer, outcome_of_verdict, outcome_after_item, outcome_of_list, outcome_of_meta, outcome_of_manifest, outcome_of_chunks, outcome_of_turn, outcome_at, sync_step}
+use Rattle.sync_spec.specs.Sync.{Sync, Stage, at_meta, at_pieces, at_chunks, at_system, at_memories, Heights, outcome_with, late, peer_fault, content_bytes, known_at, is_right_at}
+use Rattle.sync_spec.specs.Sync.{is_for, sync_after_asks, outcome_of_look, outcome_of_message, outcome_of_answer, outcome_of_verdict, outcome_after_item, outcome_of_list, outcome_of_meta, outcome_of_manifest, outcome_of_chunks, outcome_of_turn, outcome_at, sync_step}
 use Rattle.sync_spec.specs.SyncLaws.{brings_right, given_brings, message_brings}
 use Rattle.sync_spec.proofs.Missing.{step, filter_all}
-use Rattle.std.proofs.lemmas.Option.{same_Some}
-
-none_some : {X : Type 0} (y : X) → None ≡ Some y → ⊥
-none_some y e = cc
-
-filter_same : {X : Type 0} (p q : X → Bool) → ((x : X) → p x ≡ q x) → (xs : List X) → filter p xs ≡ filter q xs
-filter_same p q h [] = refl
-filter_same {X} p q h (x ∷ xs) = ap (λ b. cond b (x ∷ filter p xs) (filter p xs)) (h x) ∙ ap (λ (ys : List X). cond (q x) (x ∷ ys) ys) (filter_same p q h xs)
+use Rattle.std.proofs.lemmas.List.Elements.{filter_agree}
+use Rattle.std.proofs.lemmas.Option.{none-some, same_Some}
 
 -- ---- asks leave what is missing
 
@@ -71,7 +66,7 @@ module _ (heights : Heights) (t : Sync) where
   after_rows s m n (w ∷ missing) k e h = chunks_not_pieces m n (sym k ∙ same_stage _ e ∙ h)
 
   after_pieces : (s : Sync) (n : MetaManifest) (r : Result Manifest ℕ) → (outcome_of_manifest heights s r).after ≡ Some t → t.stage ≡ at_pieces n → ⊥
-  after_pieces s n (Err place) e h = none_some t e
+  after_pieces s n (Err place) e h = none-some t e
   after_pieces s n (Ok m) e h = after_rows _ m n _ refl e h
 
   through : (stage : Stage) (s : Sync) → (outcome_of_list heights s stage).after ≡ Some t → t.stage ≡ stage → t.core ≡ s.core
@@ -93,12 +88,12 @@ module _ (heights : Heights) (t : Sync) where
   -- ---- one message
 
   brought_by : (c : Core) (peer : ℕ) (j : Item) (right : Bool) → items_missing (core_after_message c peer (Some j) right) ≡ filter (λ i. not (same_item i j && right)) (items_missing c)
-  brought_by c peer j true = sym (filter_all _) ∙ step c (delivers peer (Some j) true) (λ _. false) ∙ filter_same _ _ (λ i. or_and (same_item i j)) (items_missing c)
+  brought_by c peer j true = sym (filter_all _) ∙ step c (delivers peer (Some j) true) (λ _. false) ∙ filter_agree _ _ (λ i. or_and (same_item i j)) (items_missing c)
     where
       or_and : (b : Bool) → not (b || false) ≡ not (b && true)
       or_and true = refl
       or_and false = refl
-  brought_by c peer j false = sym (filter_all _) ∙ step c (delivers peer (Some j) false) (λ _. false) ∙ filter_same _ _ (λ i. or_and (same_item i j)) (items_missing c)
+  brought_by c peer j false = sym (filter_all _) ∙ step c (delivers peer (Some j) false) (λ _. false) ∙ filter_agree _ _ (λ i. or_and (same_item i j)) (items_missing c)
     where
       or_and : (b : Bool) → not (false || false) ≡ not (b && false)
       or_and true = refl
@@ -135,8 +130,8 @@ module _ (heights : Heights) (t : Sync) where
   at_stage at_meta s ev known k n e h = asked_turn s ev e h
   at_stage (at_pieces m) s ev known k n e h = asked_turn s ev e h
   at_stage (at_chunks m) s ev known k n e h = asked_turn s ev e h
-  at_stage (at_system m) s ev known k n e h = absurd (none_some known n)
-  at_stage (at_memories m state left) s ev known k n e h = absurd (none_some known n)
+  at_stage (at_system m) s ev known k n e h = absurd (none-some known n)
+  at_stage (at_memories m state left) s ev known k n e h = absurd (none-some known n)
 
 pub missing_until_right : (heights : Heights) (s t : Sync) (ev : Events) (known : Known) → known_at s.root s.stage ≡ Some known → (sync_step heights s ev).after ≡ Some t → t.stage ≡ s.stage → items_missing t.core ≡ filter (λ i. not (brings_right s ev i)) (items_missing s.core)
 unfolding sync_step

@@ -10,7 +10,8 @@ use Rattle.sync_spec.specs.Core.{Core, Wanted, Heard, verdict, core_after_messag
 use Rattle.sync_spec.specs.Core as core
 use Rattle.sync_spec.specs.Events.{Events, Given, came, nothing, failed, all_went_out}
 use Rattle.sync_spec.specs.Install.{memories_to_write, system_for, bytes_had}
-use Rattle.sync_spec.specs.Sync.{Sync, Stage, at_meta, at_pieces, at_chunks, at_system, at_memories, SyncOutcome, Heights, outcome_with, outcome_at_end, steps_left, outcome_at, sync_step, outcome_of_system, system_had, pieces_had, content_bytes, known_at, is_right_at, is_for, sync_after_asks, outcome_of_look, outcome_of_message, outcome_of_answer, outcome_of_verdict, outcome_after_item, outcome_of_list, outcome_of_meta, outcome_of_manifest, outcome_of_chunks, outcome_of_turn}
+use Rattle.sync_spec.specs.Sync.{Sync, Stage, at_meta, at_pieces, at_chunks, at_system, at_memories, SyncOutcome, Heights, outcome_with, outcome_at_end, steps_left, outcome_at, sync_step, outcome_of_system, system_had}
+use Rattle.sync_spec.specs.Sync.{pieces_had, content_bytes, known_at, is_right_at, is_for, sync_after_asks, outcome_of_look, outcome_of_message, outcome_of_answer, outcome_of_verdict, outcome_after_item, outcome_of_list, outcome_of_meta, outcome_of_manifest, outcome_of_chunks, outcome_of_turn}
 use Rattle.sync_spec.specs.Sync.{none_came, wrong, late, took, install_left, bad_manifest, bad_system, peer_fault, ready}
 use Rattle.sync_spec.specs.SyncLaws.{StepsDown, IsReady, ReadyIsTarget, IsAtStage}
 

@@ -7,7 +7,9 @@ use Rattle.std.proofs.lemmas.List.{length-map}
 use Rattle.std.proofs.lemmas.List.Sums.{sum_by-cons}
 use Rattle.format_spec.specs.declared.limits.TheConstants.{MAX_ASKS, MAX_STRIKES, MAX_PEERS}
 use Rattle.sync_spec.specs.Messages.{Item, meta, piece, chunk}
-use Rattle.sync_spec.specs.Core.{Core, Flight, Wanted, Heard, took, wrong, late, same_item, has_item, unasked_item, all_pieces, chunks_without, core_at_start, with_items, with_strike, is_old, without_ask, with_strike_for_ask, pardoned_strikes, core_after_turn, is_asked_of, asks_of, may_be_asked, peers_of, is_unasked, ask_for, next_ask, with_ask_now, core_after_send, core_after_failure, verdict_if, core_without_item, core_after_fault, core_after_verdict, core_after_message}
+use Rattle.sync_spec.specs.Core.{Core, Flight, Wanted, Heard, took, wrong, late, same_item, has_item, unasked_item, all_pieces, chunks_without, core_at_start, with_items, with_strike, is_old, without_ask}
+use Rattle.sync_spec.specs.Core.{with_strike_for_ask, pardoned_strikes, core_after_turn, is_asked_of, asks_of, may_be_asked, peers_of, is_unasked, ask_for}
+use Rattle.sync_spec.specs.Core.{next_ask, with_ask_now, core_after_send, core_after_failure, verdict_if, core_without_item, core_after_fault, core_after_verdict, core_after_message}
 use Rattle.sync_spec.specs.CoreLaws.{IsCore, Call, turns, sends, fails, delivers, core_after_call, IsDueCall}
 use Rattle.sync_spec.specs.Events.{Asked, core_after_ask, core_after_asks}
 use Rattle.format_spec.proofs.Lists.{all_filtered, all_weaker}
@@ -17,7 +19,7 @@ use Rattle.format_spec.proofs.Lists.{all_filtered, all_weaker}
 abbrev one_if : Bool → ℕ
 one_if b = cond b 1 0
 
-count_cons : {X : Type 0} (p : X → Bool) (x : X) (xs : List X) → count_by p (x ∷ xs) ≡ cond (p x) 1 0 + count_by p xs
+pub count_cons : {X : Type 0} (p : X → Bool) (x : X) (xs : List X) → count_by p (x ∷ xs) ≡ cond (p x) 1 0 + count_by p xs
 count_cons p x xs = sum_by-cons (λ y. cond (p y) 1 0) x xs
 
 count_map : {X Y : Type 0} (p : Y → Bool) (q : X → Bool) (f : X → Y) → ((x : X) → cond (p (f x)) 1 0 ≤ cond (q x) 1 0) → (xs : List X) → count_by p (map f xs) ≤ count_by q xs

@@ -5,7 +5,8 @@ use Rattle.state_spec.specs.State.{State, system_of, memory_bytes}
 use Rattle.state_spec.specs.Manifest.{Manifest, manifest_from, file_sums, manifest_of}
 use Rattle.sys_state.specs.System.{System, part_of, kept_of}
 use Rattle.manifest.specs.Fits.{FitSums}
-use Rattle.manifest.proofs.States.{fit_hashes, of_state, kept_parts, scratch_hashes}
+use Rattle.sys_state.proofs.OfState.{parts_of_state}
+use Rattle.manifest.proofs.States.{fit_hashes, of_state, scratch_hashes}
 use Rattle.manifest.proofs.making.from_scratch.Goals as goal
 
 abbrev hashes : Vec Bytes Global → List Bytes
@@ -38,4 +39,4 @@ returns-clause-kept c =
     IfOk-weaker c.from_sums.result
     (λ (m : Manifest). (s : State) → s.version ≡ 1 → system_of s ≡ part_of c.args.sys.now → memory_bytes s ≡ map bytes c.args.memories.now → m ≡ manifest_of s)
     (λ (m : Manifest). (s : State) → s.version ≡ 1 → kept_of s ≡ c.args.sys.now → memory_bytes s ≡ map bytes c.args.memories.now → m ≡ manifest_of s)
-    (λ m all s one kept. all s one (sym (kept_parts s) ∙ ap (λ (k : System). part_of k) kept)) (returns-clause-state c)
+    (λ m all s one kept. all s one (sym (parts_of_state s) ∙ ap (λ (k : System). part_of k) kept)) (returns-clause-state c)
