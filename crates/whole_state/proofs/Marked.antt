@@ -16,7 +16,8 @@ use Rattle.state_spec.specs.Root.{root_of, root_of_meta, meta_of}
 use Rattle.store_spec.specs.Mark.{Mark, MarkMemory, FitsMemory, IsMark}
 use Rattle.sys_state.specs.System.{System, part_of}
 use Rattle.manifest.specs.Fits.{FitMemories}
-use Rattle.manifest.proofs.States.{of_state, kept_parts}
+use Rattle.sys_state.proofs.OfState.{parts_of_state}
+use Rattle.manifest.proofs.States.{of_state}
 use Rattle.page_file.specs.Files.{NumberedFile}
 use Rattle.height_store.specs.Store.{numbers_of}
 use Rattle.whole_state.specs.Whole.{HasParts}
@@ -141,7 +142,7 @@ is_mark m s memories stacks version from_one at_most good text layers sums fit w
 pub root_is : (root : Bytes) (system : System) (memories : List Bytes) (s : State) → FitMemories (part_of system) memories → HasParts s system memories → root ≡ root_of_meta (meta_of (manifest_from 1 (file_sums (part_of system) (map chunk_hashes memories)))) → root ≡ root_of s
 unfolding root_of
 root_is root system memories s fit parts root_made =
-    let parts_are : system_of s ≡ part_of system = sym (kept_parts s) ∙ ap part_of parts.parts in
+    let parts_are : system_of s ≡ part_of system = sym (parts_of_state s) ∙ ap part_of parts.parts in
     root_made ∙ ap (λ (m : Manifest). root_of_meta (meta_of m)) (of_state s (part_of system) memories fit parts.version parts_are parts.bytes)
 
 pub counted : {V W : Type 0} (sums : List V) (memories : List W) (stacks : List (List NumberedFile)) (hashes : V → List Bytes) (bytes : W → Bytes) → map hashes sums ≡ map chunk_hashes (map bytes memories) → AllZip IsWholeStack (map bytes memories) stacks → length sums ≡ length stacks
