@@ -70,12 +70,7 @@ fn read_certified(alloc: Global, reader: &mut Reader) -> Result<Blob, FieldError
 }
 
 // A page count, behind so many pages of the canisters before and so many of the same one.
-fn read_pages(
-    reader: &mut Reader,
-    before: u32,
-    more: u32,
-    version: u32,
-) -> Result<u32, FieldError>
+fn read_pages(reader: &mut Reader, before: u32, more: u32, version: u32) -> Result<u32, FieldError>
     requires { before + more ≤ limit_of_state version }
     ensures small { IfOk result (λ n. before + more + n ≤ limit_of_state version) }
     ensures read { Gives (λ n. (n, reader.new)) result (field (number w32) (λ n. nat_le n (limit_of_memory version) && nat_le (before + more + n) (limit_of_state version)) reader.old) }
@@ -83,9 +78,9 @@ fn read_pages(
     let at = reader.at() as u64;
     let (most, most_in_all) = (memory_limit(version), state_limit(version));
     match reader.be32() {
-        Ok(pages)
-            if pages as usize <= most
-                && (before + more + pages) as usize <= most_in_all => { Ok(pages) }
+        Ok(pages) if pages as usize <= most && (before + more + pages) as usize <= most_in_all => {
+            Ok(pages)
+        }
         _ => Err(FieldError::Bad(at)),
     }
 }

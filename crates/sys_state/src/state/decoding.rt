@@ -40,12 +40,7 @@ impl SysState {
 
 // All fields of the text, and nothing behind them.
 #[tactic(auto, unfolding(state_spec::specs::SystemText::read_system, state_spec::specs::SystemText::system_fields, crate::specs::Reading::head))]
-fn read_state(
-    alloc: Global,
-    bytes: &[u8],
-    birth: u64,
-    version: u32,
-) -> Result<SysState, FieldError>
+fn read_state(alloc: Global, bytes: &[u8], birth: u64, version: u32) -> Result<SysState, FieldError>
     ensures read { fields.Gives part_of result (read_system version bytes.now) }
     ensures within { IfOk result (λ s. IsSystem version (part_of s)) }
     ensures births { IfOk result (λ s. AllByRecursion (λ c. c.1.birth ≡ birth) s.canisters) }
