@@ -19,10 +19,14 @@ pub const MAX_PIECES: usize = 128;
 pub const MAX_CANISTERS: usize = 1024;
 /// Bytes in the id of a canister.
 pub const MAX_ID: usize = 29;
-/// Pages in one memory.
-pub const MAX_MEMORY_PAGES: usize = 65_536;
-/// Pages in all memories of a state.
-pub const MAX_STATE_PAGES: usize = 262_144;
+/// Pages in one memory of a state of version 1.
+pub const FIRST_MEMORY_PAGES: usize = 65_536;
+/// Pages in all memories of a state of version 1.
+pub const FIRST_STATE_PAGES: usize = 262_144;
+/// Pages in one memory, whatever the version.
+pub const MAX_MEMORY_PAGES: usize = 131_072;
+/// Pages in all memories of a state, whatever the version.
+pub const MAX_STATE_PAGES: usize = 524_288;
 /// Bytes in a module.
 pub const MAX_MODULE: usize = 16_384;
 /// Bytes in certified data.

@@ -10,6 +10,8 @@ use Rattle.std.proofs.lemmas.Option.{slice_get-get_or, slice_get_within, get_or_
 use Rattle.std.proofs.lemmas.Slice.Zip.{AllZip-long}
 use Rattle.format_spec.specs.Bytes.{Bytes}
 use Rattle.format_spec.specs.declared.limits.TheConstants.{PAGE_SIZE, MAX_MEMORY_PAGES}
+use Rattle.format_spec.specs.Versions.{memory_limit}
+use Rattle.format_spec.proofs.StateLimits.{memory_limits}
 use Rattle.state_spec.specs.State.{SystemPart, CanisterPart, IsSystem, FitsCanister, memory_bytes}
 use Rattle.state_spec.specs.Files.{memories_in}
 use Rattle.sys_state.specs.System.{System, part_of}
@@ -78,19 +80,22 @@ memories_many files (stack ∷ stacks) (m ∷ ms) (l ∷ layers) fits there = ap
 abbrev named : List (Bytes × CanisterPart) → List (Bytes × ℕ)
 named cs = memories_in (record { time = 0; canisters = cs; entries = [] })
 
-each_fits : (cs : List (Bytes × CanisterPart)) → AllByRecursion (FitsCanister 1) cs → AllByRecursion (λ m. m.1 ≤ MAX_MEMORY_PAGES) (named cs)
-each_fits [] fits = tt
-each_fits (c ∷ cs) fits = (fits.0.heap, (fits.0.stable, each_fits cs fits.1))
+few_pages : (v n : ℕ) → n ≤ memory_limit v → n ≤ MAX_MEMORY_PAGES
+few_pages v n few = omega (arith, few, (memory_limits v).1)
+
+each_fits : (v : ℕ) (cs : List (Bytes × CanisterPart)) → AllByRecursion (FitsCanister v) cs → AllByRecursion (λ m. m.1 ≤ MAX_MEMORY_PAGES) (named cs)
+each_fits v [] fits = tt
+each_fits v (c ∷ cs) fits = (few_pages v c.1.heap fits.0.heap, (few_pages v c.1.stable fits.0.stable, each_fits v cs fits.1))
 
 twice_as_many : (cs : List (Bytes × CanisterPart)) → length (named cs) ≡ 2 * length cs
 twice_as_many [] = refl
 twice_as_many (c ∷ cs) = let rest = twice_as_many cs in omega (arith, rest)
 
-pub memory_fits : (s : SystemPart) (i : ℕ) (m : Bytes × ℕ) → IsSystem 1 s → slice_get (memories_in s) i ≡ Some m → m.1 ≤ MAX_MEMORY_PAGES
-memory_fits s i m good at =
+pub memory_fits : {v : ℕ} (s : SystemPart) (i : ℕ) (m : Bytes × ℕ) → IsSystem v s → slice_get (memories_in s) i ≡ Some m → m.1 ≤ MAX_MEMORY_PAGES
+memory_fits {v} s i m good at =
     let P : Bytes × ℕ → Type 0 = λ m. m.1 ≤ MAX_MEMORY_PAGES in
     subst P (get_or_from_slice_get (memories_in s) i m m at)
-    (All-get_or P (memories_in s) i m (slice_get_within (memories_in s) i m at) (All-from_recursion P (memories_in s) (each_fits s.canisters good.canisters_fit)))
+    (All-get_or P (memories_in s) i m (slice_get_within (memories_in s) i m at) (All-from_recursion P (memories_in s) (each_fits v s.canisters good.canisters_fit)))
 
 -- a range of a memory ends where a memory may
 pub range_fits : (h : StoredHeight) (file bytes : ℕ) → IsHeight h → IsSomeAnd (slice_get (memories_in (part_of h.system)) file) (λ m. bytes ≤ m.1 * PAGE_SIZE) → bytes ≤ MAX_MEMORY_PAGES * PAGE_SIZE
@@ -99,8 +104,7 @@ range_fits h file bytes good within = by (slice_get (memories_in (part_of h.syst
     by : (o : Option (Bytes × ℕ)) → slice_get (memories_in (part_of h.system)) file ≡ o → IsSomeAnd o (λ m. bytes ≤ m.1 * PAGE_SIZE) → bytes ≤ MAX_MEMORY_PAGES * PAGE_SIZE
     by None at within = absurd within
     by (Some m) at within =
-        let system = subst (λ (v : ℕ). IsSystem v (part_of h.system)) good.parts.mark.version good.parts.mark.system_good in
-        let most = memory_fits (part_of h.system) file m system at in
+        let most = memory_fits (part_of h.system) file m good.parts.mark.system_good at in
         omega (arith, within, most)
 
 -- the memory with so many pages
@@ -136,13 +140,13 @@ module _ (s : SystemPart) (pages : List ℕ) (i count : ℕ) (are : pages ≡ co
   pub count_here : (get_or (memories_in s) i d).1 ≡ count
   count_here = sym (get_or-map (λ m. m.1) (memories_in s) i d count within) ∙ ap (λ (l : List ℕ). get_or l i count) (sym are) ∙ sym here
 
-  pub count_fits : IsSystem 1 s → count ≤ MAX_MEMORY_PAGES
+  pub count_fits : {v : ℕ} → IsSystem v s → count ≤ MAX_MEMORY_PAGES
   count_fits good = subst (λ (n : ℕ). n ≤ MAX_MEMORY_PAGES) count_here (memory_fits s i (get_or (memories_in s) i d) good memory_here)
 
   pub is_there : IsSomeAnd (slice_get (memories_in s) i) (λ m. m.1 ≡ count)
   is_there = subst (λ (o : Option (Bytes × ℕ)). IsSomeAnd o (λ m. m.1 ≡ count)) (sym memory_here) count_here
 
-pub few_counts : (s : SystemPart) (pages : List ℕ) → IsSystem 1 s → pages ≡ counts s → length pages ≤ 2048
+pub few_counts : {v : ℕ} (s : SystemPart) (pages : List ℕ) → IsSystem v s → pages ≡ counts s → length pages ≤ 2048
 few_counts s pages good are = omega (arith, good.few_canisters, ap length are, length-map (memories_in s) (λ m. m.1), twice_as_many s.canisters)
 
 -- the bytes of the memory at a place of a height that files show

@@ -5,8 +5,9 @@ use Rattle.std.specs.Option.{option_map}
 use Rattle.std.specs.Prelude.{if◌then◌else◌}
 use Rattle.byte_codec.specs.declared.error.NoMemory.{NoMemory}
 use Rattle.format_spec.specs.Bytes.{Bytes, bytes_cmp}
-use Rattle.format_spec.specs.declared.limits.TheConstants.{PAGE_SIZE, MAX_MEMORY_PAGES}
-use Rattle.state_spec.specs.State.{State, Canister, Memory, SystemPart, bytes_in, heap_bytes, stable_bytes, pages_of, memory_limit, state_limit, all_pages as pages_in_all}
+use Rattle.format_spec.specs.declared.limits.TheConstants.{PAGE_SIZE}
+use Rattle.format_spec.specs.Versions.{memory_limit, state_limit}
+use Rattle.state_spec.specs.State.{State, Canister, Memory, SystemPart, bytes_in, heap_bytes, stable_bytes, pages_of, all_pages as pages_in_all}
 use Rattle.std.proofs.lemmas.List.{length-map}
 use Rattle.script_text.specs.declared.reply.Reply.TheVariants as replies
 use Rattle.state_spec.specs.Memory.{read, grow, write, zeros, pages_for}
@@ -109,7 +110,7 @@ module _ (old now : StateView) (m : Machine) (k : KeepsState old (live_of m)) (b
   all_pages = ap (λ (s : System). calls.all_pages_of s) k.system ∙ ap (λ (p : SystemPart). pages_in_all p.canisters) (parts_of_state m.live)
 
   pub step_grow : (n : ℕ) (r : CanisterRecord) (x : Bytes) (result : Result Reply NoMemory) → calls.canister_in old.system id ≡ Some r
-      → Alters (calls.extend_refusal old.system id mem n) result
+      → Alters (calls.extend_refusal 1 old.system id mem n) result
       (calls.Changes old.system now.system id (calls.with_more_pages mem n) × (now.memories ≡ set old.memories (index_of (place_of bytes_cmp id old.system.canisters) mem) x) × (x ≡ get_or old.memories (index_of (place_of bytes_cmp id old.system.canisters) mem) [] ++ zeros (n * PAGE_SIZE)))
       (Same old now)
       → AfterState result now (grow_step m id mem n)
@@ -117,19 +118,20 @@ module _ (old now : StateView) (m : Machine) (k : KeepsState old (live_of m)) (b
       let its = its_canister r there in
       let c : Canister = its.0 in
       let done : Type 0 = calls.Changes old.system now.system id (calls.with_more_pages mem n) × (now.memories ≡ set old.memories (index_of (place_of bytes_cmp id old.system.canisters) mem) x) × (x ≡ get_or old.memories (index_of (place_of bytes_cmp id old.system.canisters) mem) [] ++ zeros (n * PAGE_SIZE)) in
-      let f = subst (λ (o : Option CanisterRecord). Alters (calls.pages_refusal old.system mem n o) result done (Same old now)) (there ∙ ap (λ (y : CanisterRecord). Some y) (sym its.2)) h in
-      let g = subst (λ (p : ℕ). Alters (if nat_lt (memory_limit 1) (p + n) then Some errors.MemoryFull else if nat_lt (state_limit 1) (calls.all_pages_of old.system + n) then Some errors.StateFull else None) result done (Same old now)) (pages_alike mem c) f in
-      let e = subst (λ (p : ℕ). Alters (if nat_lt (memory_limit 1) (pages_of (memory_of c mem) + n) then Some errors.MemoryFull else if nat_lt (state_limit 1) (p + n) then Some errors.StateFull else None) result done (Same old now)) all_pages g in
+      let of_version = subst (λ (v : ℕ). Alters (calls.extend_refusal v old.system id mem n) result done (Same old now)) (sym k.version) h in
+      let f = subst (λ (o : Option CanisterRecord). Alters (calls.pages_refusal m.live.version old.system mem n o) result done (Same old now)) (there ∙ ap (λ (y : CanisterRecord). Some y) (sym its.2)) of_version in
+      let g = subst (λ (p : ℕ). Alters (if nat_lt (memory_limit m.live.version) (p + n) then Some errors.MemoryFull else if nat_lt (state_limit m.live.version) (calls.all_pages_of old.system + n) then Some errors.StateFull else None) result done (Same old now)) (pages_alike mem c) f in
+      let e = subst (λ (p : ℕ). Alters (if nat_lt (memory_limit m.live.version) (pages_of (memory_of c mem) + n) then Some errors.MemoryFull else if nat_lt (state_limit m.live.version) (p + n) then Some errors.StateFull else None) result done (Same old now)) all_pages g in
       subst (λ (o : Option Canister). AfterState result now (unless_none o refusals.NoCanister m (λ c. unless ((nat_lt (memory_limit m.live.version) (pages_of (memory_of c mem) + n), refusals.MemoryFull) ∷ (nat_lt (state_limit m.live.version) (state_pages m.live + n), refusals.StateFull) ∷ []) m (λ m. now_live m (with_canister m.live id (with_memory c mem (grow (memory_of c mem) n))))))) (sym its.1)
-      (alters_two (nat_lt (memory_limit 1) (pages_of (memory_of c mem) + n)) (nat_lt (state_limit 1) (state_pages m.live + n)) errors.MemoryFull errors.StateFull refusals.MemoryFull refusals.StateFull result now m
+      (alters_two (nat_lt (memory_limit m.live.version) (pages_of (memory_of c mem) + n)) (nat_lt (state_limit m.live.version) (state_pages m.live + n)) errors.MemoryFull errors.StateFull refusals.MemoryFull refusals.StateFull result now m
       (λ m. now_live m (with_canister m.live id (with_memory c mem (grow (memory_of c mem) n)))) done (Same old now) refl refl e same
       (λ d. (refl, kept_memory c (grow (memory_of c mem) n) n x its.1 (grow_pages (memory_of c mem) n) d.0 d.1 (λ was. d.2 ∙ ap (λ (b : Bytes). b ++ zeros (n * PAGE_SIZE)) was ∙ sym (grow_is (memory_of c mem) n)))))
 
   -- a write that ends within the greatest memory never makes the memory too large
-  within_limit : (p at n : ℕ) → p ≤ MAX_MEMORY_PAGES → at + n ≤ MAX_MEMORY_PAGES * PAGE_SIZE → p + pages_more p at n ≤ MAX_MEMORY_PAGES
-  within_limit p at n few ends = elim (n == 0) as (λ (b : Bool). p + (if b then 0 else max p (pages_for (at + n)) - p) ≤ MAX_MEMORY_PAGES) [ true ↦ omega arith | false ↦ omega (arith, pages_limit (at + n) ends) ]
+  within_limit : (most p at n : ℕ) → p ≤ most → at + n ≤ most * PAGE_SIZE → p + pages_more p at n ≤ most
+  within_limit most p at n few ends = elim (n == 0) as (λ (b : Bool). p + (if b then 0 else max p (pages_for (at + n)) - p) ≤ most) [ true ↦ omega arith | false ↦ omega (arith, pages_limit (at + n) ends) ]
     where
-      pages_limit : (e : ℕ) → e ≤ MAX_MEMORY_PAGES * PAGE_SIZE → pages_for e ≤ MAX_MEMORY_PAGES
+      pages_limit : (e : ℕ) → e ≤ most * PAGE_SIZE → pages_for e ≤ most
       pages_limit e h = omega arith
 
   same_if : (b : Bool) (a x y : Option SysError) → (b ≡ false → x ≡ y) → (if b then a else x) ≡ (if b then a else y)
@@ -137,22 +139,22 @@ module _ (old now : StateView) (m : Machine) (k : KeepsState old (live_of m)) (b
   same_if false a x y h = h refl
 
   -- where a write ends within the greatest memory, only the state can be full
-  only_state : (at n pages : ℕ) (r : CanisterRecord) (c : Canister) → calls.canister_in old.system id ≡ Some r → record_of c ≡ r → pages ≡ calls.pages_of mem r → pages ≤ MAX_MEMORY_PAGES
-      → nat_lt (MAX_MEMORY_PAGES * PAGE_SIZE) (at + n) ≡ false
-      → calls.extend_refusal old.system id mem (pages_more pages at n) ≡ (if nat_lt (state_limit m.live.version) (state_pages m.live + (pages_with (memory_of c mem) at n - pages_of (memory_of c mem))) then Some errors.StateFull else None)
+  only_state : (at n pages : ℕ) (r : CanisterRecord) (c : Canister) → calls.canister_in old.system id ≡ Some r → record_of c ≡ r → pages ≡ calls.pages_of mem r → pages ≤ memory_limit m.live.version
+      → nat_lt (memory_limit m.live.version * PAGE_SIZE) (at + n) ≡ false
+      → calls.extend_refusal m.live.version old.system id mem (pages_more pages at n) ≡ (if nat_lt (state_limit m.live.version) (state_pages m.live + (pages_with (memory_of c mem) at n - pages_of (memory_of c mem))) then Some errors.StateFull else None)
   only_state at n pages r c there its pages_is few ends =
       let more : ℕ = pages_more pages at n in
-      let fits : pages + more ≤ MAX_MEMORY_PAGES = within_limit pages at n few (ltb-false (MAX_MEMORY_PAGES * PAGE_SIZE) (at + n) ends) in
-      let small : nat_lt (memory_limit 1) (calls.pages_of mem r + more) ≡ false = le-ltb MAX_MEMORY_PAGES (calls.pages_of mem r + more) (omega (arith, fits, pages_is)) in
+      let fits : pages + more ≤ memory_limit m.live.version = within_limit (memory_limit m.live.version) pages at n few (ltb-false (memory_limit m.live.version * PAGE_SIZE) (at + n) ends) in
+      let small : nat_lt (memory_limit m.live.version) (calls.pages_of mem r + more) ≡ false = le-ltb (memory_limit m.live.version) (calls.pages_of mem r + more) (omega (arith, fits, pages_is)) in
       let of_memory : pages ≡ pages_of (memory_of c mem) = pages_is ∙ ap (calls.pages_of mem) (sym its) ∙ pages_alike mem c in
       let amount : more ≡ pages_with (memory_of c mem) at n - pages_of (memory_of c mem) = ap (λ (p : ℕ). pages_more p at n) of_memory ∙ sym (with_is (memory_of c mem) at n) in
-      ap (calls.pages_refusal old.system mem more) there
-      ∙ ap (λ (b : Bool). if b then Some errors.MemoryFull else if nat_lt (state_limit 1) (calls.all_pages_of old.system + more) then Some errors.StateFull else None) small
-      ∙ ap (λ (p : ℕ). if nat_lt (state_limit 1) (p + more) then Some errors.StateFull else None) all_pages
-      ∙ ap (λ (p : ℕ). if nat_lt (state_limit 1) (state_pages m.live + p) then Some errors.StateFull else None) amount
+      ap (calls.pages_refusal m.live.version old.system mem more) there
+      ∙ ap (λ (b : Bool). if b then Some errors.MemoryFull else if nat_lt (state_limit m.live.version) (calls.all_pages_of old.system + more) then Some errors.StateFull else None) small
+      ∙ ap (λ (p : ℕ). if nat_lt (state_limit m.live.version) (p + more) then Some errors.StateFull else None) all_pages
+      ∙ ap (λ (p : ℕ). if nat_lt (state_limit m.live.version) (state_pages m.live + p) then Some errors.StateFull else None) amount
 
-  pub step_write : (at pages : ℕ) (w : Bytes) (r : CanisterRecord) (x : Bytes) (result : Result Reply NoMemory) → calls.canister_in old.system id ≡ Some r → pages ≡ calls.pages_of mem r → pages ≤ MAX_MEMORY_PAGES
-      → Alters (write_refusal old.system id mem pages at (length w)) result
+  pub step_write : (at pages : ℕ) (w : Bytes) (r : CanisterRecord) (x : Bytes) (result : Result Reply NoMemory) → calls.canister_in old.system id ≡ Some r → pages ≡ calls.pages_of mem r → pages ≤ memory_limit 1
+      → Alters (write_refusal 1 old.system id mem pages at (length w)) result
       (calls.Changes old.system now.system id (calls.with_more_pages mem (pages_more pages at (length w))) × (now.memories ≡ set old.memories (index_of (place_of bytes_cmp id old.system.canisters) mem) x) × (x ≡ bytes_after_write (get_or old.memories (index_of (place_of bytes_cmp id old.system.canisters) mem) []) at w))
       (Same old now)
       → AfterState result now (write_step m id mem at w)
@@ -160,10 +162,11 @@ module _ (old now : StateView) (m : Machine) (k : KeepsState old (live_of m)) (b
       let its = its_canister r there in
       let c : Canister = its.0 in
       let done : Type 0 = calls.Changes old.system now.system id (calls.with_more_pages mem (pages_more pages at (length w))) × (now.memories ≡ set old.memories (index_of (place_of bytes_cmp id old.system.canisters) mem) x) × (x ≡ bytes_after_write (get_or old.memories (index_of (place_of bytes_cmp id old.system.canisters) mem) []) at w) in
-      let full : Bool = nat_lt (MAX_MEMORY_PAGES * PAGE_SIZE) (at + length w) in
+      let full : Bool = nat_lt (memory_limit m.live.version * PAGE_SIZE) (at + length w) in
       let more : Bool = nat_lt (state_limit m.live.version) (state_pages m.live + (pages_with (memory_of c mem) at (length w) - pages_of (memory_of c mem))) in
-      let why = same_if full (Some errors.MemoryFull) (calls.extend_refusal old.system id mem (pages_more pages at (length w))) (if more then Some errors.StateFull else None) (only_state at (length w) pages r c there its.2 pages_is few) in
-      let f = subst (λ (o : Option SysError). Alters o result done (Same old now)) why h in
+      let why = same_if full (Some errors.MemoryFull) (calls.extend_refusal m.live.version old.system id mem (pages_more pages at (length w))) (if more then Some errors.StateFull else None) (only_state at (length w) pages r c there its.2 pages_is (subst (λ (v : ℕ). pages ≤ memory_limit v) (sym k.version) few)) in
+      let of_version = subst (λ (v : ℕ). Alters (write_refusal v old.system id mem pages at (length w)) result done (Same old now)) (sym k.version) h in
+      let f = subst (λ (o : Option SysError). Alters o result done (Same old now)) why of_version in
       let of_memory : pages ≡ pages_of (memory_of c mem) = pages_is ∙ ap (calls.pages_of mem) (sym its.2) ∙ pages_alike mem c in
       subst (λ (o : Option Canister). AfterState result now (unless_none o refusals.NoCanister m (λ c. unless ((nat_lt (memory_limit m.live.version * PAGE_SIZE) (at + length w), refusals.MemoryFull) ∷ (nat_lt (state_limit m.live.version) (state_pages m.live + (pages_with (memory_of c mem) at (length w) - pages_of (memory_of c mem))), refusals.StateFull) ∷ []) m (λ m. now_live m (with_canister m.live id (with_memory c mem (write m.height (memory_of c mem) at w))))))) (sym its.1)
       (alters_two full more errors.MemoryFull errors.StateFull refusals.MemoryFull refusals.StateFull result now m

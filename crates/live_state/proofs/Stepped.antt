@@ -77,6 +77,12 @@ alters_keeps why (Err x) done same P h d s = s h
 alters_keeps None (Ok reply) done same P h d s = d h.1
 alters_keeps (Some e) (Ok reply) done same P h d s = s h.1
 
+-- the same, where what was done was not refused
+pub alters_passed : (why : Option SysError) (result : Result Reply NoMemory) (done same P : Type 0) → Alters why result done same → (why ≡ None → done → P) → (same → P) → P
+alters_passed why (Err x) done same P h d s = s h
+alters_passed None (Ok reply) done same P h d s = d refl h.1
+alters_passed (Some e) (Ok reply) done same P h d s = s h.1
+
 -- the same change, seen otherwise
 pub alters_map : (why : Option SysError) (result : Result Reply NoMemory) (done same did stays : Type 0) → Alters why result done same → (done → did) → (same → stays) → Alters why result did stays
 alters_map why (Err x) done same did stays h d s = s h

@@ -12,7 +12,7 @@ use Rattle.script_text.specs.declared.command.Command.{Command}
 use Rattle.script_text.specs.declared.reply.Reply.{Reply}
 use Rattle.machine_spec.specs.Machine.{Machine, Outcome}
 use Rattle.machine_spec.specs.Step.{step}
-use Rattle.sys_state.specs.Memories.{HaveSizes}
+use Rattle.sys_state.specs.Memories.{HaveSizes, AreWithin}
 
 -- the state but for its memories, their bytes in the order of files, and its height
 pub record StateView : Type 0 where
@@ -20,9 +20,11 @@ pub record StateView : Type 0 where
   pub memories : List Bytes
   pub height : ℕ
 
--- Each memory has as many bytes as its pages have, heights begin at 1, and a tree that is kept is the state's.
+-- Each memory has as many bytes as its pages have, all are within the limits of version 1, heights begin at 1, and a tree
+-- that is kept is the state's.
 pub record IsStateView (held : StateView) (tree : Option HashTree) : Type 0 where
   pub sizes : HaveSizes held.system.canisters held.memories
+  pub within : AreWithin 1 held.memories
   pub from_one : 1 ≤ held.height
   pub kept : IfSome tree (λ t. tree_view t ≡ state_tree (part_of held.system))
 

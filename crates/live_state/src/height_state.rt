@@ -15,7 +15,7 @@ ghost use Rattle.machine_spec.specs.LiveSteps.{read_reply};
 ghost use Rattle.machine_spec.specs.Machine.{Machine};
 ghost use Rattle.machine_spec.specs.States.{empty_state};
 ghost use Rattle.machine_spec.specs.WitnessSteps.{witness_text};
-ghost use Rattle.sys_state.specs.Memories.{index_of, HaveSizes};
+ghost use Rattle.sys_state.specs.Memories.{index_of, HaveSizes, AreWithin};
 ghost use Rattle.live_state.specs.StateKept.{KeepsState, PerformsState, live_of};
 
 use crate::canisters::{create_canister, remove_canister};
@@ -78,8 +78,10 @@ impl HeightState {
     }
 
     /// The state with these parts and these bytes of memories, heap and stable of each canister in order of ids, at a height.
+    /// It is within the limits of version 1.
     pub fn loaded(sys: SysState, memories: Vec<Vec<u8>>, height: u64) -> HeightState
         requires sizes { HaveSizes sys.canisters (map (λ memory. memory.items) memories.items) }
+        requires within { AreWithin 1 (map (λ memory. memory.items) memories.items) }
         requires from_one { 1 ≤ height }
         ensures { result ≡ record { system = sys; memories = map (λ memory. memory.items) memories.items; height = height } }
     {
@@ -131,8 +133,6 @@ impl HeightState {
         let Ok(place) = self.sys.place(id) else {
             return Ok(Reply::Refused(Refusal::NoCanister));
         };
-        // Its contract bounds the pages that the memory has.
-        let _pages = self.sys.pages(id, mem);
         let memory = &mut self.memories[memory_index(place, mem)];
         write_memory(&mut self.sys, memory, id, mem, offset, bytes)
     }
@@ -244,10 +244,12 @@ impl HeightState {
         &self.sys
     }
 
-    /// The bytes of the memories, heap and stable of each canister in order of ids, as many as its pages have.
+    /// The bytes of the memories, heap and stable of each canister in order of ids, as many as its pages have, and within
+    /// the limits of version 1.
     pub fn memories(&self) -> &[Vec<u8>]
         ensures value { map (λ memory. memory.items) result.now ≡ self.now.memories }
         ensures fit { FitMemories (part_of self.now.system) self.now.memories }
+        ensures within { AreWithin 1 self.now.memories }
     {
         &self.memories
     }

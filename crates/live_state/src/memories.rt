@@ -2,6 +2,7 @@
 
 ghost use Rattle.std.specs.Prelude.{◌≡◌, ◌+◌, ◌*◌, ◌/◌, ◌<◌, ◌≤◌, ◌∷◌, ◌++◌, [], map, take, drop, length, vec_len, vec_capacity, Some, IfSome, IfOk, OnOk};
 ghost use Rattle.format_spec.specs.declared.limits.TheConstants.{PAGE_SIZE, MAX_MEMORY_PAGES};
+ghost use Rattle.format_spec.specs.Versions.{memory_limit as limit_of_memory};
 ghost use Rattle.state_spec.specs.Memory.{with_bytes_at, with_zeros_up_to, zeros, pages_for};
 ghost use Rattle.sys_state.specs.Calls.{Changes, with_more_pages, extend_refusal, canister_in, pages_of};
 ghost use Rattle.live_state.specs.Changes.{Alters};
@@ -9,7 +10,7 @@ ghost use Rattle.live_state.specs.Memories.{pages_more, bytes_after_write, write
 
 use crate::refusals::reply_to;
 use byte_codec::NoMemory;
-use format_spec::{MAX_MEMORY_PAGES, PAGE_SIZE};
+use format_spec::{PAGE_SIZE, VERSION, memory_limit};
 use script_text::{Refusal, Reply};
 use std::alloc::Global;
 use sys_state::{CanisterId, Mem, SysState};
@@ -62,9 +63,10 @@ fn write_at(memory: &mut Vec<u8>, at: usize, bytes: &[u8])
 fn make_room(memory: &mut Vec<u8>, pages: u64) -> Result<(), NoMemory>
     ensures same { memory.new.items ≡ memory.old.items }
     ensures len { vec_len memory.new ≡ vec_len memory.old }
-    ensures room { OnOk result (vec_len memory.old + pages * PAGE_SIZE ≤ MAX_MEMORY_PAGES * PAGE_SIZE → vec_len memory.old + pages * PAGE_SIZE ≤ vec_capacity memory.new) }
+    ensures limit { limit_of_memory 1 ≤ MAX_MEMORY_PAGES }
+    ensures room { OnOk result (vec_len memory.old + pages * PAGE_SIZE ≤ limit_of_memory 1 * PAGE_SIZE → vec_len memory.old + pages * PAGE_SIZE ≤ vec_capacity memory.new) }
 {
-    if pages > MAX_MEMORY_PAGES as u64 {
+    if pages > memory_limit(VERSION) as u64 {
         return Ok(());
     }
     memory.reserve(pages as usize * PAGE_SIZE)?;
@@ -80,12 +82,12 @@ pub fn grow_memory(
     pages: u64,
 ) -> Result<Reply, NoMemory>
     requires { IfSome (canister_in sys.old id.now) (λ c. vec_len memory.old ≡ pages_of mem c * PAGE_SIZE) }
-    ensures { Alters (extend_refusal sys.old id.now mem pages) result
+    ensures { Alters (extend_refusal 1 sys.old id.now mem pages) result
         (Changes sys.old sys.new id.now (with_more_pages mem pages) × (memory.new.items ≡ memory.old.items ++ zeros (pages * PAGE_SIZE)))
         ((sys.new ≡ sys.old) × (memory.new.items ≡ memory.old.items)) }
 {
     make_room(memory, pages)?;
-    let change = sys.extend(id, mem, pages);
+    let change = sys.extend(id, mem, pages, VERSION);
     if change.is_ok() {
         let size = memory.len() + pages as usize * PAGE_SIZE;
         extend_to(memory, size);
@@ -132,13 +134,13 @@ fn write_within(
     requires pages { IfSome (canister_in sys.old id.now) (λ c. vec_len memory.old ≡ pages_of mem c * PAGE_SIZE) }
     requires within { at + length bytes.now ≤ MAX_MEMORY_PAGES * PAGE_SIZE }
     ensures { let more = pages_more (vec_len memory.old / PAGE_SIZE) at (length bytes.now) in
-        Alters (extend_refusal sys.old id.now mem more) result
+        Alters (extend_refusal 1 sys.old id.now mem more) result
         (Changes sys.old sys.new id.now (with_more_pages mem more) × (memory.new.items ≡ bytes_after_write memory.old.items at bytes.now))
         ((sys.new ≡ sys.old) × (memory.new.items ≡ memory.old.items)) }
 {
     let pages = missing_pages(memory.len(), at, bytes.len());
     make_room(memory, pages)?;
-    let change = sys.extend(id, mem, pages);
+    let change = sys.extend(id, mem, pages, VERSION);
     if change.is_ok() {
         place_bytes(memory, at, bytes);
     }
@@ -156,11 +158,11 @@ pub fn write_memory(
 ) -> Result<Reply, NoMemory>
     requires { IfSome (canister_in sys.old id.now) (λ c. vec_len memory.old ≡ pages_of mem c * PAGE_SIZE) }
     ensures { let pages = vec_len memory.old / PAGE_SIZE in
-        Alters (write_refusal sys.old id.now mem pages offset (length bytes.now)) result
+        Alters (write_refusal 1 sys.old id.now mem pages offset (length bytes.now)) result
         (Changes sys.old sys.new id.now (with_more_pages mem (pages_more pages offset (length bytes.now))) × (memory.new.items ≡ bytes_after_write memory.old.items offset bytes.now))
         ((sys.new ≡ sys.old) × (memory.new.items ≡ memory.old.items)) }
 {
-    let limit = (MAX_MEMORY_PAGES * PAGE_SIZE) as u64;
+    let limit = (memory_limit(VERSION) * PAGE_SIZE) as u64;
     if offset.saturating_add(bytes.len() as u64) > limit {
         return Ok(Reply::Refused(Refusal::MemoryFull));
     }

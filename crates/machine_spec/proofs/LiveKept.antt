@@ -4,8 +4,9 @@ use Rattle.std.specs.List.{AllByRecursion}
 use Rattle.std.specs.FinMap.{find, put}
 use Rattle.std.proofs.lemmas.Bool.{leb-false, ltb-false}
 use Rattle.format_spec.specs.Bytes.{Bytes, bytes_cmp, path_cmp}
-use Rattle.format_spec.specs.declared.limits.TheConstants.{PAGE_SIZE, MAX_CANISTERS, MAX_ENTRIES, MAX_MEMORY_PAGES, MAX_STATE_PAGES}
-use Rattle.state_spec.specs.State.{State, AreEntries, Canister, Memory, IsState, HasPageRounds, pages_in, pages_of, part_of, memory_limit, state_limit, is_reserved, has_conflict, without}
+use Rattle.format_spec.specs.declared.limits.TheConstants.{PAGE_SIZE, MAX_CANISTERS, MAX_ENTRIES}
+use Rattle.format_spec.specs.Versions.{memory_limit, state_limit}
+use Rattle.state_spec.specs.State.{State, AreEntries, Canister, Memory, IsState, HasPageRounds, pages_in, pages_of, part_of, is_reserved, has_conflict, without}
 use Rattle.state_spec.specs.Memory.{grow, write, no_memory}
 use Rattle.state_spec.proofs.Memories.{grow_bytes, grow_good, grow_keeps_rounds, grow_pages, grow_rounds, write_IsBytes, write_good, write_keeps_rounds}
 use Rattle.sys_state.specs.declared.mem.Mem.{Mem}
@@ -159,7 +160,7 @@ canister_kept m id fits s =
 -- ---- one memory changes in the round of the live height
 
 changed_kept : (m : Machine) (id : Bytes) (mem : Mem) (c : Canister) (new : Memory) → canister_in m.live id ≡ Some c → IsSound m
-    → Follows (memory_of c mem) new → state_pages m.live + pages_of new ≤ MAX_STATE_PAGES + pages_of (memory_of c mem)
+    → Follows (memory_of c mem) new → state_pages m.live + pages_of new ≤ state_limit 1 + pages_of (memory_of c mem)
     → (HasPageRounds (memory_of c mem) → HasPageRounds new)
     → (AllByRecursion (λ r. r.1 ≤ m.height) (memory_of c mem).rounds → AllByRecursion (λ r. r.1 ≤ m.height) new.rounds)
     → IsSound (record m { live = with_canister m.live id (with_memory c mem new) })
@@ -188,8 +189,8 @@ grow_kept m id mem n s =
     ∷ []
     ) m (λ m. now_live m (with_canister m.live id (with_memory c mem (grow (memory_of c mem) n)))) s (λ none.
     let old : Memory = memory_of c mem in
-    let few : pages_of old + n ≤ MAX_MEMORY_PAGES = ltb-false MAX_MEMORY_PAGES (pages_of old + n) none.0 in
-    let sum : state_pages m.live + n ≤ MAX_STATE_PAGES = ltb-false MAX_STATE_PAGES (state_pages m.live + n) none.1.0 in
+    let few : pages_of old + n ≤ memory_limit 1 = subst (λ (v : ℕ). pages_of old + n ≤ memory_limit v) s.live.valid.version (ltb-false (memory_limit m.live.version) (pages_of old + n) none.0) in
+    let sum : state_pages m.live + n ≤ state_limit 1 = subst (λ (v : ℕ). state_pages m.live + n ≤ state_limit v) s.live.valid.version (ltb-false (state_limit m.live.version) (state_pages m.live + n) none.1.0) in
     changed_kept m id mem c (grow old n) found s
     (record { whole = grow_good old n; bytes = grow_bytes old n; few = λ _. omega (arith, few, grow_pages old n) })
     (omega (arith, sum, grow_pages old n)) (grow_keeps_rounds old n)
@@ -209,14 +210,16 @@ write_kept m id mem at bytes fits s =
     ) m (λ m. now_live m (with_canister m.live id (with_memory c mem (write m.height (memory_of c mem) at bytes)))) s (λ none.
     let old : Memory = memory_of c mem in
     let size : ℕ = pages_with old at (length bytes) in
-    let within : at + length bytes ≤ MAX_MEMORY_PAGES * PAGE_SIZE = ltb-false (MAX_MEMORY_PAGES * PAGE_SIZE) (at + length bytes) none.0 in
-    let sum : state_pages m.live + (size - pages_of old) ≤ MAX_STATE_PAGES = ltb-false MAX_STATE_PAGES (state_pages m.live + (size - pages_of old)) none.1.0 in
+    let within : at + length bytes ≤ memory_limit 1 * PAGE_SIZE =
+    subst (λ (v : ℕ). at + length bytes ≤ memory_limit v * PAGE_SIZE) s.live.valid.version (ltb-false (memory_limit m.live.version * PAGE_SIZE) (at + length bytes) none.0) in
+    let sum : state_pages m.live + (size - pages_of old) ≤ state_limit 1 =
+    subst (λ (v : ℕ). state_pages m.live + (size - pages_of old) ≤ state_limit v) s.live.valid.version (ltb-false (state_limit m.live.version) (state_pages m.live + (size - pages_of old)) none.1.0) in
     let now : pages_of (write m.height old at bytes) ≡ size = written_pages m.height old at bytes in
     changed_kept m id mem c (write m.height old at bytes) found s
     (record {
       whole = write_good m.height old at bytes;
       bytes = λ were. write_IsBytes m.height old at bytes were fits.types;
-      few = λ few. subst (λ (n : ℕ). n ≤ MAX_MEMORY_PAGES) (sym now) (written_few old at (length bytes) within few);
+      few = λ few. subst (λ (n : ℕ). n ≤ memory_limit 1) (sym now) (written_few old at (length bytes) within few);
     })
     (omega (arith, sum, now, all_pages_are m.live, (canisters_of m.live s.live.valid).room)) (write_keeps_rounds m.height old at bytes)
     (write_each_round (λ r. r.1 ≤ m.height) m.height (memory_of c mem) at bytes (λ p. omega arith))))

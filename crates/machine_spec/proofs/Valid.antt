@@ -9,7 +9,8 @@ use Rattle.std.specs.Ordering.{eq_by_cmp}
 use Rattle.std.specs.declared.cmp.Ordering.{Ordering}
 use Rattle.std.specs.declared.cmp.Ordering.TheVariants.{Less, Equal, Greater}
 use Rattle.format_spec.specs.Bytes.{Bytes, bytes_cmp}
-use Rattle.format_spec.specs.declared.limits.TheConstants.{MAX_CANISTERS, MAX_STATE_PAGES}
+use Rattle.format_spec.specs.declared.limits.TheConstants.{MAX_CANISTERS}
+use Rattle.format_spec.specs.Versions.{state_limit}
 use Rattle.state_spec.specs.State.{State, Canister, CanisterPart, FitsCanister, IsSystem, IsMemory, IsByteCanister, AreEntries, IsState, all_pages, pages_in, part_of, system_of, without}
 use Rattle.state_spec.proofs.Keys.{ids_apart, ids_total, is_sorted-over}
 use Rattle.state_spec.proofs.Places.{parted, put_stands, sorted_put, sorted_without}
@@ -43,7 +44,7 @@ pub record AreGood (cs : Canisters) : Type 0 where
   pub few : length cs ≤ MAX_CANISTERS
   pub sorted : is_sorted bytes_cmp cs ≡ true
   pub each : AllByRecursion IsGood cs
-  pub room : pages cs ≤ MAX_STATE_PAGES
+  pub room : pages cs ≤ state_limit 1
 
 -- ---- from a state, and back
 
@@ -125,7 +126,7 @@ pages-one c = omega arith
 
 -- ---- one canister changes
 
-pub changed : (id : Bytes) (c d : Canister) (cs : Canisters) → AreGood cs → find bytes_cmp id cs ≡ Some c → (IsGood (id, c) → IsGood (id, d)) → pages cs + pages_in (part_of d) ≤ MAX_STATE_PAGES + pages_in (part_of c)
+pub changed : (id : Bytes) (c d : Canister) (cs : Canisters) → AreGood cs → find bytes_cmp id cs ≡ Some c → (IsGood (id, c) → IsGood (id, d)) → pages cs + pages_in (part_of d) ≤ state_limit 1 + pages_in (part_of c)
     → AreGood (put bytes_cmp id d cs)
 changed id c d cs good e step bound =
     let f : Found id c cs = found bytes_cmp ids_apart id c cs e in

@@ -7,7 +7,8 @@ use Rattle.std.specs.FinMap.{find, put}
 use Rattle.std.proofs.lemmas.Grind.{div_ceil_times}
 use Rattle.std.specs.Prelude.{IsTrue, get_or}
 use Rattle.format_spec.specs.Bytes.{Bytes, IsBytes, AreByteStrings, path_cmp}
-use Rattle.format_spec.specs.declared.limits.TheConstants.{MAX_ENTRIES, MAX_MEMORY_PAGES, MAX_MODULE, MAX_CERTIFIED, MAX_VALUE, PAGE_SIZE}
+use Rattle.format_spec.specs.declared.limits.TheConstants.{MAX_ENTRIES, MAX_MODULE, MAX_CERTIFIED, MAX_VALUE, PAGE_SIZE}
+use Rattle.format_spec.specs.Versions.{memory_limit}
 use Rattle.format_spec.proofs.ByteStrings.{by_test}
 use Rattle.state_spec.specs.State.{State, AreEntries, Canister, Memory, IsMemory, has_conflict, is_path, is_reserved, pages_in, pages_of, part_of, system_of, without}
 use Rattle.state_spec.specs.Memory.{pages_for, write}
@@ -82,7 +83,7 @@ with_certified id c bytes short are g = record {
 pub record Follows (old new : Memory) : Type 0 where
   pub whole : IsMemory old → IsMemory new
   pub bytes : IsBytes old.bytes → IsBytes new.bytes
-  pub few : pages_of old ≤ MAX_MEMORY_PAGES → pages_of new ≤ MAX_MEMORY_PAGES
+  pub few : pages_of old ≤ memory_limit 1 → pages_of new ≤ memory_limit 1
 
 pub with_new : (id : Bytes) (c : Canister) (mem : Mem) (new : Memory) → Follows (memory_of c mem) new → IsGood (id, c) → IsGood (id, with_memory c mem new)
 with_new id c Heap new f g = record {
@@ -114,6 +115,6 @@ pub written_pages : (round : ℕ) (m : Memory) (at : ℕ) (w : Bytes) → pages_
 written_pages round m at [] = ap pages_of (write_none round m at)
 written_pages round m at (b ∷ w) = write_pages round m at (b ∷ w) (omega arith) ∙ sym (with_some m at (length (b ∷ w)) (omega arith))
 
-pub written_few : (m : Memory) (at : ℕ) (n : ℕ) → at + n ≤ MAX_MEMORY_PAGES * PAGE_SIZE → pages_of m ≤ MAX_MEMORY_PAGES → pages_with m at n ≤ MAX_MEMORY_PAGES
+pub written_few : (m : Memory) (at : ℕ) (n : ℕ) → at + n ≤ memory_limit 1 * PAGE_SIZE → pages_of m ≤ memory_limit 1 → pages_with m at n ≤ memory_limit 1
 written_few m at zero within few = few
 written_few m at (suc n) within few = let bound = div_ceil_times (at + suc n) 4096 (omega arith) in omega (arith, within, few, bound, with_some m at (suc n) (omega arith))

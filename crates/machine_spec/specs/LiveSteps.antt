@@ -3,7 +3,8 @@ use Rattle.std.specs.Prelude.{ℕ, ◌+◌, ◌-◌, ◌*◌, ◌&&◌, not, nat
 use Rattle.std.specs.FinMap.{find, put}
 use Rattle.format_spec.specs.Bytes.{Bytes, path_cmp}
 use Rattle.format_spec.specs.declared.limits.TheConstants.{PAGE_SIZE, MAX_CANISTERS, MAX_ENTRIES}
-use Rattle.state_spec.specs.State.{State, Canister, Memory, pages_of, memory_limit, state_limit, is_reserved, has_conflict, without}
+use Rattle.format_spec.specs.Versions.{memory_limit, state_limit}
+use Rattle.state_spec.specs.State.{State, Canister, Memory, pages_of, is_reserved, has_conflict, without}
 use Rattle.state_spec.specs.Memory.{read, grow, write}
 use Rattle.sys_state.specs.declared.mem.Mem.{Mem}
 use Rattle.script_text.specs.declared.command.HeightOrLive.{HeightOrLive}

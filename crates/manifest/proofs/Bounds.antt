@@ -8,6 +8,8 @@ use Rattle.hex.proofs.HexLemmas.{length-encode_with}
 use Rattle.format_spec.specs.Bytes.{Bytes, part_count, parts}
 use Rattle.format_spec.specs.Hashes.{ChunkSum, chunk_hash}
 use Rattle.format_spec.specs.declared.limits.TheConstants.{CHUNK_SIZE, PAGE_SIZE}
+use Rattle.format_spec.specs.Versions.{memory_limit}
+use Rattle.format_spec.proofs.StateLimits.{memory_limit-2}
 use Rattle.format_spec.proofs.Lists.{all_join}
 use Rattle.state_spec.specs.State.{SystemPart, CanisterPart, IsSystem, FitsCanister}
 use Rattle.state_spec.specs.SystemText.{system_text}
@@ -34,26 +36,26 @@ few_canisters s kept =
 
 pub record Small (f : FileSums) : Type 0 where
   pub name : length f.name < 256
-  pub hashes : length f.hashes ≤ 256
+  pub hashes : length f.hashes ≤ 512
 
 pub name_size : (id memory : Bytes) → length id ≤ 29 → length memory ≤ 6 → length (file_name id memory) < 256
 name_size id memory short few =
     let a : Bytes = codes "canister/" ++ encode_lower id in
     omega (arith, short, few, length-encode_with lower_digits id, length-append (codes "canister/") (encode_lower id), length-append a (codes "/"), length-append (a ++ codes "/") memory)
 
-few_chunks : (pages n : ℕ) → pages ≤ 65536 → n ≡ part_count CHUNK_SIZE (pages * PAGE_SIZE) → n ≤ 256
-few_chunks pages n few is = omega arith
+few_chunks : (pages n : ℕ) → pages ≤ memory_limit 2 → n ≡ part_count CHUNK_SIZE (pages * PAGE_SIZE) → n ≤ 512
+few_chunks pages n few is = omega (arith, few, is, memory_limit-2)
 
-small_memories : (cs : List (Bytes × CanisterPart)) (ls : List (List Bytes)) → AllByRecursion (FitsCanister 1) cs → map (λ (l : List Bytes). length l) ls ≡ map (λ (m : Bytes × ℕ). part_count CHUNK_SIZE (m.1 * PAGE_SIZE)) (memory_pages cs)
+small_memories : (cs : List (Bytes × CanisterPart)) (ls : List (List Bytes)) → AllByRecursion (FitsCanister 2) cs → map (λ (l : List Bytes). length l) ls ≡ map (λ (m : Bytes × ℕ). part_count CHUNK_SIZE (m.1 * PAGE_SIZE)) (memory_pages cs)
     → AllByRecursion Small (memory_sums (memory_pages cs) ls) × (length (memory_sums (memory_pages cs) ls) ≤ 2 * length cs)
 small_memories cs ls fit e =
     by_two heap_pages stable_pages (λ (l : List Bytes). length l) (λ (m : Bytes × ℕ). part_count CHUNK_SIZE (m.1 * PAGE_SIZE))
-    (λ (cs : List (Bytes × CanisterPart)) (ls : List (List Bytes)). AllByRecursion (FitsCanister 1) cs → AllByRecursion Small (memory_sums (memory_pages cs) ls) × (length (memory_sums (memory_pages cs) ls) ≤ 2 * length cs))
+    (λ (cs : List (Bytes × CanisterPart)) (ls : List (List Bytes)). AllByRecursion (FitsCanister 2) cs → AllByRecursion Small (memory_sums (memory_pages cs) ls) × (length (memory_sums (memory_pages cs) ls) ≤ 2 * length cs))
     (λ fit. (tt, omega arith)) more cs ls e fit
   where
     more : (c : Bytes × CanisterPart) (cs : List (Bytes × CanisterPart)) (a b : List Bytes) (ls : List (List Bytes)) → length a ≡ part_count CHUNK_SIZE (c.1.heap * PAGE_SIZE) → length b ≡ part_count CHUNK_SIZE (c.1.stable * PAGE_SIZE)
-        → (AllByRecursion (FitsCanister 1) cs → AllByRecursion Small (memory_sums (memory_pages cs) ls) × (length (memory_sums (memory_pages cs) ls) ≤ 2 * length cs))
-        → AllByRecursion (FitsCanister 1) (c ∷ cs) → AllByRecursion Small (memory_sums (memory_pages (c ∷ cs)) (a ∷ b ∷ ls)) × (length (memory_sums (memory_pages (c ∷ cs)) (a ∷ b ∷ ls)) ≤ 2 * length (c ∷ cs))
+        → (AllByRecursion (FitsCanister 2) cs → AllByRecursion Small (memory_sums (memory_pages cs) ls) × (length (memory_sums (memory_pages cs) ls) ≤ 2 * length cs))
+        → AllByRecursion (FitsCanister 2) (c ∷ cs) → AllByRecursion Small (memory_sums (memory_pages (c ∷ cs)) (a ∷ b ∷ ls)) × (length (memory_sums (memory_pages (c ∷ cs)) (a ∷ b ∷ ls)) ≤ 2 * length (c ∷ cs))
     more c cs a b ls heap stable before fit =
         let id = id_size c.0 fit.0.id in
         let rest = before fit.1 in (
@@ -66,7 +68,7 @@ small_memories cs ls fit e =
 
 -- ---- all files
 
-rows_few : (n : ℕ) (fs : List FileSums) → AllByRecursion Small fs → length (chunk_rows n fs) ≤ 256 * length fs
+rows_few : (n : ℕ) (fs : List FileSums) → AllByRecursion Small fs → length (chunk_rows n fs) ≤ 512 * length fs
 rows_few n [] small = omega arith
 rows_few n (f ∷ fs) small =
     let own : List ChunkRow = map (λ (c : ChunkSum). record { file = n; sum = c }) (chunk_sums f) in
@@ -77,20 +79,20 @@ names_short : (fs : List FileSums) → AllByRecursion Small fs → AllByRecursio
 names_short [] small = tt
 names_short (f ∷ fs) small = (small.0.name, names_short fs small.1)
 
-pub few_memories : (s : SystemPart) (hashes : List (List Bytes)) → IsSystem 1 s → FitSums s hashes → length (memory_sums (memories_in s) hashes) ≤ 2048
+pub few_memories : (s : SystemPart) (hashes : List (List Bytes)) → IsSystem 2 s → FitSums s hashes → length (memory_sums (memories_in s) hashes) ≤ 2048
 few_memories s hashes good fit =
     let few = (small_memories s.canisters hashes good.canisters_fit fit).1 in
     let count : length s.canisters ≤ 1024 = good.few_canisters in
     omega (arith, few, count)
 
-pub few_system_chunks : (s : SystemPart) → IsSystem 1 s → length (chunk_hashes (system_text s)) ≤ 64
+pub few_system_chunks : (s : SystemPart) → IsSystem 2 s → length (chunk_hashes (system_text s)) ≤ 64
 few_system_chunks s good =
     let text : Bytes = system_text s in
-    let size : length text ≤ 67108864 = (system_size 1 s good).1 in
+    let size : length text ≤ 67108864 = (system_size 2 s good).1 in
     let chunks : length (chunk_hashes text) ≡ part_count CHUNK_SIZE (length text) = length-map (parts CHUNK_SIZE text) chunk_hash ∙ parts_length CHUNK_SIZE text in
     omega (arith, chunks, size)
 
-pub fits_text : (s : SystemPart) (hashes : List (List Bytes)) → IsSystem 1 s → FitSums s hashes → FitsText (manifest_from 1 (file_sums s hashes))
+pub fits_text : (s : SystemPart) (hashes : List (List Bytes)) → IsSystem 2 s → FitSums s hashes → FitsText (manifest_from 1 (file_sums s hashes))
 unfolding manifest_from file_sums
 fits_text s hashes good fit =
     let ms = small_memories s.canisters hashes good.canisters_fit fit in

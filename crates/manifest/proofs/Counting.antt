@@ -9,6 +9,8 @@ use Rattle.format_spec.proofs.Cuts.{Are32, chunks_32, heads}
 use Rattle.format_spec.specs.Bytes.{Bytes, be32, part_count, parts}
 use Rattle.format_spec.specs.Hashes.{ChunkSum, file_hash}
 use Rattle.format_spec.specs.declared.limits.TheConstants.{CHUNK_SIZE, PAGE_SIZE, PIECE_SIZE}
+use Rattle.format_spec.specs.Versions.{memory_limit}
+use Rattle.format_spec.proofs.StateLimits.{memory_limit-2}
 use Rattle.format_spec.proofs.Lists.{all_join}
 use Rattle.state_spec.specs.State.{State, SystemPart, CanisterPart, FitsCanister, system_of, memory_bytes}
 use Rattle.state_spec.specs.SystemText.{system_text}
@@ -190,11 +192,11 @@ sizes_more cs i id c there =
 
 -- ---- how much there is at most
 
-few_parts : (pages : ℕ) → pages ≤ 65536 → part_count CHUNK_SIZE (pages * PAGE_SIZE) ≤ 256
-few_parts pages few = omega arith
+few_parts : (pages : ℕ) → pages ≤ memory_limit 2 → part_count CHUNK_SIZE (pages * PAGE_SIZE) ≤ 512
+few_parts pages few = omega (arith, few, memory_limit-2)
 
-few_sizes : (cs : List (Bytes × CanisterPart)) → AllByRecursion (FitsCanister 1) cs
-    → (rows_size (memory_pages cs) ≤ 228 * length cs) × (chunks_in (memory_pages cs) ≤ 512 * length cs) × (length (memory_pages cs) ≡ 2 * length cs)
+few_sizes : (cs : List (Bytes × CanisterPart)) → AllByRecursion (FitsCanister 2) cs
+    → (rows_size (memory_pages cs) ≤ 228 * length cs) × (chunks_in (memory_pages cs) ≤ 1024 * length cs) × (length (memory_pages cs) ≡ 2 * length cs)
 few_sizes [] h = (omega arith, omega arith, refl)
 few_sizes (c ∷ cs) h =
     let r = few_sizes cs h.1 in
@@ -203,7 +205,7 @@ few_sizes (c ∷ cs) h =
 
 pub record Few (s : System) (text : Bytes) : Type 0 where
   pub rows : rows_size (memories_in (part_of s)) ≤ 233472
-  pub chunks : chunks_in (memories_in (part_of s)) ≤ 524288
+  pub chunks : chunks_in (memories_in (part_of s)) ≤ 1048576
   pub text_chunks : part_count CHUNK_SIZE (length text) ≤ 64
   pub memories : length (memories_in (part_of s)) ≤ 2048
 
@@ -211,7 +213,7 @@ pub few : (s : System) (text : Bytes) → IsWithinLimits s → text ≡ system_t
 few s text kept is =
     let r = few_sizes (part_of s).canisters kept.system.canisters_fit in
     let n : length (part_of s).canisters ≤ 1024 = kept.system.few_canisters in
-    let size : length text ≤ 67108864 = subst (λ (n : ℕ). n ≤ 67108864) (sym (ap length is)) (system_size 1 (part_of s) kept.system).1 in
+    let size : length text ≤ 67108864 = subst (λ (n : ℕ). n ≤ 67108864) (sym (ap length is)) (system_size 2 (part_of s) kept.system).1 in
     record {
       rows = omega (arith, r.0, n);
       chunks = omega (arith, r.1, n);

@@ -59,7 +59,7 @@ pub record ReadSoFar (count pairs : ℕ) (files : List FileRow) (last : Option B
   pub length_is : length files ≡ 2 * pairs
   pub last_is : last ≡ last_id files
   pub total_is : total ≡ all_sizes files
-  pub small : total ≤ 2 ^ 30
+  pub small : total ≤ 2 ^ 31
   pub short : AllByRecursion Short files
 
 module _ (count pairs : ℕ) (files : List FileRow) (last : Option Bytes) (total : ℕ) (start now : Cursor) (read : ReadSoFar count pairs files last total start now) (odd : count % 2 ≡ 1) (more : pairs < count / 2) where
@@ -97,7 +97,7 @@ module _ (count pairs : ℕ) (files : List FileRow) (last : Option Bytes) (total
         stops e (file_after 1 count) count (2 * pairs + 1) (files ++ heap ∷ []) mid (each (file_after 1 count) count [] start) (omega arith)
         (subst (Fails e) (sym (stable_next (stable_row id (total + heap.size) mid) refl)) failed) half_read
 
-    pub read_more : (stable : FileRow) (end : Cursor) → stable_row id (total + heap.size) mid ≡ Ok (stable, end) → id_in stable.name ≡ Some id → total + heap.size + stable.size ≤ 2 ^ 30
+    pub read_more : (stable : FileRow) (end : Cursor) → stable_row id (total + heap.size) mid ≡ Ok (stable, end) → id_in stable.name ≡ Some id → total + heap.size + stable.size ≤ 2 ^ 31
         → Short heap → Short stable → ReadSoFar count (pairs + 1) ((files ++ heap ∷ []) ++ stable ∷ []) (Some id) (total + heap.size + stable.size) start end
     read_more stable end second again fits short_heap short_stable =
         let len = read.length_is in

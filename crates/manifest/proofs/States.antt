@@ -28,14 +28,14 @@ made mid new s hashes name text size own is adds named sized hashed texted =
     added mid new (all_memory_sums s hashes) last adds is
     ∙ ap (λ (f : FileSums). manifest_from 1 (all_memory_sums s hashes ++ f ∷ [])) (same ∙ ap (λ (t : Bytes). sums_of (system_name, t)) texted)
 
-pub few_files : (m : Manifest) (s : SystemPart) (hashes : List (List Bytes)) → IsSystem 1 s → FitSums s hashes → m ≡ manifest_from 1 (all_memory_sums s hashes) → length m.files < 2 ^ 32
+pub few_files : (m : Manifest) (s : SystemPart) (hashes : List (List Bytes)) → IsSystem 2 s → FitSums s hashes → m ≡ manifest_from 1 (all_memory_sums s hashes) → length m.files < 2 ^ 32
 unfolding manifest_from
 few_files m s hashes good fit is =
     let count : length m.files ≡ length (all_memory_sums s hashes) = ap (λ (x : Manifest). length x.files) is ∙ length-map (all_memory_sums s hashes) file_row in
     let few = few_memories s hashes good fit in
     omega (arith, count, few)
 
-pub few_hashes : (s : SystemPart) (text : Bytes) (own : List Bytes) → IsSystem 1 s → own ≡ chunk_hashes text → text ≡ system_text s → length own < 2 ^ 32
+pub few_hashes : (s : SystemPart) (text : Bytes) (own : List Bytes) → IsSystem 2 s → own ≡ chunk_hashes text → text ≡ system_text s → length own < 2 ^ 32
 few_hashes s text own good is texted =
     let few = few_system_chunks s good in
     let same : length own ≡ length (chunk_hashes (system_text s)) = ap length (is ∙ ap chunk_hashes texted) in

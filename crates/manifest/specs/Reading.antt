@@ -3,18 +3,19 @@ use Rattle.std.specs.Prelude.{ℕ, ◌+◌, ◌*◌, ◌%◌, ◌==◌, ◌&&◌
 use Rattle.std.specs.Int.{w32, w64}
 use Rattle.format_spec.specs.Bytes.{Bytes, same_bytes}
 use Rattle.format_spec.specs.Fields.{Reading, ◌>>=◌, gives, field, number, block, string8, any}
-use Rattle.format_spec.specs.declared.limits.TheConstants.{PAGE_SIZE, MAX_MEMORY_PAGES, MAX_STATE_PAGES, MAX_PIECES, HASH_SIZE}
+use Rattle.format_spec.specs.declared.limits.TheConstants.{PAGE_SIZE, MAX_PIECES, HASH_SIZE}
+use Rattle.format_spec.specs.Versions.{memory_limit, state_limit}
 use Rattle.state_spec.specs.State.{is_id}
 use Rattle.state_spec.specs.Files.{system_name}
 use Rattle.state_spec.specs.Manifest.{FileRow, ChunkRow}
 use Rattle.state_spec.specs.ManifestText.{Slot, at_slot, id_in, is_next_heap, is_its_stable, is_system_size}
 
--- the size of a memory, where those before have this size together
+-- the size of a memory in version 1, where those before have this size together
 abbrev pub fits_memory : ℕ → ℕ → Bool
 fits_memory total size =
     size % PAGE_SIZE == 0
-    && nat_le size (MAX_MEMORY_PAGES * PAGE_SIZE)
-    && nat_le (total + size) (MAX_STATE_PAGES * PAGE_SIZE)
+    && nat_le size (memory_limit 1 * PAGE_SIZE)
+    && nat_le (total + size) (state_limit 1 * PAGE_SIZE)
 
 -- a row whose name and size keep these rules
 abbrev pub file_with : (Bytes → Bool) → (ℕ → Bool) → Reading FileRow

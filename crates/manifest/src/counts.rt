@@ -53,7 +53,7 @@ pub fn count(system: &[u8], sys: &SysState) -> Counts
 fn counts_of(sizes: &Sizes, more: u64) -> Counts
     requires memories { sizes.now.memories ≤ 2048 }
     requires rows { sizes.now.rows ≤ 233472 }
-    requires chunks { sizes.now.chunks ≤ 524288 }
+    requires chunks { sizes.now.chunks ≤ 1048576 }
     requires more { more ≤ 64 }
     ensures { result ≡ sized_counts sizes.now.memories sizes.now.rows (sizes.now.chunks + more) }
 {

@@ -1,6 +1,6 @@
 //! The fields of a manifest's text, each with its rule and the place where it is refused.
 
-ghost use Rattle.std.specs.Prelude.{◌≡◌, ◌==◌, ◌<◌, ◌≤◌, ◌^◌, ◌+◌, ◌*◌, ◌%◌, ◌&&◌, nat_le, nat_lt, length, IfOk, OnOk, Some};
+ghost use Rattle.std.specs.Prelude.{◌≡◌, ◌==◌, ◌<◌, ◌≤◌, ◌^◌, ◌+◌, ◌*◌, ◌%◌, ◌&&◌, nat_le, nat_lt, length, IfOk, IsTrue, OnOk, Some};
 ghost use Rattle.std.specs.Int.{w32, w64};
 ghost use Rattle.std.specs.List.{before_first, position};
 ghost use Rattle.hex.specs.Hex.{decode_of};
@@ -14,8 +14,8 @@ ghost use Rattle.manifest.specs.Reading.{fits_memory, only_id, piece_count};
 use crate::names::{SYSTEM, memory_name};
 use byte_codec::{Blob, FieldError, Reader, is_same, read_be32};
 use format_spec::{
-    MAX_CANISTERS, MAX_ID, MAX_MEMORY_PAGES, MAX_PIECES, MAX_STATE_PAGES, MAX_SYSTEM, MIN_SYSTEM,
-    PAGE_SIZE, VERSION,
+    MAX_CANISTERS, MAX_ID, MAX_PIECES, MAX_STATE_PAGES, MAX_SYSTEM, MIN_SYSTEM, PAGE_SIZE, VERSION,
+    memory_limit, state_limit,
 };
 use std::alloc::Global;
 use sys_state::CanisterId;
@@ -73,11 +73,12 @@ pub(crate) fn read_memory_size(reader: &mut Reader, total: u64) -> Result<u64, F
 }
 
 fn is_memory_size(total: u64, size: u64) -> bool
-    ensures { result ≡ fits_memory total size }
+    ensures value { result ≡ fits_memory total size }
+    ensures most { IsTrue result → total + size ≤ MAX_STATE_PAGES * PAGE_SIZE }
 {
     size % PAGE_SIZE as u64 == 0
-        && size <= (MAX_MEMORY_PAGES * PAGE_SIZE) as u64
-        && total.saturating_add(size) <= (MAX_STATE_PAGES * PAGE_SIZE) as u64
+        && size <= (memory_limit(VERSION) * PAGE_SIZE) as u64
+        && total.saturating_add(size) <= (state_limit(VERSION) * PAGE_SIZE) as u64
 }
 
 /// The size of the system text.

@@ -4,6 +4,7 @@ ghost use Rattle.manifest.specs.Fits.{FitsText};
 
 use crate::{Manifest, from_scratch};
 use byte_codec::hex_text;
+use format_spec::VERSION;
 use std::alloc::Global;
 use std::process::Abort;
 use std::test::Fail;
@@ -16,7 +17,7 @@ fn state_of(alloc: Global, id: CanisterId, pages: u32) -> Result<SysState, Fail>
 {
     let mut sys = SysState::new(alloc);
     sys.create(alloc, id.copy(), 1)?;
-    sys.extend(&id, Mem::Heap, pages.into())?;
+    sys.extend(&id, Mem::Heap, pages.into(), VERSION)?;
     Ok(sys)
 }
 

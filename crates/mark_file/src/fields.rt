@@ -60,7 +60,7 @@ pub(crate) fn read_parts(alloc: Global, system: &[u8], height: u64) -> Result<Sy
     ensures gives { Gives part_of result (read_system 1 system.now) }
     ensures births { IfOk result (λ sys. AllByRecursion (λ c. c.1.birth ≡ height) sys.canisters) }
 {
-    match SysState::decode(alloc, system, height) {
+    match SysState::decode(alloc, system, height, VERSION) {
         Ok(sys) => Ok(sys),
         Err(SysError::BadSystem(place)) => Err(FieldError::Bad(place)),
         Err(_) => Err(FieldError::Memory),

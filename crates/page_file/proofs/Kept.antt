@@ -11,8 +11,9 @@ use Rattle.page_file.proofs.Placed.{placed, length_placed, placed_are, numbers_p
 use Rattle.page_file.proofs.Steps.{behind}
 use Rattle.page_file.proofs.Texts.{text_is, index_is, length-runs_in}
 use Rattle.format_spec.proofs.Lists.{every}
+use Rattle.format_spec.specs.declared.limits.TheConstants.{MAX_MEMORY_PAGES}
 
-pub counts : (a : Inside) → IsFileIndex a → (length a.ranges.items ≤ a.count) × (a.count ≤ a.memory) × (a.memory ≤ 65536)
+pub counts : (a : Inside) → IsFileIndex a → (length a.ranges.items ≤ a.count) × (a.count ≤ a.memory) × (a.memory ≤ MAX_MEMORY_PAGES)
 counts a h = (
   omega (arith, h.count, ranges_le_numbers a.memory 0 0 a.ranges.items h.ascend),
   omega (arith, h.count, numbers_le_memory a.memory 0 0 a.ranges.items h.ascend (omega arith)),

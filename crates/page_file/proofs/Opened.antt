@@ -16,6 +16,7 @@ use Rattle.page_file.specs.Files.{NumberedFile, HasPages, IsAsKnown, HasHeader, 
 use Rattle.page_file.proofs.Kept.{pages_fit, some_run}
 use Rattle.page_file.proofs.Texts.{header_reads, index_is, length-header_text}
 use Rattle.page_spec.proofs.PageFiles.{length-index_text, length-ranges_text}
+use Rattle.format_spec.specs.declared.limits.TheConstants.{MAX_MEMORY_PAGES}
 
 -- ---- pages
 
@@ -43,7 +44,7 @@ pages_read files n place offset size i pages into file has is at read =
 
 -- ---- the header
 
-yes : (m r p : ℕ) → 1 ≤ r → r ≤ p → p ≤ m → m ≤ 65536 → are_counts m r p ≡ true
+yes : (m r p : ℕ) → 1 ≤ r → r ≤ p → p ≤ m → m ≤ MAX_MEMORY_PAGES → are_counts m r p ≡ true
 yes m r p a b c d = grind (arith, nat_tests)
 
 pub page_has_header : (text pages : Bytes) (i : PageIndex) → IsPageFile text i pages → IsHeader i.memory (length (runs_of i.numbers)) (length i.numbers) (take 32 text) (length text)

@@ -14,6 +14,7 @@ use Rattle.page_file.proofs.Runs.{test, facts, runs_of_numbers}
 use Rattle.page_file.proofs.Placed.{placed, numbers_placed}
 use Rattle.page_file.proofs.Texts.{placed_text, length-text_of, counts_are, text_is}
 use Rattle.page_file.proofs.Kept.{ranges_are, is_index}
+use Rattle.format_spec.specs.declared.limits.TheConstants.{MAX_MEMORY_PAGES}
 
 told_some : (b : Bool) (n : ℕ) (o : Option ℕ) → o ≡ (if b then Some n else None) → b ≡ true → o ≡ Some n
 told_some b n o is h = is ∙ rw h refl
@@ -35,11 +36,11 @@ pages_not pages b n o is other good count =
     let e : true ≡ not (eqb n pages) = other ∙ ap (λ o. apart o pages) (told_some b n o is good) in
     false≢true (sym (e ∙ ap not (eq-eqb n pages count)))
 
-fits : (n : ℕ) → n ≤ 65536 → from_be_bytes w32 (be32 n) ≡ n
+fits : (n : ℕ) → n ≤ MAX_MEMORY_PAGES → from_be_bytes w32 (be32 n) ≡ n
 fits n le = from_be_bytes-to_be_bytes_4 n (omega (arith, le))
 
 -- Ranges are read back from their text.
-pub read_back : (m l p : ℕ) (rs : List Range) → AreRanges m l p rs → m ≤ 65536 → p ≤ l → ranges_from (length rs) (text_of rs) ≡ rs
+pub read_back : (m l p : ℕ) (rs : List Range) → AreRanges m l p rs → m ≤ MAX_MEMORY_PAGES → p ≤ l → ranges_from (length rs) (text_of rs) ≡ rs
 read_back m l p [] h small le = refl
 read_back m l p (r ∷ rs) h small le =
     let rest = read_back m (r.first + r.length + 1) (p + r.length) rs h.4 small (omega (arith, h.0, le)) in

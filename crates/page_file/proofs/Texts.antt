@@ -12,6 +12,7 @@ use Rattle.page_file.specs.Ranges.{runs_in, AreRanges, text_of}
 use Rattle.page_file.specs.Index.{header_text, length_of, are_counts, IsHeader}
 use Rattle.page_file.proofs.Placed.{placed}
 use Rattle.page_file.proofs.Steps.{behind}
+use Rattle.format_spec.specs.declared.limits.TheConstants.{MAX_MEMORY_PAGES}
 
 pub text_is : (m l p : ℕ) (rs : List Range) → AreRanges m l p rs → text_of rs ≡ ranges_text p (runs_in rs)
 text_is m l p [] h = refl
@@ -59,7 +60,7 @@ header_written old a b c d e f g kind m r p n is_a is_b is_c is_d is_e is_f is_g
     behind old f g (codes "ICPF" ++ be32 1 ++ be32 kind ++ be32 m ++ be32 r ++ be32 p) (be64 n) five is_g
     ∙ (λ i. old ++ (codes "ICPF" ++ be32 1 ++ be32 (is_kind i) ++ be32 m ++ be32 r ++ be32 p ++ be64 (is_n i)))
 
-pub counts_are : (m r p : ℕ) → are_counts m r p ≡ true → (r ≤ p) × (p ≤ m) × (m ≤ 65536) × (1 ≤ r)
+pub counts_are : (m r p : ℕ) → are_counts m r p ≡ true → (r ≤ p) × (p ≤ m) × (m ≤ MAX_MEMORY_PAGES) × (1 ≤ r)
 counts_are m r p h = grind (arith, nat_tests)
 
 -- the numbers in a header are those that it was made of

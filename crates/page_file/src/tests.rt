@@ -19,6 +19,15 @@ fn base() -> &'static [u8] {
     b"ICPF\0\0\0\x01\0\0\0\x01\0\0\0\x01\0\0\0\x01\0\0\0\x01\0\0\0\0\0\0\x10\x2c\0\0\0\0\0\0\0\x01\0\0\0\0"
 }
 
+// The index of the overlay, of a memory of so many pages, and its bytes.
+fn overlay_of(alloc: Global, memory: u32) -> Result<Vec<u8>, PageError> {
+    let mut bytes = Vec::from_slice(alloc, &overlay()[..12])?;
+    bytes.extend_from_slice(&memory.to_be_bytes())?;
+    bytes.extend_from_slice(&overlay()[16..])?;
+    bytes.extend_from_slice(&vec![in alloc; 0; 12_288]?)?;
+    Ok(bytes)
+}
+
 // One byte of each field of the overlay's index, and a wrong value for it.
 fn wrong_bytes() -> [(usize, u8); 13] {
     [
@@ -125,6 +134,18 @@ fn an_index_is_opened(rt: HostRuntime) -> Result<(), Fail> {
     ] {
         assert_eq!(rt; index.find(page), place, "page {page}");
     }
+    Ok(())
+}
+
+#[test]
+fn a_memory_has_up_to_131072_pages(rt: HostRuntime) -> Result<(), Fail> {
+    let alloc = rt.alloc();
+    assert_eq!(rt; pages_of(alloc, &overlay_of(alloc, 65_537)?), Ok(3));
+    assert_eq!(rt; pages_of(alloc, &overlay_of(alloc, 131_072)?), Ok(3));
+    assert_eq!(rt;
+        pages_of(alloc, &overlay_of(alloc, 131_073)?),
+        Err(PageError::BadPage(5))
+    );
     Ok(())
 }
 

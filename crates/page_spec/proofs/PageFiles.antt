@@ -5,6 +5,7 @@ use Rattle.std.specs.List.{AllByRecursion, list_all, flat_map, range_with_len}
 use Rattle.std.specs.Ordering.{nat_cmp}
 use Rattle.std.proofs.lemmas.Bool.{and_parts}
 use Rattle.format_spec.specs.Bytes.{Bytes, be32, be64, ascending}
+use Rattle.format_spec.specs.declared.limits.TheConstants.{MAX_MEMORY_PAGES}
 use Rattle.format_spec.proofs.Cuts.{cons_same, cut_front, be32_same}
 use Rattle.page_spec.specs.PageFile.{PageIndex, IsIndex, before_runs, runs_of, ranges_text, kind_of, index_length, file_length, index_text, IsPageFile}
 use Rattle.format_spec.proofs.Lists.{every, below_is}
@@ -86,7 +87,7 @@ length-ranges_text n (r ∷ runs) = omega (arith, length-ranges_text (n + r.1) r
 same_run : (r s : ℕ × ℕ) → r.0 ≡ s.0 → r.1 ≡ s.1 → r ≡ s
 same_run r s p q = λ i. (p i, q i)
 
-ranges_cut : (n m : ℕ) (rs qs : Runs) (a b : Bytes) → length rs ≡ length qs → SmallRuns (2 ^ 32) 65536 rs → SmallRuns (2 ^ 32) 65536 qs → ranges_text n rs ++ a ≡ ranges_text m qs ++ b → (rs ≡ qs) × (a ≡ b)
+ranges_cut : (n m : ℕ) (rs qs : Runs) (a b : Bytes) → length rs ≡ length qs → SmallRuns (2 ^ 32) MAX_MEMORY_PAGES rs → SmallRuns (2 ^ 32) MAX_MEMORY_PAGES qs → ranges_text n rs ++ a ≡ ranges_text m qs ++ b → (rs ≡ qs) × (a ≡ b)
 ranges_cut n m [] [] a b l p q e = (refl, e)
 ranges_cut n m [] (s ∷ qs) a b l p q e = absurd cc
 ranges_cut n m (r ∷ rs) [] a b l p q e = absurd cc
@@ -100,14 +101,14 @@ ranges_cut n m (r ∷ rs) (s ∷ qs) a b l p q e =
 
 -- ---- the index
 
-small_of : (n k m : ℕ) (runs : Runs) → n ≤ 65536 → k ≤ 65536 → SmallRuns n k runs → SmallRuns (2 ^ 32) 65536 runs
+small_of : (n k m : ℕ) (runs : Runs) → n ≤ MAX_MEMORY_PAGES → k ≤ MAX_MEMORY_PAGES → SmallRuns n k runs → SmallRuns (2 ^ 32) MAX_MEMORY_PAGES runs
 small_of n k m [] p q h = tt
 small_of n k m (r ∷ runs) p q h = ((omega (arith, h.0.0, p), omega (arith, h.0.1, q)), small_of n k m runs p q h.1)
 
 record IndexFacts (i : PageIndex) : Type 0 where
-  few : length i.numbers ≤ 65536
-  few_runs : length (runs_of i.numbers) ≤ 65536
-  small : SmallRuns (2 ^ 32) 65536 (runs_of i.numbers)
+  few : length i.numbers ≤ MAX_MEMORY_PAGES
+  few_runs : length (runs_of i.numbers) ≤ MAX_MEMORY_PAGES
+  small : SmallRuns (2 ^ 32) MAX_MEMORY_PAGES (runs_of i.numbers)
 
 facts : (i : PageIndex) → IsIndex i → IndexFacts i
 facts i h =

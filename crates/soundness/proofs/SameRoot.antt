@@ -9,7 +9,9 @@ use Rattle.sha2.proofs.Facts256.{length-sha256}
 use Rattle.format_spec.proofs.Cuts.{cut_front, cons_same, heads, Are32, hashes_cut}
 use Rattle.format_spec.specs.Bytes.{Bytes, parts, be32, be64, short_string}
 use Rattle.format_spec.specs.Hashes.{chunk_string, file_string, piece_string, root_string, chunk_hash, piece_hash, root_hash}
-use Rattle.format_spec.specs.declared.limits.TheConstants.{CHUNK_SIZE, PIECE_SIZE, MAX_MEMORY_PAGES}
+use Rattle.format_spec.specs.declared.limits.TheConstants.{CHUNK_SIZE, PIECE_SIZE}
+use Rattle.format_spec.specs.Versions.{memory_limit}
+use Rattle.format_spec.proofs.StateLimits.{memory_limits}
 use Rattle.state_spec.specs.State.{State, Canister, CanisterPart, Memory, IsState, IsSystem, FitsCanister, SystemPart, bytes_in, memory_bytes, system_of, part_of, pages_of, canister_without_history, SameState}
 use Rattle.state_spec.specs.SystemText.{system_text, read_system}
 use Rattle.state_spec.specs.Files.{files, heap_file, memory_files, stable_file, system_name}
@@ -130,12 +132,12 @@ few_files s h =
     let count = length-map s.canisters named in
     omega (arith, few, count, length-in_turn heap_file stable_file s.canisters, length-append (memory_files s.canisters) last)
 
-short_memory : (m : Memory) → pages_of m ≤ MAX_MEMORY_PAGES → length m.bytes < 2 ^ 64
-short_memory m h = omega (arith, h)
+short_memory : (v : ℕ) (m : Memory) → pages_of m ≤ memory_limit v → length m.bytes < 2 ^ 64
+short_memory v m h = omega (arith, h, (memory_limits v).1)
 
 short_memories : (v : ℕ) (cs : List (Bytes × Canister)) → AllByRecursion (FitsCanister v) (map (λ c. (c.0, part_of c.1)) cs) → AreShort (bytes_in cs)
 short_memories v [] h = tt
-short_memories v (c ∷ cs) h = (short_memory c.1.heap h.0.heap, (short_memory c.1.stable h.0.stable, short_memories v cs h.1))
+short_memories v (c ∷ cs) h = (short_memory v c.1.heap h.0.heap, (short_memory v c.1.stable h.0.stable, short_memories v cs h.1))
 
 -- ---- down to the bytes
 

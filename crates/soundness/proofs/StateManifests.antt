@@ -11,7 +11,8 @@ use Rattle.std.proofs.lemmas.List.Sums.{sum_by-cons}
 use Rattle.format_spec.proofs.Cuts.{Are32, chunks_32}
 use Rattle.format_spec.specs.Bytes.{Bytes, are_bytes, bytes_cmp, ascending, parts, part_count}
 use Rattle.format_spec.specs.Hashes.{ChunkSum, chunk_hash, file_hash}
-use Rattle.format_spec.specs.declared.limits.TheConstants.{CHUNK_SIZE, PAGE_SIZE, MAX_MEMORY_PAGES, MAX_STATE_PAGES, MAX_SYSTEM}
+use Rattle.format_spec.specs.declared.limits.TheConstants.{CHUNK_SIZE, PAGE_SIZE, MAX_SYSTEM}
+use Rattle.format_spec.specs.Versions.{memory_limit, state_limit}
 use Rattle.format_spec.proofs.ByteStrings.{tested}
 use Rattle.format_spec.proofs.Lists.{all_join, all_weaker}
 use Rattle.state_spec.specs.State.{State, Canister, IsByteCanister, CanisterPart, Memory, IsState, IsMemory, FitsCanister, system_of, part_of, pages_of, pages_in, all_pages, is_id}
@@ -53,15 +54,15 @@ row_names : (cs : List (Bytes × Canister)) (last : FileRow) → last.name ≡ s
 row_names [] last e = ap (λ (x : Bytes). x ∷ []) e
 row_names (c ∷ cs) last e = ap (λ (x : List Bytes). heap_name c.0 ∷ stable_name c.0 ∷ x) (row_names cs last e)
 
-abbrev FitsMemory : FileRow → Type 0
-FitsMemory r = (r.size % PAGE_SIZE ≡ 0) × (r.size ≤ MAX_MEMORY_PAGES * PAGE_SIZE)
+abbrev FitsMemory : ℕ → FileRow → Type 0
+FitsMemory v r = (r.size % PAGE_SIZE ≡ 0) × (r.size ≤ memory_limit v * PAGE_SIZE)
 
-memory_size : (m : Memory) → IsMemory m → pages_of m ≤ MAX_MEMORY_PAGES → (length m.bytes % PAGE_SIZE ≡ 0) × (length m.bytes ≤ MAX_MEMORY_PAGES * PAGE_SIZE)
-memory_size m h p = (h.whole_pages, omega (arith, h.whole_pages, p))
+memory_size : (v : ℕ) (m : Memory) → IsMemory m → pages_of m ≤ memory_limit v → (length m.bytes % PAGE_SIZE ≡ 0) × (length m.bytes ≤ memory_limit v * PAGE_SIZE)
+memory_size v m h p = (h.whole_pages, omega (arith, h.whole_pages, p))
 
-rows_fit : (v : ℕ) (cs : List (Bytes × Canister)) → AllByRecursion (FitsCanister v) (map named cs) → AllByRecursion (λ c. IsMemory c.1.heap × IsMemory c.1.stable) cs → AllByRecursion FitsMemory (memory_rows cs)
+rows_fit : (v : ℕ) (cs : List (Bytes × Canister)) → AllByRecursion (FitsCanister v) (map named cs) → AllByRecursion (λ c. IsMemory c.1.heap × IsMemory c.1.stable) cs → AllByRecursion (FitsMemory v) (memory_rows cs)
 rows_fit v [] p q = tt
-rows_fit v (c ∷ cs) p q = (memory_size c.1.heap q.0.0 p.0.heap, (memory_size c.1.stable q.0.1 p.0.stable, rows_fit v cs p.1 q.1))
+rows_fit v (c ∷ cs) p q = (memory_size v c.1.heap q.0.0 p.0.heap, (memory_size v c.1.stable q.0.1 p.0.stable, rows_fit v cs p.1 q.1))
 
 pub rows_sum : (cs : List (Bytes × Canister)) → AllByRecursion (λ c. IsMemory c.1.heap × IsMemory c.1.stable) cs → all_sizes (memory_rows cs) ≡ all_pages (map named cs) * PAGE_SIZE
 rows_sum [] q = refl
@@ -195,8 +196,8 @@ manifest_good s h =
       ids_good = ids_good s.version cs h.system.canisters_fit h.bytes.canisters;
       ids_ascend = ids_ascend cs h.system.ids_ascend;
       names = ap (map (λ (r : FileRow). r.name)) rows ∙ row_names cs (system_row s) refl;
-      memories_fit = subst (λ (x : List FileRow). AllByRecursion FitsMemory x) (sym front) (rows_fit s.version cs h.system.canisters_fit h.memories);
-      memories_fit_together = subst (λ (x : List FileRow). all_sizes x ≤ MAX_STATE_PAGES * PAGE_SIZE) (sym front) (omega (arith, rows_sum cs h.memories, h.system.pages_fit));
+      memories_fit = subst (λ (x : List FileRow). AllByRecursion (FitsMemory s.version) x) (sym front) (rows_fit s.version cs h.system.canisters_fit h.memories);
+      memories_fit_together = subst (λ (x : List FileRow). all_sizes x ≤ state_limit s.version * PAGE_SIZE) (sym front) (omega (arith, rows_sum cs h.memories, h.system.pages_fit));
       system_fits = subst (λ (x : List FileRow). AllByRecursion (λ r. (24 ≤ r.size) × (r.size ≤ MAX_SYSTEM)) x) (sym back) (system_size s.version (system_of s) h.system, tt);
       file_hashes = rows_32 (files s);
       chunk_hashes = chunks_have (chunk_rows 0 (map sums_of (files s))) (subst Are32 (sym (row_hashes 0 (files s))) (chunks_32 (chunks_in (files s))));

@@ -11,6 +11,7 @@ use Rattle.format_spec.proofs.Cuts.{Are32, chunks_32}
 use Rattle.format_spec.specs.Bytes.{Bytes, be32, parts}
 use Rattle.format_spec.specs.Hashes.{chunk_hash, file_hash, piece_hash}
 use Rattle.format_spec.specs.declared.limits.TheConstants.{CHUNK_SIZE, PIECE_SIZE, MAX_ID}
+use Rattle.format_spec.proofs.StateLimits.{state_limits}
 use Rattle.std.proofs.lemmas.Bool.{and_parts, leb-true}
 use Rattle.std.proofs.Common.{nat_lt, nat_le}
 use Rattle.state_spec.specs.State.{State, Canister, IsState, FitsCanister, system_of, all_pages}
@@ -70,7 +71,7 @@ chunks_bound (f ∷ fs) =
 
 -- ---- the text
 
-text_length : (s : State) → IsState s → (16 ≤ length (manifest_text (manifest_of s))) × (length (manifest_text (manifest_of s)) ≤ 386160)
+text_length : (s : State) → IsState s → (16 ≤ length (manifest_text (manifest_of s))) × (length (manifest_text (manifest_of s)) ≤ 435312)
 unfolding manifest_text manifest_of manifest_from system_of
 text_length s h =
     let cs : List (Bytes × Canister) = s.canisters in
@@ -99,9 +100,12 @@ text_length s h =
     let chunk_text = chunks_text chunks (subst Are32 (sym (row_hashes 0 fs)) (chunks_32 (chunks_in fs))) in
     step (length (manifest_text (manifest_of s))) (length (flat_map file_row_text rows)) (length (flat_map chunk_row_text chunks)) (length (flat_map file_row_text (memory_rows cs))) (length cs) (length chunks)
     (length (chunks_in fs)) (all_sizes rows) (all_sizes (memory_rows cs)) (length (system_text (system_of s))) (all_pages (map named cs)) (length fs) (length rows) (length (memory_rows cs)) (length (ids_of cs)) (length (map named cs))
-    all files_text (rows_text s.version cs h.system.canisters_fit) chunk_text chunk_number (chunks_bound fs) sizes sums h.system.pages_fit (system_size s.version (system_of s) h.system).1 row_number rows_number (row_count cs) ids_count named_count h.system.few_canisters
+    all files_text (rows_text s.version cs h.system.canisters_fit) chunk_text chunk_number (chunks_bound fs) sizes sums (few h.system.pages_fit (state_limits s.version).1) (system_size s.version (system_of s) h.system).1 row_number rows_number (row_count cs) ids_count named_count h.system.few_canisters
   where
-    step : (w f c m n k j a b t p g r q i d : ℕ) → w ≡ 16 + f + c → f ≡ m + 47 → m ≤ 228 * n → c ≡ 48 * k → k ≡ j → j * 1048576 ≤ a + g * 1048576 → a ≡ b + t → b ≡ p * 4096 → p ≤ 262144 → t ≤ 67108864 → r ≡ g → r ≡ q + 1 → q ≡ 2 * i → i ≡ n → d ≡ n → d ≤ 1024 → (16 ≤ w) × (w ≤ 386160)
+    few : {p n : ℕ} → p ≤ n → n ≤ 524288 → p ≤ 524288
+    few a b = omega (arith, a, b)
+
+    step : (w f c m n k j a b t p g r q i d : ℕ) → w ≡ 16 + f + c → f ≡ m + 47 → m ≤ 228 * n → c ≡ 48 * k → k ≡ j → j * 1048576 ≤ a + g * 1048576 → a ≡ b + t → b ≡ p * 4096 → p ≤ 524288 → t ≤ 67108864 → r ≡ g → r ≡ q + 1 → q ≡ 2 * i → i ≡ n → d ≡ n → d ≤ 1024 → (16 ≤ w) × (w ≤ 435312)
     step w f c m n k j a b t p g r q i d e1 e2 e3 e4 e5 e6 e7 e8 e9 e10 e11 e12 e13 e14 e15 e16 = (omega arith, omega arith)
 
 hashes_32 : (xs : List Bytes) → Are32 (map piece_hash xs)
@@ -122,5 +126,5 @@ meta_good s h =
     let both = step (length text) (length (parts PIECE_SIZE text)) (div_ceil (length text) PIECE_SIZE) (length (map piece_hash (parts PIECE_SIZE text))) n.0 n.1 count low high number in
     record { version = h.version; some_piece = both.0; few_pieces = both.1; hashes = hashes_32 (parts PIECE_SIZE text) }
   where
-    step : (l p k m : ℕ) → 16 ≤ l → l ≤ 386160 → p ≡ k → l ≤ k * 4096 → k * 4096 < l + 4096 → m ≡ p → (1 ≤ m) × (m ≤ 128)
+    step : (l p k m : ℕ) → 16 ≤ l → l ≤ 435312 → p ≡ k → l ≤ k * 4096 → k * 4096 < l + 4096 → m ≡ p → (1 ≤ m) × (m ≤ 128)
     step l p k m a b c d e f = (omega arith, omega arith)

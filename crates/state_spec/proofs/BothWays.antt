@@ -12,12 +12,12 @@ use Rattle.state_spec.proofs.MetaReading.{meta_found, meta_only}
 pub system_found : (version : ℕ) (text : Bytes) (s : SystemPart) → IsBytes text → read_system version text ≡ Ok s → (text ≡ system_text s) × IsSystem version s
 unfolding read_system
 system_found version text s bytes e =
-    let t = whole_takes (system_fields version) system_text SystemFits (system_law version) text s bytes e in
+    let t = whole_takes (system_fields version) system_text (SystemFits version) (system_law version) text s bytes e in
     (t.0, fits_good version s t.1)
 
 pub system_again : (version : ℕ) (s : SystemPart) → IsSystem version s → read_system version (system_text s) ≡ Ok s
 unfolding read_system
-system_again version s good = whole_again (system_fields version) system_text SystemFits (system_law version) s (good_fits version s good)
+system_again version s good = whole_again (system_fields version) system_text (SystemFits version) (system_law version) s (good_fits version s good)
 
 pub meta_is : (text : Bytes) (m : MetaManifest) → IsBytes text → read_meta text ≡ Some m → (text ≡ meta_text m) × IsMeta m
 unfolding read_meta

@@ -10,6 +10,7 @@ use Rattle.format_spec.specs.Hashes.{chunk_hash, root_hash}
 use Rattle.format_spec.specs.declared.limits.TheConstants.{CHUNK_SIZE}
 use Rattle.format_spec.proofs.Cuts.{Are32, chunks_32}
 use Rattle.format_spec.proofs.Parts.{parts_length}
+use Rattle.format_spec.proofs.StateLimits.{state_limits}
 use Rattle.state_spec.specs.State.{SystemPart, CanisterPart, all_pages}
 use Rattle.state_spec.specs.Files.{memories_in, memory_pages}
 use Rattle.state_spec.proofs.SystemSizes.{system_size}
@@ -109,4 +110,5 @@ mark_bounded height text m s is =
       bound s.canisters m.memories good.memories_fit,
       good.system_good.few_canisters,
       good.system_good.pages_fit,
+      (state_limits m.version).1,
     )

@@ -4,7 +4,9 @@ use Rattle.std.specs.List.{AllByRecursion, insert, remove}
 use Rattle.std.specs.FinMap.{is_sorted, put}
 use Rattle.std.proofs.lemmas.List.Edits.{length-insert}
 use Rattle.format_spec.specs.Bytes.{Bytes, IsBytes, bytes_cmp}
-use Rattle.format_spec.specs.declared.limits.TheConstants.{MAX_CANISTERS, MAX_MEMORY_PAGES, MAX_STATE_PAGES, MAX_CERTIFIED, MAX_MODULE}
+use Rattle.format_spec.specs.declared.limits.TheConstants.{MAX_CANISTERS, MAX_CERTIFIED, MAX_MODULE}
+use Rattle.format_spec.specs.Versions.{memory_limit, state_limit}
+use Rattle.format_spec.proofs.StateLimits.{memory_limits, state_limits, memory_limit-2, state_limit-2}
 use Rattle.state_spec.specs.State.{is_id}
 use Rattle.sys_state.specs.declared.mem.Mem.{Mem}
 use Rattle.sys_state.specs.declared.mem.Mem.TheVariants.{Heap, Stable}
@@ -50,7 +52,7 @@ module _ (s : System) (kept : IsWithinLimits s) (id : Bytes) (i : ℕ) (at : Sta
   pub was_good : Good (id, at.value)
   was_good = parts_good.1.0
 
-  pub changed : (change : CanisterRecord → CanisterRecord) (more : ℕ) → Good (id, change at.value) → (change at.value).heap + (change at.value).stable ≡ at.value.heap + at.value.stable + more → all_pages_of s + more ≤ MAX_STATE_PAGES
+  pub changed : (change : CanisterRecord → CanisterRecord) (more : ℕ) → Good (id, change at.value) → (change at.value).heap + (change at.value).stable ≡ at.value.heap + at.value.stable + more → all_pages_of s + more ≤ state_limit 2
       → Changed s (after_set (change at.value)) id more change
   changed change more good grown bound =
       let d : CanisterRecord = change at.value in
@@ -72,7 +74,7 @@ module _ (s : System) (kept : IsWithinLimits s) (id : Bytes) (i : ℕ) (at : Sta
 
   -- the same, as it is written: the entry that was read there, with its new record
   pub written : (change : CanisterRecord → CanisterRecord) (more : ℕ) (x : Named) (y : CanisterRecord) → x ≡ get_or s.canisters i x → y ≡ change x.1
-      → (Good (id, x.1) → Good (id, change x.1)) → (change x.1).heap + (change x.1).stable ≡ x.1.heap + x.1.stable + more → all_pages_of s + more ≤ MAX_STATE_PAGES
+      → (Good (id, x.1) → Good (id, change x.1)) → (change x.1).heap + (change x.1).stable ≡ x.1.heap + x.1.stable + more → all_pages_of s + more ≤ state_limit 2
       → Changed s (record s { canisters = set s.canisters i (x.0, y) }) id more change
   written change more x y read is good grown bound =
       let x_is : x ≡ (id, at.value) = entry_there bytes_cmp ids_total id s.canisters sorted i at x read in
@@ -83,7 +85,7 @@ module _ (s : System) (kept : IsWithinLimits s) (id : Bytes) (i : ℕ) (at : Sta
       let grown_now = subst (λ (c : CanisterRecord). (change c).heap + (change c).stable ≡ c.heap + c.stable + more) value_is grown in
       subst (λ (e : Named). Changed s (record s { canisters = set s.canisters i e }) id more change) (λ j. (id_is j, y_is j)) (changed change more good_now grown_now bound)
 
-  extended_good : (mem : Mem) (more : ℕ) (c : CanisterRecord) → pages_of mem c + more ≤ MAX_MEMORY_PAGES → Good (id, c) → Good (id, with_more_pages mem more c)
+  extended_good : (mem : Mem) (more : ℕ) (c : CanisterRecord) → pages_of mem c + more ≤ memory_limit 2 → Good (id, c) → Good (id, with_more_pages mem more c)
   extended_good Heap more c bound g = record { fits = record { id = g.fits.id; wasm = g.fits.wasm; certified = g.fits.certified; heap = bound; stable = g.fits.stable }; bytes = record { id = g.bytes.id; wasm = g.bytes.wasm; certified = g.bytes.certified; birth = g.bytes.birth } }
   extended_good Stable more c bound g = record { fits = record { id = g.fits.id; wasm = g.fits.wasm; certified = g.fits.certified; heap = g.fits.heap; stable = bound }; bytes = record { id = g.bytes.id; wasm = g.bytes.wasm; certified = g.bytes.certified; birth = g.bytes.birth } }
 
@@ -91,9 +93,12 @@ module _ (s : System) (kept : IsWithinLimits s) (id : Bytes) (i : ℕ) (at : Sta
   extended_pages Heap more c = omega arith
   extended_pages Stable more c = omega arith
 
-  pub extends : (mem : Mem) (more : ℕ) (x : Named) (y : CanisterRecord) → x ≡ get_or s.canisters i x → y ≡ with_more_pages mem more x.1 → pages_of mem x.1 + more ≤ MAX_MEMORY_PAGES → all_pages_of s + more ≤ MAX_STATE_PAGES
+  pub extends : (version : ℕ) (mem : Mem) (more : ℕ) (x : Named) (y : CanisterRecord) → x ≡ get_or s.canisters i x → y ≡ with_more_pages mem more x.1 → pages_of mem x.1 + more ≤ memory_limit version → all_pages_of s + more ≤ state_limit version
       → Changed s (record s { canisters = set s.canisters i (x.0, y) }) id more (with_more_pages mem more)
-  extends mem more x y read is bound sum = written (with_more_pages mem more) more x y read is (extended_good mem more x.1 bound) (extended_pages mem more x.1) sum
+  extends version mem more x y read is bound sum =
+      let most = (memory_limits version).1 in
+      let most_in_all = (state_limits version).1 in
+      written (with_more_pages mem more) more x y read is (extended_good mem more x.1 (omega (arith, bound, most, memory_limit-2))) (extended_pages mem more x.1) (omega (arith, sum, most_in_all, state_limit-2))
 
   same_sum : (n : ℕ) → n ≡ n + 0
   same_sum n = omega arith

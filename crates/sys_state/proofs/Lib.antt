@@ -1,6 +1,7 @@
 pub mod Kept
 mod Canisters
 mod Text
+pub mod Within
 pub mod Entries
 mod Last
 mod Labels

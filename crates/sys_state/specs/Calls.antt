@@ -4,7 +4,8 @@ use Rattle.std.specs.Result.{IsOkUnless}
 use Rattle.std.specs.FinMap.{find, put}
 use Rattle.format_spec.specs.Bytes.{Bytes, bytes_cmp, path_cmp}
 use Rattle.format_spec.specs.declared.limits.TheConstants.{MAX_CANISTERS, MAX_ENTRIES}
-use Rattle.state_spec.specs.State.{memory_limit, state_limit, all_pages, is_reserved, has_conflict, without}
+use Rattle.format_spec.specs.Versions.{memory_limit, state_limit}
+use Rattle.state_spec.specs.State.{all_pages, is_reserved, has_conflict, without}
 use Rattle.sys_state.specs.declared.error.SysError.{SysError}
 use Rattle.sys_state.specs.declared.error.SysError.TheVariants as errors
 use Rattle.sys_state.specs.declared.mem.Mem.{Mem}
@@ -75,15 +76,15 @@ create_refusal s id =
 abbrev pub find_refusal : System → Bytes → Option SysError
 find_refusal s id = if is_some (canister_in s id) then None else Some errors.NoCanister
 
-abbrev pub pages_refusal : System → Mem → ℕ → Option CanisterRecord → Option SysError
-pages_refusal s mem more None = Some errors.NoCanister
-pages_refusal s mem more (Some c) =
-    if nat_lt (memory_limit 1) (pages_of mem c + more) then Some errors.MemoryFull
-    else if nat_lt (state_limit 1) (all_pages_of s + more) then Some errors.StateFull
+abbrev pub pages_refusal : ℕ → System → Mem → ℕ → Option CanisterRecord → Option SysError
+pages_refusal version s mem more None = Some errors.NoCanister
+pages_refusal version s mem more (Some c) =
+    if nat_lt (memory_limit version) (pages_of mem c + more) then Some errors.MemoryFull
+    else if nat_lt (state_limit version) (all_pages_of s + more) then Some errors.StateFull
     else None
 
-abbrev pub extend_refusal : System → Bytes → Mem → ℕ → Option SysError
-extend_refusal s id mem more = pages_refusal s mem more (canister_in s id)
+abbrev pub extend_refusal : ℕ → System → Bytes → Mem → ℕ → Option SysError
+extend_refusal version s id mem more = pages_refusal version s mem more (canister_in s id)
 
 -- ---- entries
 

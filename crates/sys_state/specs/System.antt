@@ -51,8 +51,8 @@ pub record IsCanister (c : Bytes × CanisterRecord) : Type 0 where
   pub certified : IsBytes c.1.certified
   pub birth : c.1.birth < 2 ^ 64
 
--- within all limits, so that a text spells it
+-- within all limits of a version, so that a text spells it: those of version 2 are within no others
 pub record IsWithinLimits (s : System) : Type 0 where
-  pub system : IsSystem 1 (part_of s)
+  pub system : IsSystem 2 (part_of s)
   pub canisters : AllByRecursion IsCanister s.canisters
   pub entries : AllByRecursion IsByteEntry s.entries

@@ -3,7 +3,7 @@ ghost use Rattle.std.specs.Option.{option_copied};
 ghost use Rattle.std.specs.FinMap.{find};
 ghost use Rattle.format_spec.specs.Bytes.{bytes_cmp};
 ghost use Rattle.sys_state.specs.System.{IsWithinLimits};
-ghost use Rattle.state_spec.specs.State.{memory_limit};
+ghost use Rattle.format_spec.specs.declared.limits.TheConstants.{MAX_MEMORY_PAGES};
 ghost use Rattle.state_spec.specs.Places.{Places};
 ghost use Rattle.sys_state.specs.Calls.{canister_in, pages_of};
 
@@ -126,10 +126,10 @@ impl SysState {
         Some(&self.canisters[i as usize].1)
     }
 
-    /// The pages of a memory, at most 65,536. None where the canister is not there.
+    /// The pages of a memory, at most 131,072. None where the canister is not there.
     pub fn pages(&self, id: &CanisterId, mem: Mem) -> Option<u32>
         ensures value { result ≡ option_map (pages_of mem) (canister_in self.now id.now) }
-        ensures limit { IfSome result (λ n. n ≤ memory_limit 1) }
+        ensures limit { IfSome result (λ n. n ≤ MAX_MEMORY_PAGES) }
     {
         let i = self.place(id).ok()?;
         Some(self.canisters[i as usize].1.pages(mem))

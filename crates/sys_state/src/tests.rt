@@ -1,3 +1,6 @@
+ghost use Rattle.std.specs.Prelude.{◌≤◌, IsTrue};
+ghost use Rattle.format_spec.specs.Versions.{is_version};
+
 use crate::{CanisterId, Mem, Path, SysError, SysState};
 use byte_codec::{Blob, hex_bytes, hex_text};
 use std::alloc::Global;
@@ -31,7 +34,7 @@ fn spells(rt: &impl Abort, alloc: Global, state: &SysState, hex: &[u8]) -> Resul
 // The same state, copied or read from its text, has the same text.
 fn reads_back(rt: &impl Abort, alloc: Global, state: &SysState) -> Result<(), Fail> {
     let text = state.encode(alloc)?;
-    let again = SysState::decode(alloc, text.bytes(), 9)?;
+    let again = SysState::decode(alloc, text.bytes(), 9, 1)?;
     assert!(rt; again.encode(alloc)? == text);
     assert!(rt; state.copy(alloc)?.encode(alloc)? == text);
     Ok(())
@@ -39,7 +42,7 @@ fn reads_back(rt: &impl Abort, alloc: Global, state: &SysState) -> Result<(), Fa
 
 // The place where these bytes are no system text.
 fn bad_place(alloc: Global, bytes: &[u8]) -> Option<u64> {
-    match SysState::decode(alloc, bytes, 9) {
+    match SysState::decode(alloc, bytes, 9, 1) {
         Err(SysError::BadSystem(place)) => Some(place),
         _ => None,
     }
@@ -99,38 +102,81 @@ fn canisters_within_their_limits(rt: HostRuntime) -> Result<(), Fail> {
     reads_back(&rt, alloc, &state)
 }
 
-#[test]
-fn pages_within_their_limits(rt: HostRuntime) -> Result<(), Fail> {
-    let alloc = rt.alloc();
+// A state of three canisters with all the pages that it may have in this version, where a memory may have so many.
+fn full_state(rt: &impl Abort, alloc: Global, version: u32, most: u64) -> Result<SysState, Fail>
+    requires version { IsTrue (is_version version) }
+    requires most { most ≤ 131072 }
+{
     let mut state = SysState::new(alloc);
     for i in 0..3 {
         state.create(alloc, id(&[i])?, 1)?;
     }
     let cases = [
         (3, Mem::Heap, 0, Some(SysError::NoCanister)),
-        (0, Mem::Heap, 65_537, Some(SysError::MemoryFull)),
+        (0, Mem::Heap, most + 1, Some(SysError::MemoryFull)),
         (0, Mem::Heap, u64::MAX, Some(SysError::MemoryFull)),
         (0, Mem::Heap, 1, None),
-        (0, Mem::Heap, 65_535, None),
+        (0, Mem::Heap, most.saturating_sub(1), None),
         (0, Mem::Heap, 1, Some(SysError::MemoryFull)),
-        (0, Mem::Stable, 65_536, None),
-        (1, Mem::Heap, 65_536, None),
-        (1, Mem::Stable, 65_536, None),
-        (2, Mem::Heap, 65_537, Some(SysError::MemoryFull)),
+        (0, Mem::Stable, most, None),
+        (1, Mem::Heap, most, None),
+        (1, Mem::Stable, most, None),
+        (2, Mem::Heap, most + 1, Some(SysError::MemoryFull)),
         (2, Mem::Heap, 1, Some(SysError::StateFull)),
         (2, Mem::Heap, 0, None),
     ];
     for (canister, mem, pages, want) in cases {
-        assert_eq!(rt; state.extend(&id(&[canister])?, mem, pages).err(), want);
+        assert_eq!(rt;
+            state.extend(&id(&[canister])?, mem, pages, version).err(),
+            want
+        );
     }
+    Ok(state)
+}
+
+#[test]
+fn pages_within_the_limits_of_version_1(rt: HostRuntime) -> Result<(), Fail> {
+    let alloc = rt.alloc();
+    let mut state = full_state(&rt, alloc, 1, 65_536)?;
     reads_back(&rt, alloc, &state)?;
     state.remove(&id(&[1])?)?;
-    state.extend(&id(&[2])?, Mem::Stable, 65_536)?;
+    state.extend(&id(&[2])?, Mem::Stable, 65_536, 1)?;
     let record = state.canister(&id(&[2])?).ok_or("no canister")?;
     assert_eq!(rt;
         (record.pages(Mem::Heap), record.pages(Mem::Stable)),
         (0, 65_536)
     );
+    Ok(())
+}
+
+#[test]
+fn pages_within_the_limits_of_version_2(rt: HostRuntime) -> Result<(), Fail> {
+    let alloc = rt.alloc();
+    let text = full_state(&rt, alloc, 2, 131_072)?.encode(alloc)?;
+    let again = SysState::decode(alloc, text.bytes(), 9, 2)?;
+    assert!(rt; again.encode(alloc)? == text);
+    assert_eq!(rt; bad_place(alloc, text.bytes()), Some(24));
+    let more = spoiled(alloc, text.bytes(), 48, 52, &[0, 0, 0, 1])?;
+    assert_eq!(rt;
+        SysState::decode(alloc, &more, 9, 2).err(),
+        Some(SysError::BadSystem(48))
+    );
+    let larger = spoiled(alloc, text.bytes(), 24, 28, &[0, 2, 0, 1])?;
+    assert_eq!(rt;
+        SysState::decode(alloc, &larger, 9, 2).err(),
+        Some(SysError::BadSystem(24))
+    );
+    Ok(())
+}
+
+#[test]
+fn page_counts_are_read_by_the_limits_of_version_1(rt: HostRuntime) -> Result<(), Fail> {
+    let alloc = rt.alloc();
+    let text = full_state(&rt, alloc, 1, 65_536)?.encode(alloc)?;
+    let more = spoiled(alloc, text.bytes(), 48, 52, &[0, 0, 0, 1])?;
+    assert_eq!(rt; bad_place(alloc, &more), Some(48));
+    let larger = spoiled(alloc, text.bytes(), 24, 28, &[0, 1, 0, 1])?;
+    assert_eq!(rt; bad_place(alloc, &larger), Some(24));
     Ok(())
 }
 
@@ -230,10 +276,10 @@ fn a_page_is_spelled_and_read(rt: HostRuntime) -> Result<(), Fail> {
     let mut state = SysState::new(alloc);
     let canister = id(&[0])?;
     state.create(alloc, canister.copy(), 1)?;
-    state.extend(&canister, Mem::Heap, 1)?;
+    state.extend(&canister, Mem::Heap, 1, 1)?;
     let hex = b"494353590000000100000000000000000000000101000000000000010000000000000000";
     spells(&rt, alloc, &state, hex)?;
-    let again = SysState::decode(alloc, hex_bytes(alloc, hex)?.bytes(), 12)?;
+    let again = SysState::decode(alloc, hex_bytes(alloc, hex)?.bytes(), 12, 1)?;
     let record = again.canister(&canister).ok_or("no canister")?;
     assert_eq!(rt; (record.birth, record.heap), (12, 1));
     Ok(())

@@ -4,6 +4,8 @@ use Rattle.std.specs.List.{list_any, AllByRecursion, AllZip}
 use Rattle.std.proofs.lemmas.Bool.{cases_Bool, false≢true, eqb-true}
 use Rattle.format_spec.specs.Bytes.{Bytes}
 use Rattle.format_spec.specs.declared.limits.TheConstants.{PAGE_SIZE}
+use Rattle.format_spec.specs.Versions.{memory_limit}
+use Rattle.format_spec.proofs.StateLimits.{memory_limit-2}
 use Rattle.format_spec.proofs.Cuts.{heads}
 use Rattle.state_spec.specs.State.{State, Canister, CanisterPart, SystemPart, IsSystem, FitsCanister, SameState, state_from, canisters_from, canister_without_history, bytes_in, memory_bytes}
 use Rattle.state_spec.specs.Files.{memories_in, memory_pages}
@@ -33,19 +35,19 @@ sizes fs = map (λ f. f.1 * PAGE_SIZE) fs
 abbrev lengths : List Bytes → List ℕ
 lengths memories = map (λ bytes. length bytes) memories
 
-good_bytes : (bytes : Bytes) (pages : ℕ) → length bytes ≡ pages * PAGE_SIZE → pages ≤ 65536 → IsMemoryBytes bytes
-good_bytes bytes pages size few = record { whole = omega (arith, size); few = omega (arith, size, few) }
+good_bytes : (bytes : Bytes) (pages : ℕ) → length bytes ≡ pages * PAGE_SIZE → pages ≤ memory_limit 2 → IsMemoryBytes bytes
+good_bytes bytes pages size few = record { whole = omega (arith, size); few = omega (arith, size, few, memory_limit-2) }
 
-all_good : (cs : List (Bytes × CanisterPart)) (memories : List Bytes) → AllByRecursion (FitsCanister 1) cs → lengths memories ≡ sizes (memory_pages cs) → AllByRecursion IsMemoryBytes memories × (length memories ≡ 2 * length cs)
+all_good : (cs : List (Bytes × CanisterPart)) (memories : List Bytes) → AllByRecursion (FitsCanister 2) cs → lengths memories ≡ sizes (memory_pages cs) → AllByRecursion IsMemoryBytes memories × (length memories ≡ 2 * length cs)
 all_good cs memories good fit =
-    by_canisters (λ (cs : List (Bytes × CanisterPart)) (memories : List Bytes). AllByRecursion (FitsCanister 1) cs → AllByRecursion IsMemoryBytes memories × (length memories ≡ 2 * length cs)) (λ good. (tt, refl))
+    by_canisters (λ (cs : List (Bytes × CanisterPart)) (memories : List Bytes). AllByRecursion (FitsCanister 2) cs → AllByRecursion IsMemoryBytes memories × (length memories ≡ 2 * length cs)) (λ good. (tt, refl))
     (λ c cs heap stable memories h s before good. let rest = before good.1 in ((good_bytes heap c.1.heap h good.0.heap, (good_bytes stable c.1.stable s good.0.stable, rest.0)), omega (arith, rest.1)))
     cs memories fit good
 
-pub memories_good : (s : SystemPart) (memories : List Bytes) → IsSystem 1 s → FitMemories s memories → AllByRecursion IsMemoryBytes memories
+pub memories_good : (s : SystemPart) (memories : List Bytes) → IsSystem 2 s → FitMemories s memories → AllByRecursion IsMemoryBytes memories
 memories_good s memories good fit = (all_good s.canisters memories good.canisters_fit fit).0
 
-pub memories_few : (s : SystemPart) (memories : List Bytes) → IsSystem 1 s → FitMemories s memories → length memories ≤ 2048
+pub memories_few : (s : SystemPart) (memories : List Bytes) → IsSystem 2 s → FitMemories s memories → length memories ≤ 2048
 memories_few s memories good fit = let count = (all_good s.canisters memories good.canisters_fit fit).1 in let few = good.few_canisters in omega (arith, count, few)
 
 -- ---- the page files that the mark names

@@ -6,6 +6,7 @@ use Rattle.std.proofs.lemmas.Bool.{cases_Bool, eqb-true, ne_eqb}
 use Rattle.std.proofs.lemmas.List.{append-nil, take_all}
 use Rattle.std.proofs.lemmas.List.FromFn.{length-range_with_len}
 use Rattle.format_spec.specs.Bytes.{Bytes, ascending}
+use Rattle.format_spec.specs.declared.limits.TheConstants.{MAX_MEMORY_PAGES}
 use Rattle.std.specs.Ordering.{nat_cmp}
 use Rattle.page_spec.specs.PageFile.{PageIndex, IsIndex, runs_of, index_length}
 use Rattle.disk_model.specs.declared.name.Name.TheVariants.{Page}
@@ -27,7 +28,7 @@ use Rattle.whole_state.specs.Written.{whole_index}
 abbrev all : ℕ → List Range
 all n = record { first = 0; length = n; place = 0 } ∷ []
 
-pub whole_is_index : (n : ℕ) → 1 ≤ n → n ≤ 65536 → IsIndex (whole_index n)
+pub whole_is_index : (n : ℕ) → 1 ≤ n → n ≤ MAX_MEMORY_PAGES → IsIndex (whole_index n)
 whole_is_index n some few =
     let are : AreRanges n 0 0 (all n) = (omega arith, some, omega arith, refl, tt) in
     record {

@@ -9,6 +9,7 @@ ghost use Rattle.state_spec.specs.SystemText.{system_text};
 ghost use Rattle.store_spec.specs.Image.{Published};
 ghost use Rattle.store_spec.specs.Whole.{file_bytes, whole_length};
 ghost use Rattle.sys_state.specs.System.{part_of};
+ghost use Rattle.sys_state.specs.Memories.{AreWithin};
 ghost use Rattle.manifest.specs.Fits.{FitMemories};
 ghost use Rattle.disk_model.specs.State.{IsSettled};
 ghost use Rattle.disk_model.specs.View.{LeavesOnly};
@@ -30,7 +31,8 @@ use sys_state::SysState;
 
 /// Publishes a state at a height: writes each memory that isn't empty whole, as a page file of all its pages, then the mark with
 /// the hash of each chunk, and answers the root hash of the state's manifest. The height is from 1 to 2^62 and above all
-/// that are published, of which there are fewer than 16; there are as many memories as the canisters have, with as many bytes.
+/// that are published, of which there are fewer than 16; there are as many memories as the canisters have, with as many bytes, and
+/// they are within the limits of version 1.
 ///
 /// A crash at any moment leaves the heights before or those after; after Ok it leaves those after. Fault where the disk failed,
 /// Memory where memory ran out; the store is given up then.
@@ -47,6 +49,7 @@ pub fn checkpoint<D: Disk>(
     requires above { AllByRecursion (λ h. h.mark.height < height) store.old.heights }
     requires few { length store.old.heights < MAX_PUBLISHED }
     requires fit { FitMemories (part_of sys.now) (map (λ memory. memory.items) memories.now) }
+    requires within { AreWithin 1 (map (λ memory. memory.items) memories.now) }
     requires numbers { store.old.given ≤ 2 ^ 60 }
     requires readable { IsTrue D.tells → IsReadable store.old.heights (D.view disk.old).state.files }
     requires writable { IsTrue D.tells → IsWritable store.old height (D.view disk.old).state.files }

@@ -5,7 +5,8 @@ ghost use Rattle.std.specs.List.{AllByRecursion};
 ghost use Rattle.std.specs.Int.{w32};
 ghost use Rattle.format_spec.specs.Bytes.{IsBytes, bytes_cmp, is_after, last_key};
 ghost use Rattle.format_spec.specs.Fields.{field, number, string8, each};
-ghost use Rattle.state_spec.specs.State.{is_id, all_pages, memory_limit, state_limit};
+ghost use Rattle.format_spec.specs.Versions.{memory_limit as limit_of_memory, state_limit as limit_of_state};
+ghost use Rattle.state_spec.specs.State.{is_id, all_pages};
 ghost use Rattle.state_spec.specs.SystemText.{canister_after, wasm_form, wasm_fits};
 ghost use Rattle.byte_codec.specs.Gives.{Gives};
 ghost use Rattle.sys_state.specs.System.{IsCanister, parts, part_of_record};
@@ -13,7 +14,7 @@ ghost use Rattle.sys_state.specs.System.{IsCanister, parts, part_of_record};
 use crate::canister_id::CanisterId;
 use crate::record::CanisterRecord;
 use byte_codec::{Blob, FieldError, Reader};
-use format_spec::{MAX_CERTIFIED, MAX_MEMORY_PAGES, MAX_MODULE, MAX_STATE_PAGES};
+use format_spec::{MAX_CERTIFIED, MAX_MODULE, memory_limit, state_limit};
 use std::alloc::Global;
 
 fn comes_last(canisters: &[(CanisterId, CanisterRecord)], id: &CanisterId) -> bool
@@ -69,16 +70,17 @@ fn read_certified(alloc: Global, reader: &mut Reader) -> Result<Blob, FieldError
 }
 
 // A page count, behind so many pages of the canisters before and so many of the same one.
-fn read_pages(reader: &mut Reader, before: u32, more: u32) -> Result<u32, FieldError>
-    requires { before + more ≤ state_limit 1 }
-    ensures small { IfOk result (λ n. before + more + n ≤ state_limit 1) }
-    ensures read { Gives (λ n. (n, reader.new)) result (field (number w32) (λ n. nat_le n (memory_limit 1) && nat_le (before + more + n) (state_limit 1)) reader.old) }
+fn read_pages(reader: &mut Reader, before: u32, more: u32, version: u32) -> Result<u32, FieldError>
+    requires { before + more ≤ limit_of_state version }
+    ensures small { IfOk result (λ n. before + more + n ≤ limit_of_state version) }
+    ensures read { Gives (λ n. (n, reader.new)) result (field (number w32) (λ n. nat_le n (limit_of_memory version) && nat_le (before + more + n) (limit_of_state version)) reader.old) }
 {
     let at = reader.at() as u64;
+    let (most, most_in_all) = (memory_limit(version), state_limit(version));
     match reader.be32() {
-        Ok(pages)
-            if pages as usize <= MAX_MEMORY_PAGES
-                && (before + more + pages) as usize <= MAX_STATE_PAGES => { Ok(pages) }
+        Ok(pages) if pages as usize <= most && (before + more + pages) as usize <= most_in_all => {
+            Ok(pages)
+        }
         _ => Err(FieldError::Bad(at)),
     }
 }
@@ -90,19 +92,20 @@ fn read_canister(
     canisters: &[(CanisterId, CanisterRecord)],
     pages: u32,
     birth: u64,
+    version: u32,
 ) -> Result<(CanisterId, CanisterRecord), FieldError>
     requires pages { pages ≡ all_pages (parts canisters.now) }
-    requires small { pages ≤ state_limit 1 }
-    ensures read { Gives (λ c. ((c.0, part_of_record c.1), reader.new)) result (canister_after 1 (parts canisters.now) reader.old) }
+    requires small { pages ≤ limit_of_state version }
+    ensures read { Gives (λ c. ((c.0, part_of_record c.1), reader.new)) result (canister_after version (parts canisters.now) reader.old) }
     ensures bytes { IfOk result IsCanister }
     ensures birth { IfOk result (λ c. c.1.birth ≡ birth) }
-    ensures small { IfOk result (λ c. pages + c.1.heap + c.1.stable ≤ state_limit 1) }
+    ensures small { IfOk result (λ c. pages + c.1.heap + c.1.stable ≤ limit_of_state version) }
 {
     let id = read_id(reader, canisters)?;
     let module = read_module(alloc, reader)?;
     let certified = read_certified(alloc, reader)?;
-    let heap = read_pages(reader, pages, 0)?;
-    let stable = read_pages(reader, pages, heap)?;
+    let heap = read_pages(reader, pages, 0, version)?;
+    let stable = read_pages(reader, pages, heap, version)?;
     let record = CanisterRecord {
         module,
         certified,
@@ -118,8 +121,9 @@ pub(crate) fn read_canisters(
     reader: &mut Reader,
     count: u32,
     birth: u64,
+    version: u32,
 ) -> Result<(Vec<(CanisterId, CanisterRecord)>, u32), FieldError>
-    ensures read { Gives (λ c. (parts c.0.items, reader.new)) result (each (canister_after 1) count [] reader.old) }
+    ensures read { Gives (λ c. (parts c.0.items, reader.new)) result (each (canister_after version) count [] reader.old) }
     ensures pages { IfOk result (λ c. c.1 ≡ all_pages (parts c.0.items)) }
     ensures bytes { IfOk result (λ c. AllByRecursion IsCanister c.0.items) }
     ensures birth { IfOk result (λ c. AllByRecursion (λ d. d.1.birth ≡ birth) c.0.items) }
@@ -127,7 +131,7 @@ pub(crate) fn read_canisters(
     let mut canisters = Vec::new(alloc);
     let mut pages = 0;
     for _ in 0..count {
-        let canister = read_canister(alloc, reader, &canisters, pages, birth)?;
+        let canister = read_canister(alloc, reader, &canisters, pages, birth, version)?;
         pages += canister.1.heap + canister.1.stable;
         canisters.push(canister)?;
     }

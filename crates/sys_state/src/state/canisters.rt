@@ -1,9 +1,10 @@
 //! Changes of a state's canisters.
 
-ghost use Rattle.std.specs.Prelude.{◌≡◌, ◌≤◌, length, OnOk, OnErr, IfSome};
+ghost use Rattle.std.specs.Prelude.{◌≡◌, ◌≤◌, length, OnOk, OnErr, IfSome, IsTrue};
 ghost use Rattle.sys_state.specs.Calls.{Answers, answer, create_refusal, extend_refusal, find_refusal};
 ghost use Rattle.sys_state.specs.Calls.{Creates, Changes, Removes, newborn, with_more_pages, with_module, with_certified};
 ghost use Rattle.format_spec.specs.Bytes.{IsBytes};
+ghost use Rattle.format_spec.specs.Versions.{is_version};
 
 use super::SysState;
 use crate::canister_id::CanisterId;
@@ -11,7 +12,7 @@ use crate::error::SysError;
 use crate::mem::Mem;
 use crate::record::CanisterRecord;
 use byte_codec::Blob;
-use format_spec::{MAX_CANISTERS, MAX_CERTIFIED, MAX_MEMORY_PAGES, MAX_MODULE, MAX_STATE_PAGES};
+use format_spec::{MAX_CANISTERS, MAX_CERTIFIED, MAX_MODULE, memory_limit, state_limit};
 use std::alloc::Global;
 
 // It is where it is read that a module is known to be of bytes.
@@ -47,13 +48,20 @@ impl SysState {
         Ok(())
     }
 
-    /// Adds so many pages to a memory.
+    /// Adds so many pages to a memory, in a state of this version.
     ///
-    /// NoCanister where the canister is not there, else MemoryFull where the memory would have more than 65,536
-    /// pages, else StateFull where all memories together would have more than 262,144. After an error the state
-    /// is as it was.
-    pub fn extend(&mut self, id: &CanisterId, mem: Mem, pages: u64) -> Result<(), SysError>
-        ensures answer { result ≡ answer (extend_refusal self.old id.now mem pages) }
+    /// NoCanister where the canister is not there, else MemoryFull where the memory would have more pages than the
+    /// version allows (65,536 or 131,072), else StateFull where all memories together would have more (262,144 or
+    /// 524,288). After an error the state is as it was.
+    pub fn extend(
+        &mut self,
+        id: &CanisterId,
+        mem: Mem,
+        pages: u64,
+        version: u32,
+    ) -> Result<(), SysError>
+        requires version { IsTrue (is_version version) }
+        ensures answer { result ≡ answer (extend_refusal version self.old id.now mem pages) }
         ensures extended { OnOk result (Changes self.old self.new id.now (with_more_pages mem pages)) }
         ensures unchanged { OnErr result (self.new ≡ self.old) }
     {
@@ -62,10 +70,10 @@ impl SysState {
         };
         let record = &mut self.canisters[i as usize].1;
         let old = record.pages(mem);
-        if u64::from(old).saturating_add(pages) > MAX_MEMORY_PAGES as u64 {
+        if u64::from(old).saturating_add(pages) > memory_limit(version) as u64 {
             return Err(SysError::MemoryFull);
         }
-        if u64::from(self.pages) + pages > MAX_STATE_PAGES as u64 {
+        if u64::from(self.pages) + pages > state_limit(version) as u64 {
             return Err(SysError::StateFull);
         }
         record.set_pages(mem, old + pages as u32);

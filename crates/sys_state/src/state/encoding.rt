@@ -43,7 +43,7 @@ fn write_canister(
     id: &CanisterId,
     record: &CanisterRecord,
 ) -> Result<(), NoMemory>
-    requires { FitsCanister 1 (id.now, part_of_record «record».now) }
+    requires { FitsCanister 2 (id.now, part_of_record «record».now) }
     ensures { OnOk result (text.new ≡ text.old ++ canister_text (id.now, part_of_record «record».now)) }
 {
     write_short(text, id.bytes())?;
@@ -84,7 +84,7 @@ fn write_canisters(
     text: &mut Writer,
     canisters: &[(CanisterId, CanisterRecord)],
 ) -> Result<(), NoMemory>
-    requires { AllByRecursion (λ c. FitsCanister 1 (c.0, part_of_record c.1)) canisters.now }
+    requires { AllByRecursion (λ c. FitsCanister 2 (c.0, part_of_record c.1)) canisters.now }
     ensures { OnOk result (text.new ≡ text.old ++ flat_map (λ c. canister_text (c.0, part_of_record c.1)) canisters.now) }
 {
     for (id, record) in canisters {
@@ -107,7 +107,7 @@ impl SysState {
     /// The system text: all of the state but the births.
     pub fn encode(&self, alloc: Global) -> Result<Blob, NoMemory>
         ensures text { IfOk result (λ text. text ≡ system_text (part_of self.now)) }
-        ensures system { IsSystem 1 (part_of self.now) }
+        ensures system { IsSystem 2 (part_of self.now) }
     {
         let (canisters, entries) = (self.canisters(), self.entries());
         let size = canisters_size(&self.canisters).saturating_add(entries_size(&self.entries));

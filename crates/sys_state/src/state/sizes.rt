@@ -10,7 +10,7 @@ use crate::record::CanisterRecord;
 use byte_codec::Blob;
 
 fn canister_size(id: &CanisterId, record: &CanisterRecord) -> usize
-    requires { FitsCanister 1 (id.now, part_of_record «record».now) }
+    requires { FitsCanister 2 (id.now, part_of_record «record».now) }
 {
     let module = match &record.module {
         None => 1,
@@ -20,7 +20,7 @@ fn canister_size(id: &CanisterId, record: &CanisterRecord) -> usize
 }
 
 pub(super) fn canisters_size(canisters: &[(CanisterId, CanisterRecord)]) -> usize
-    requires { AllByRecursion (λ c. FitsCanister 1 (c.0, part_of_record c.1)) canisters.now }
+    requires { AllByRecursion (λ c. FitsCanister 2 (c.0, part_of_record c.1)) canisters.now }
 {
     let mut size = 0usize;
     for (id, record) in canisters {

@@ -34,7 +34,7 @@ loop-preserved c =
     let s1 : c.heap.inside.size ≡ heap.size = ap (λ (r : FileRow). r.size) c.heap.view_is in
     let s2 : c.stable.inside.size ≡ stable.size = ap (λ (r : FileRow). r.size) c.stable.view_is in
     let second = subst (λ (n : ℕ). stable_row id (c.loop.total + n) mid ≡ Ok (stable, end)) s1 c.in_ok-stable.ensures.row in
-    let fits = subst (λ (n : ℕ). c.loop.total + n + stable.size ≤ 2 ^ 30) s1 c.in_ok-stable.ensures.size in
+    let fits = subst (λ (n : ℕ). c.loop.total + n + stable.size ≤ 2 ^ 31) s1 c.in_ok-stable.ensures.size in
     let next = read_more c.args.count c.loop.counter c.loop.files.items c.loop.last c.loop.total c.args.reader.now c.loop.reader c.loop.invariant c.requires c.loop-test.true
     id heap mid c.in_ok-id.ensures.row c.in_ok-id.ensures.id stable end second c.in_ok-stable.ensures.id fits c.in_ok-id.ensures.short c.in_ok-stable.ensures.short in
     subst (λ (files : List FileRow). ReadSoFar c.args.count (c.loop.counter + 1) files (Some id) (c.loop.total + c.heap.inside.size + c.stable.inside.size) c.args.reader.now end)

@@ -15,7 +15,7 @@ pub returns-in-Some-clause-looks_at_most : goal.returns-in-Some-clause-looks_at_
 returns-in-Some-clause-looks_at_most g c = λ told.
     let possible = subst (λ (o : Option Header). IfSome o (λ h. IsTrue (are_counts h.memory h.ranges h.pages))) c.in-Some.is c.in_ok-header.ensures.possible in
     let counts = counts_are c.in-Some.header.memory c.in-Some.header.ranges c.in-Some.header.pages possible in
-    looks_more (32 + 12 * c.in-Some.header.ranges) 786464 _ _ (omega (arith, counts.0, counts.1, counts.2)) (looks_then 32 (12 * c.in-Some.header.ranges) _ _ _ (c.in_ok-header.ensures.looks told) (c.read_ranges.ensures.looks told))
+    looks_more (32 + 12 * c.in-Some.header.ranges) 1572896 _ _ (omega (arith, counts.0, counts.1, counts.2)) (looks_then 32 (12 * c.in-Some.header.ranges) _ _ _ (c.in_ok-header.ensures.looks told) (c.read_ranges.ensures.looks told))
 
 pub returns-in-None-clause-found : goal.returns-in-None-clause-found
 returns-in-None-clause-found g c = λ told. subst (λ o. FindsHeader (g.D.Disk.view c.args.disk.now).state.files c.args.number (Ok o)) c.in-None.is (c.in_ok-header.ensures.found told)

@@ -1,5 +1,7 @@
-use Rattle.std.proofs.Common.{◌∙◌, ap, map, refl, sym, subst, arith}
-use Rattle.sys_state.specs.System.{System}
+use Rattle.std.proofs.Common.{ℕ, ◌∙◌, ap, map, refl, sym, subst, arith}
+use Rattle.state_spec.specs.State.{IsSystem}
+use Rattle.sys_state.specs.System.{System, part_of}
+use Rattle.sys_state.proofs.Within.{memories_within}
 use Rattle.height_store.specs.KnownLaws.{shown_known}
 use Rattle.sys_state.specs.Memories.{HaveSizes}
 use Rattle.live_state.specs.StateKept.{StateView}
@@ -10,6 +12,13 @@ pub loaded-requires-clause-sizes : goal.loaded-requires-clause-sizes
 loaded-requires-clause-sizes g c =
     subst (λ (s : System). HaveSizes s.canisters (map (λ memory. memory.items) c.in_ok-memories.memories.items)) (sym (c.in_ok-copy.ensures ∙ c.sys.ensures.sys))
     (have_sizes (λ memory. memory.items) c.in_ok-memories.memories.items c.args.found.now.system c.in_ok-memories.ensures.sizes)
+
+pub loaded-requires-clause-within : goal.loaded-requires-clause-within
+loaded-requires-clause-within g c =
+    let mark = c.sys.ensures.good.parts.mark in
+    memories_within 1 (part_of c.args.found.now.system) (map (λ memory. memory.items) c.in_ok-memories.memories.items)
+    (have_sizes (λ memory. memory.items) c.in_ok-memories.memories.items c.args.found.now.system c.in_ok-memories.ensures.sizes)
+    (subst (λ (v : ℕ). IsSystem v (part_of c.args.found.now.system)) mark.version mark.system_good)
 
 pub returns-clause-state : goal.returns-clause-state
 returns-clause-state g c = λ told p shows.

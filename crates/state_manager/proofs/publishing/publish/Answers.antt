@@ -15,6 +15,9 @@ use Rattle.state_manager.proofs.publishing.publish.Goals as goal
 pub checkpoint-requires-clause-fit : goal.checkpoint-requires-clause-fit
 checkpoint-requires-clause-fit g c = rw (c.system.ensures, c.memories.ensures.value) c.memories.ensures.fit
 
+pub checkpoint-requires-clause-within : goal.checkpoint-requires-clause-within
+checkpoint-requires-clause-within g c = rw c.memories.ensures.value c.memories.ensures.within
+
 pub checkpoint-requires-clause-writable : goal.checkpoint-requires-clause-writable
 checkpoint-requires-clause-writable g c = λ told. (c.requires.over told).writable c.height.result
 

@@ -4,6 +4,7 @@ use Rattle.std.specs.List.{AllByRecursion}
 use Rattle.format_spec.specs.Bytes.{Bytes}
 use Rattle.store_spec.specs.Mark.{mark_text}
 use Rattle.sys_state.specs.System.{part_of}
+use Rattle.sys_state.proofs.Within.{system_within}
 use Rattle.store_spec.specs.Whole.{file_bytes}
 use Rattle.disk_model.specs.Moments.{at_start, then}
 use Rattle.disk_model.specs.Writing.{write_done, write_failed, write_stopped}
@@ -23,6 +24,9 @@ bytes memory = memory.items
 
 pub returns-in_err-system-clause-images : goal.returns-in_err-system-clause-images
 returns-in_err-system-clause-images g c = λ told ps s parts settled keeps. at_start _ _ (λ image now. inl (kept_stands _ _ ps keeps image now))
+
+pub mark_of-requires-clause-good : goal.mark_of-requires-clause-good
+mark_of-requires-clause-good g c = system_within 1 (part_of c.args.sys.now) (map bytes c.args.memories.now) c.requires.fit c.encode.ensures.system c.requires.within
 
 pub write_memories-requires-clause-memories : goal.write_memories-requires-clause-memories
 write_memories-requires-clause-memories g c = memories_good (part_of c.args.sys.now) (map bytes c.args.memories.now) c.encode.ensures.system c.requires.fit

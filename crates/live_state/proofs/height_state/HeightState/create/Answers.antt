@@ -3,7 +3,7 @@ use Rattle.std.proofs.lemmas.List.{length-map}
 use Rattle.live_state.specs.StateKept.{StateView, KeepsState, live_of}
 use Rattle.sys_state.proofs.Indexed.{pair_for_each}
 use Rattle.live_state.proofs.Lines.{step_create}
-use Rattle.live_state.proofs.Sized.{after_create}
+use Rattle.live_state.proofs.Sized.{after_create, within_create}
 use Rattle.live_state.proofs.height_state.HeightState.create.Goals as goal
 
 pub create_canister-requires : goal.create_canister-requires
@@ -14,6 +14,7 @@ create_canister-requires c =
 pub invariant_of-self : goal.invariant_of-self
 invariant_of-self c = record {
   sizes = after_create _ c.create_canister.result c.self.inside.sys c.create_canister.new.sys c.args.id.now c.self.inside.height (map (λ v. v.items) c.self.inside.memories.items) _ c.self.invariant.sizes c.create_canister.ensures;
+  within = within_create _ c.create_canister.result c.self.inside.sys c.create_canister.new.sys c.args.id.now c.self.inside.height (map (λ v. v.items) c.self.inside.memories.items) _ c.self.invariant.within c.create_canister.ensures;
   from_one = c.self.invariant.from_one;
   kept = tt;
 }

@@ -4,7 +4,7 @@ use Rattle.sys_state.specs.Calls as calls
 use Rattle.live_state.specs.StateKept.{StateView, KeepsState, live_of}
 use Rattle.live_state.proofs.Grown.{kept_grown}
 use Rattle.live_state.proofs.MemoryLines.{step_grow, absent_there}
-use Rattle.live_state.proofs.Sized.{is_within, has_pages, keeps_grow, steps_grow}
+use Rattle.live_state.proofs.Sized.{is_within, has_pages, keeps_grow, steps_grow, within_grow}
 use Rattle.live_state.proofs.height_state.HeightState.grow.Goals as goal
 
 pub returns-in_default : goal.returns-in_default
@@ -27,6 +27,8 @@ invariant_of-self c =
     record {
       sizes = keeps_grow (λ v. v.items) c.self.inside.memories.items c.self.inside.sys c.grow_memory.new.sys c.args.id.now c.in-Ok.place c.args.mem memory c.grow_memory.new.memory c.self.invariant.sizes c.in-Ok.ensures
           c.memory_index.result c.memory_index.ensures c.index_mut-memory.ensures.value _ c.grow_memory.result c.args.pages c.grow_memory.ensures;
+      within = within_grow (λ v. v.items) c.self.inside.memories.items c.self.inside.sys c.grow_memory.new.sys c.args.id.now c.in-Ok.place c.args.mem memory c.grow_memory.new.memory c.self.invariant.sizes c.in-Ok.ensures
+          c.memory_index.result c.memory_index.ensures c.index_mut-memory.ensures.value c.grow_memory.result c.args.pages c.self.invariant.within c.grow_memory.ensures;
       from_one = c.self.invariant.from_one;
       kept = kept_grown _ c.grow_memory.result c.self.inside.sys c.grow_memory.new.sys c.args.id.now c.args.mem c.args.pages _ _ c.self.inside.tree c.grow_memory.ensures c.self.invariant.kept;
     }

@@ -3,7 +3,7 @@ use Rattle.std.proofs.lemmas.List.{length-map}
 use Rattle.live_state.specs.StateKept.{StateView, KeepsState, live_of}
 use Rattle.sys_state.proofs.Indexed.{pair_for_each}
 use Rattle.live_state.proofs.Lines.{step_remove}
-use Rattle.live_state.proofs.Sized.{after_remove}
+use Rattle.live_state.proofs.Sized.{after_remove, within_remove}
 use Rattle.live_state.proofs.height_state.HeightState.remove.Goals as goal
 
 pub remove_canister-requires : goal.remove_canister-requires
@@ -14,6 +14,7 @@ remove_canister-requires c =
 pub invariant_of-self : goal.invariant_of-self
 invariant_of-self c = record {
   sizes = after_remove _ c.remove_canister.result c.self.inside.sys c.remove_canister.new.sys c.args.id.now (map (λ v. v.items) c.self.inside.memories.items) _ c.self.invariant.sizes c.remove_canister.ensures;
+  within = within_remove _ c.remove_canister.result c.self.inside.sys c.remove_canister.new.sys c.args.id.now (map (λ v. v.items) c.self.inside.memories.items) _ c.self.invariant.within c.remove_canister.ensures;
   from_one = c.self.invariant.from_one;
   kept = tt;
 }

@@ -1,22 +1,12 @@
-use Rattle.std.specs.Option.{IfSome, option_map}
-use Rattle.sys_state.specs.declared.mem.Mem.{Mem}
-use Rattle.sys_state.specs.declared.record.CanisterRecord.{CanisterRecord}
-use Rattle.std.proofs.Common.{Option, ◌≤◌, ◌≡◌, ◌/◌, ℕ, length, get_or, Some, None, sym, subst, refl, ap, ◌∙◌, arith}
+use Rattle.std.proofs.Common.{◌≡◌, ◌/◌, ℕ, length, get_or, Some, sym, subst, refl, ap, ◌∙◌, arith}
 use Rattle.std.specs.Vec.{vec_len}
 use Rattle.format_spec.specs.declared.limits.TheConstants.{PAGE_SIZE}
 use Rattle.sys_state.specs.Calls as calls
 use Rattle.live_state.specs.StateKept.{StateView, KeepsState, live_of}
 use Rattle.live_state.proofs.Grown.{kept_grown}
 use Rattle.live_state.proofs.MemoryLines.{step_write, absent_there}
-use Rattle.live_state.proofs.Sized.{is_within, has_pages, keeps_write, steps_write}
+use Rattle.live_state.proofs.Sized.{is_within, has_pages, keeps_write, steps_write, within_write, few_pages}
 use Rattle.live_state.proofs.height_state.HeightState.write.Goals as goal
-
--- the pages of the memory, and that they are within the limit
-sized : (o : Option CanisterRecord) (r : CanisterRecord) (found : Option ℕ) (mem : Mem) (limit : ℕ) → o ≡ Some r → found ≡ option_map (calls.pages_of mem) o → IfSome found (λ n. n ≤ limit) → calls.pages_of mem r ≤ limit
-sized o r None mem limit e f h = absurd (cc (f ∙ ap (option_map (calls.pages_of mem)) e))
-sized o r (Some n) mem limit e f h =
-    let is : n ≡ calls.pages_of mem r = cc (f ∙ ap (option_map (calls.pages_of mem)) e) in
-    subst (λ (k : ℕ). k ≤ limit) is h
 
 pub returns-in_default : goal.returns-in_default
 returns-in_default c = λ m k. absent_there c.args.self.now m k c.args.id.now _ (sym (ap (λ (h : StateView). calls.canister_in h.system c.args.id.now) c.self.view_is) ∙ c.in_default.ensures.found)
@@ -41,6 +31,8 @@ invariant_of-self c =
     record {
       sizes = keeps_write (λ v. v.items) c.self.inside.memories.items c.self.inside.sys c.write_memory.new.sys c.args.id.now c.in-Ok.place c.args.mem memory c.write_memory.new.memory c.self.invariant.sizes c.in-Ok.ensures
           c.memory_index.result c.memory_index.ensures c.index_mut-memory.ensures.value _ c.write_memory.result (vec_len memory / PAGE_SIZE) c.args.offset c.args.bytes.now (omega (arith, pages, count)) c.write_memory.ensures;
+      within = within_write (λ v. v.items) c.self.inside.memories.items c.self.inside.sys c.write_memory.new.sys c.args.id.now c.in-Ok.place c.args.mem memory c.write_memory.new.memory c.self.invariant.sizes c.in-Ok.ensures
+          c.memory_index.result c.memory_index.ensures c.index_mut-memory.ensures.value c.write_memory.result (vec_len memory / PAGE_SIZE) c.args.offset c.args.bytes.now (omega (arith, pages, count)) c.self.invariant.within c.write_memory.ensures;
       from_one = c.self.invariant.from_one;
       kept = kept_grown _ c.write_memory.result c.self.inside.sys c.write_memory.new.sys c.args.id.now c.args.mem _ _ _ c.self.inside.tree c.write_memory.ensures c.self.invariant.kept;
     }
@@ -51,8 +43,9 @@ returns c = λ m k.
     let count : vec_len memory ≡ length memory.items = omega arith in
     let pages = has_pages (λ v. v.items) c.self.inside.memories.items c.self.inside.sys c.self.inside.sys c.args.id.now c.in-Ok.place c.args.mem memory memory c.self.invariant.sizes c.in-Ok.ensures memory (vec_len memory) count
     (c.index_mut-memory.ensures.value ∙ ap (λ (i : ℕ). get_or c.self.inside.memories.items i memory) c.memory_index.ensures) (Some c.in-Ok.ensures.value) c.in-Ok.ensures.found in
-    let few = sized (calls.canister_in c.self.inside.sys c.args.id.now) c.in-Ok.ensures.value c.pages-pages.result c.args.mem 65536 c.in-Ok.ensures.found c.pages-pages.ensures.value c.pages-pages.ensures.limit in
+    let few = few_pages (λ v. v.items) c.self.inside.memories.items c.self.inside.sys c.write_memory.new.sys c.args.id.now c.in-Ok.place c.args.mem memory c.write_memory.new.memory c.self.invariant.sizes c.in-Ok.ensures
+    c.memory_index.result c.memory_index.ensures c.index_mut-memory.ensures.value (vec_len memory / PAGE_SIZE) (omega (arith, pages, count)) c.self.invariant.within in
     step_write _ _ m (subst (λ (h : StateView). KeepsState h (live_of m)) (sym c.self.view_is) k) (record { height = refl }) c.args.id.now c.args.mem c.args.offset (vec_len memory / PAGE_SIZE) c.args.bytes.now c.in-Ok.ensures.value c.write_memory.new.memory.items c.write_memory.result c.in-Ok.ensures.found
-    (omega (arith, pages)) (omega (arith, pages, few))
+    (omega (arith, pages)) few
     (steps_write (λ v. v.items) c.self.inside.memories.items c.self.inside.sys c.write_memory.new.sys c.args.id.now c.in-Ok.place c.args.mem memory c.write_memory.new.memory c.self.invariant.sizes c.in-Ok.ensures
     c.memory_index.result c.memory_index.ensures c.index_mut-memory.ensures.value _ c.write_memory.result (vec_len memory / PAGE_SIZE) c.args.offset c.args.bytes.now c.write_memory.ensures)

@@ -13,7 +13,7 @@ use Rattle.sys_state.proofs.reading.canisters.read_canisters.Goals as goal
 pub returns-in_err-canister-clause-read : goal.returns-in_err-canister-clause-read
 returns-in_err-canister-clause-read c =
     let p = err_from_is_err_and c.from_residual.result c.from_residual.ensures.1 in
-    rw (p.1, p.2) (stops c.in_err-canister.field-0.0 (canister_after 1) c.args.count c.loop.counter (parts c.loop.canisters.items) c.loop.reader _ c.loop-test.true (rw c.deref.ensures.value at c.in_err-canister.ensures.read) c.loop.invariant.read)
+    rw (p.1, p.2) (stops c.in_err-canister.field-0.0 (canister_after c.args.version) c.args.count c.loop.counter (parts c.loop.canisters.items) c.loop.reader _ c.loop-test.true (rw c.deref.ensures.value at c.in_err-canister.ensures.read) c.loop.invariant.read)
 
 pub loop-preserved : goal.loop-preserved
 loop-preserved c =
@@ -23,7 +23,7 @@ loop-preserved c =
     let views : parts c.push.new.self.items ≡ parts before ++ (x.0, part_of_record x.1) ∷ [] = ap parts items ∙ map_push (λ d. (d.0, part_of_record d.1)) before x in
     let sum : all_pages (parts (before ++ x ∷ [])) ≡ all_pages (parts before) + (x.1.heap + x.1.stable) = pages-join before (x ∷ []) ∙ ap (λ (n : ℕ). all_pages (parts before) + n) (pages-one x) in
     record {
-      read = rw views (sym (each_more (canister_after 1) c.args.count c.loop.counter (parts before) c.loop.reader (x.0, part_of_record x.1) c.read_canister.new.reader c.loop-test.true (rw c.deref.ensures.value at c.in_ok-canister.ensures.read)) ∙ c.loop.invariant.read);
+      read = rw views (sym (each_more (canister_after c.args.version) c.args.count c.loop.counter (parts before) c.loop.reader (x.0, part_of_record x.1) c.read_canister.new.reader c.loop-test.true (rw c.deref.ensures.value at c.in_ok-canister.ensures.read)) ∙ c.loop.invariant.read);
       pages = rw items (omega (arith, sum, c.loop.invariant.pages));
       small = omega (arith, c.in_ok-canister.ensures.small);
       bytes = rw items (all_join IsCanister before (x ∷ []) c.loop.invariant.bytes (c.in_ok-canister.ensures.bytes, tt));
@@ -31,4 +31,4 @@ loop-preserved c =
     }
 
 pub returns-clause-read : goal.returns-clause-read
-returns-clause-read c = sym c.loop.invariant.read ∙ each_ends (canister_after 1) c.args.count c.loop.counter (parts c.loop.canisters.items) c.loop.reader c.loop-test.false
+returns-clause-read c = sym c.loop.invariant.read ∙ each_ends (canister_after c.args.version) c.args.count c.loop.counter (parts c.loop.canisters.items) c.loop.reader c.loop-test.false

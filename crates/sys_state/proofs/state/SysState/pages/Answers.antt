@@ -2,7 +2,7 @@ use Rattle.std.proofs.Math.Seq.{get_or-append_seam}
 use Rattle.std.proofs.Common.{List, ◌∷◌, ◌++◌, ◌≤◌, get_or, ◌≡◌, ℕ, Some, Result, Ok, Err, sym, ap, ◌∙◌, subst}
 use Rattle.std.specs.Option.{option_map}
 use Rattle.std.specs.Result.{result_ok}
-use Rattle.state_spec.specs.State.{memory_limit}
+use Rattle.format_spec.specs.declared.limits.TheConstants.{MAX_MEMORY_PAGES}
 use Rattle.format_spec.specs.Bytes.{Bytes, bytes_cmp}
 use Rattle.sys_state.specs.Calls.{pages_of}
 use Rattle.state_spec.specs.Places.{Places, Stands}
@@ -38,5 +38,5 @@ returns-clause-limit c =
     let at = stands c.args.id.now s c.place.result c.in_ok-i.i (sym c.ok.ensures.value ∙ c.in_ok-i.was) c.place.ensures in
     let read : c.index.result.now ≡ get_or s.canisters c.in_ok-i.i c.index.result.now = c.index.ensures ∙ ap (λ (t : System). get_or t.canisters c.in_ok-i.i c.index.result.now) c.self.view_is in
     let kept : IsWithinLimits s = subst IsWithinLimits c.self.view_is c.self.invariant.0 in
-    subst (λ (n : ℕ). n ≤ memory_limit 1) (sym (pages_at c.args.id.now s c.args.mem c.in_ok-i.i at c.index.result.now c.pages.result read c.pages.ensures))
+    subst (λ (n : ℕ). n ≤ MAX_MEMORY_PAGES) (sym (pages_at c.args.id.now s c.args.mem c.in_ok-i.i at c.index.result.now c.pages.result read c.pages.ensures))
     (found_fits s.canisters (canisters_fit s kept) c.args.id.now c.args.mem at.value at.found)
