@@ -90,15 +90,15 @@ one_call call (Err Fault) old new P sound does before middle = record {
 one_call call (Err Memory) old new P sound does before middle = subst (λ v. LeavesOnly old v P) (sym does) (at_start old P before)
 
 looked : (most : ℕ) (old new : DiskView) (P : Files → Type 0) → Looks most old new → EachImage old.state P → LeavesOnly old new P
-looked most old new P looks before = record {
+looked most old new P reads_only before = record {
   since = old.state ∷ [];
-  grows = looks.past;
+  grows = reads_only.past;
   each = (before, tt);
-  now = λ image now. before image (subst (λ s. IsImageNow s image) looks.state now);
+  now = λ image now. before image (subst (λ s. IsImageNow s image) reads_only.state now);
 }
 
 -- One call that only looks.
 pub one_look : {T : Type 0} (most : ℕ) (result : Result T DiskError) (old new : DiskView) (P : Files → Type 0) → LooksOrNot most result old new → EachImage old.state P → LeavesOnly old new P
-one_look most (Ok x) old new P looks before = looked most old new P looks before
-one_look most (Err Fault) old new P looks before = looked most old new P looks before
-one_look most (Err Memory) old new P looks before = subst (λ v. LeavesOnly old v P) (sym looks) (at_start old P before)
+one_look most (Ok x) old new P reads_only before = looked most old new P reads_only before
+one_look most (Err Fault) old new P reads_only before = looked most old new P reads_only before
+one_look most (Err Memory) old new P reads_only before = subst (λ v. LeavesOnly old v P) (sym reads_only) (at_start old P before)

@@ -3,7 +3,7 @@ use Rattle.std.specs.Prelude.{◌≡◌, ℕ, ◌+◌, ◌≤◌}
 use Rattle.std.proofs.Common.{◌∙◌, arith}
 use Rattle.disk_model.specs.Call.{Call, look, settle, create, append, seal, rename, remove, length_given, appended_after}
 use Rattle.disk_model.specs.View.{DiskView, Done}
-use Rattle.disk_model.specs.Looking.{OnlyLooks}
+use Rattle.disk_model.specs.OnlyReads.{OnlyReads}
 
 -- exactly so many bytes are appended, and so many read at most
 pub record Spends (count most : ℕ) (old new : DiskView) : Type 0 where
@@ -27,11 +27,11 @@ pub spends_more : (a r q : ℕ) (old new : DiskView) → r ≤ q → Spends a r 
 spends_more a r q old new le spends = record { appended = spends.appended; read_least = spends.read_least; read_most = omega (arith, spends.read_most) }
 
 -- calls that only look append nothing
-pub spends_looks : (most : ℕ) (old new : DiskView) → OnlyLooks most old new → Spends 0 most old new
-spends_looks most old new looks = record {
-  appended = omega (arith, looks.appended);
-  read_least = looks.read_least;
-  read_most = looks.read_most;
+pub spends_looks : (most : ℕ) (old new : DiskView) → OnlyReads most old new → Spends 0 most old new
+spends_looks most old new reads_only = record {
+  appended = omega (arith, reads_only.appended);
+  read_least = reads_only.read_least;
+  read_most = reads_only.read_most;
 }
 
 pub appended_given : (call : Call) (appended : ℕ) → appended_after call appended ≡ appended + length_given call

@@ -70,20 +70,20 @@ pub trait Disk {
     /// The numbers of the files of a kind, ascending.
     fn list(&mut self, alloc: Global, kind: Kind) -> Result<Vec<u64>, DiskError>
         ensures listing { IsTrue tells → IfOk result (λ numbers. IsListing kind (view self.old).state.files numbers.items) }
-        ensures looks { IsTrue tells → LooksOrNot 0 result (view self.old) (view self.new) }
+        ensures reads_only { IsTrue tells → LooksOrNot 0 result (view self.old) (view self.new) }
         ensures cause { HasCause (faults self.old) (faults self.new) result };
 
     /// How many bytes a file has, or `None` where there is no such file.
     fn size(&mut self, alloc: Global, name: Name) -> Result<Option<u64>, DiskError>
         ensures size { IsTrue tells → IfOk result (λ size. size ≡ option_map length ((view self.old).state.files name)) }
-        ensures looks { IsTrue tells → LooksOrNot 0 result (view self.old) (view self.new) }
+        ensures reads_only { IsTrue tells → LooksOrNot 0 result (view self.old) (view self.new) }
         ensures cause { HasCause (faults self.old) (faults self.new) result };
 
     /// Fills `into` with the bytes of a file from an offset on. The file has that many. After an error `into` has any bytes.
     fn read(&mut self, alloc: Global, name: Name, at: u64, into: &mut [u8]) -> Result<(), DiskError>
         requires { IsTrue tells → IsSomeAnd ((view self.old).state.files name) (λ bytes. at + length into.old ≤ length bytes) }
         ensures bytes { IsTrue tells → OnOk result (IsSomeAnd ((view self.old).state.files name) (λ bytes. into.new ≡ take (length into.old) (drop at bytes))) }
-        ensures looks { IsTrue tells → LooksOrNot (length into.old) result (view self.old) (view self.new) }
+        ensures reads_only { IsTrue tells → LooksOrNot (length into.old) result (view self.old) (view self.new) }
         ensures cause { HasCause (faults self.old) (faults self.new) result };
 
     /// Begins an empty file, which is loose. No file has this name yet.

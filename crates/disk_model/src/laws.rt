@@ -5,7 +5,7 @@ ghost use Rattle.disk_model.specs.Files.{Files};
 ghost use Rattle.disk_model.specs.State.{DiskState, IsImageNow};
 ghost use Rattle.disk_model.specs.Call.{Call, under_way, done, is_given, length_given};
 ghost use Rattle.disk_model.specs.View.{DiskView, moment, IsImageSince, EachImage, LeavesOnly, Done, Failed, Does};
-ghost use Rattle.disk_model.specs.Looking.{OnlyLooks};
+ghost use Rattle.disk_model.specs.OnlyReads.{OnlyReads};
 ghost use Rattle.disk_model.specs.Frame.{DependsOnly, Spares, TouchesOnly, Needs};
 ghost use Rattle.disk_model.specs.Spending.{Spends};
 ghost use Rattle.disk_model.specs.Writing.{WritesOnly};
@@ -49,7 +49,7 @@ pub fn laws_of_frames()
 pub fn laws_of_spending()
     ensures none { (v : DiskView) → Spends 0 0 v v }
     ensures joined { (a b r q : ℕ) (old mid new : DiskView) → Spends a r old mid → Spends b q mid new → Spends (a + b) (r + q) old new }
-    ensures looking { (most : ℕ) (old new : DiskView) → OnlyLooks most old new → Spends 0 most old new }
+    ensures looking { (most : ℕ) (old new : DiskView) → OnlyReads most old new → Spends 0 most old new }
     ensures call { (call : Call) (old new : DiskView) → Done call old new → Spends (length_given call) 0 old new }
 {}
 

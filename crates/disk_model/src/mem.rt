@@ -146,7 +146,7 @@ impl MemDisk {
 
     // A call that only looks, and reads so many bytes.
     fn look(&mut self, count: u64) -> Result<(), DiskError>
-        ensures looks { LooksOrNot count result (mem_view self.old) (mem_view self.new) }
+        ensures reads_only { LooksOrNot count result (mem_view self.old) (mem_view self.new) }
         ensures counted { OnOk result ((mem_view self.new).bytes_read ≡ count_after (mem_view self.old).bytes_read count) }
         ensures cause { HasCause (faults_of self.old) (faults_of self.new) result }
         ensures orders { FollowsOrders result self.old self.new }
@@ -200,7 +200,7 @@ impl Disk for MemDisk {
 
     fn list(&mut self, alloc: Global, kind: Kind) -> Result<Vec<u64>, DiskError>
         ensures listing { IfOk result (λ numbers. IsListing kind (mem_view self.old).state.files numbers.items) }
-        ensures looks { LooksOrNot 0 result (mem_view self.old) (mem_view self.new) }
+        ensures reads_only { LooksOrNot 0 result (mem_view self.old) (mem_view self.new) }
         ensures cause { HasCause (faults_of self.old) (faults_of self.new) result }
         ensures orders { FollowsOrders result self.old self.new }
     {
@@ -211,7 +211,7 @@ impl Disk for MemDisk {
 
     fn size(&mut self, _alloc: Global, name: Name) -> Result<Option<u64>, DiskError>
         ensures size { IfOk result (λ size. size ≡ option_map length ((mem_view self.old).state.files name)) }
-        ensures looks { LooksOrNot 0 result (mem_view self.old) (mem_view self.new) }
+        ensures reads_only { LooksOrNot 0 result (mem_view self.old) (mem_view self.new) }
         ensures cause { HasCause (faults_of self.old) (faults_of self.new) result }
         ensures orders { FollowsOrders result self.old self.new }
     {
@@ -232,7 +232,7 @@ impl Disk for MemDisk {
         requires { IsSomeAnd ((mem_view self.old).state.files name) (λ bytes. at + length into.old ≤ length bytes) }
         ensures bytes { OnOk result (IsSomeAnd ((mem_view self.old).state.files name) (λ bytes. into.new ≡ take (length into.old) (drop at bytes))) }
         ensures counted { OnOk result ((mem_view self.new).bytes_read ≡ count_after (mem_view self.old).bytes_read (length into.old)) }
-        ensures looks { LooksOrNot (length into.old) result (mem_view self.old) (mem_view self.new) }
+        ensures reads_only { LooksOrNot (length into.old) result (mem_view self.old) (mem_view self.new) }
         ensures cause { HasCause (faults_of self.old) (faults_of self.new) result }
         ensures orders { FollowsOrders result self.old self.new }
     {

@@ -8,7 +8,7 @@ use Rattle.format_spec.specs.declared.limits.TheConstants.{PAGE_SIZE}
 use Rattle.state_spec.specs.Files.{memories_in}
 use Rattle.sys_state.specs.System.{System, part_of}
 use Rattle.disk_model.specs.View.{DiskView}
-use Rattle.disk_model.specs.Looking.{OnlyLooks, looks_then, looks_more}
+use Rattle.disk_model.specs.OnlyReads.{OnlyReads, reads_only_then, reads_only_more}
 use Rattle.height_store.specs.Store.{StoredHeight}
 use Rattle.height_store.specs.Known.{bytes_of}
 use Rattle.state_spec.specs.Memory.{pages_holding}
@@ -24,18 +24,18 @@ abbrev sizes : ℕ → ℕ
 sizes count = count * PAGE_SIZE
 
 -- one memory more
-pub reads_next : (pages : List ℕ) (i count : ℕ) (old mid new : DiskView) → i < length pages → count ≡ get_or pages i count → OnlyLooks (sum_by sizes (take i pages)) old mid → OnlyLooks (count * PAGE_SIZE) mid new
-    → OnlyLooks (sum_by sizes (take (i + 1) pages)) old new
+pub reads_next : (pages : List ℕ) (i count : ℕ) (old mid new : DiskView) → i < length pages → count ≡ get_or pages i count → OnlyReads (sum_by sizes (take i pages)) old mid → OnlyReads (count * PAGE_SIZE) mid new
+    → OnlyReads (sum_by sizes (take (i + 1) pages)) old new
 reads_next pages i count old mid new lt here first second =
     let e : sum_by sizes (take i pages) + count * PAGE_SIZE ≡ sum_by sizes (take (i + 1) pages) = ap (λ (n : ℕ). sum_by sizes (take i pages) + n * PAGE_SIZE) here ∙ sym (sum_by_more sizes pages i count lt) in
-    subst (λ (n : ℕ). OnlyLooks n old new) e (looks_then (sum_by sizes (take i pages)) (count * PAGE_SIZE) old mid new first second)
+    subst (λ (n : ℕ). OnlyReads n old new) e (reads_only_then (sum_by sizes (take i pages)) (count * PAGE_SIZE) old mid new first second)
 
 all_sizes : (ms : List (Bytes × ℕ)) → sum_by sizes (map (λ m. m.1) ms) ≡ sum_by (λ (m : Bytes × ℕ). m.1 * PAGE_SIZE) ms
 all_sizes [] = refl
 all_sizes (m ∷ ms) = omega (arith, all_sizes ms, sum_by-cons sizes m.1 (map (λ (x : Bytes × ℕ). x.1) ms), sum_by-cons (λ (x : Bytes × ℕ). x.1 * PAGE_SIZE) m ms)
 
 -- the first memories have no more bytes than all
-pub reads_within : (h : StoredHeight) (pages : List ℕ) → pages ≡ map (λ m. m.1) (memories_in (part_of h.system)) → (i : ℕ) (old new : DiskView) → OnlyLooks (sum_by sizes (take i pages)) old new → OnlyLooks (bytes_of h) old new
-reads_within h pages are i old new looks =
+pub reads_within : (h : StoredHeight) (pages : List ℕ) → pages ≡ map (λ m. m.1) (memories_in (part_of h.system)) → (i : ℕ) (old new : DiskView) → OnlyReads (sum_by sizes (take i pages)) old new → OnlyReads (bytes_of h) old new
+reads_within h pages are i old new reads_only =
     let all : sum_by sizes pages ≡ bytes_of h = ap (sum_by sizes) are ∙ all_sizes (memories_in (part_of h.system)) in
-    looks_more _ (bytes_of h) old new (omega (arith, sum_by-take-le sizes pages i, all)) looks
+    reads_only_more _ (bytes_of h) old new (omega (arith, sum_by-take-le sizes pages i, all)) reads_only

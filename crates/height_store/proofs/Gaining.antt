@@ -249,10 +249,10 @@ pub below_mark : (hs : List StoredHeight) (m : Mark) (h : StoredHeight) → h.ma
 below_mark hs m h is below = subst (λ (m : Mark). AreBelow m.height hs) (sym is) below
 
 abbrev pub store_of : List StoredHeight → List ℕ → ℕ → ℕ → Store
-store_of hs named given next = record { heights = hs; named = named; given = given; next = next }
+store_of hs named given next = record { heights = hs; named = named; numbers_given = given; least_free = next }
 
 abbrev pub with_height : StoredHeight → Store → Store
 with_height h store = record store { heights = store.heights ++ h ∷ [] }
 
-pub gained : (inside store : Store) (hs : List StoredHeight) (h : StoredHeight) → inside ≡ store → hs ≡ inside.heights ++ h ∷ [] → store_of hs inside.named inside.given inside.next ≡ with_height h store
-gained inside store hs h is pushed = ap (λ (l : List StoredHeight). store_of l inside.named inside.given inside.next) pushed ∙ ap (with_height h) is
+pub gained : (inside store : Store) (hs : List StoredHeight) (h : StoredHeight) → inside ≡ store → hs ≡ inside.heights ++ h ∷ [] → store_of hs inside.named inside.numbers_given inside.least_free ≡ with_height h store
+gained inside store hs h is pushed = ap (λ (l : List StoredHeight). store_of l inside.named inside.numbers_given inside.least_free) pushed ∙ ap (with_height h) is

@@ -9,7 +9,7 @@ use Rattle.page_spec.specs.PageFile.{index_length}
 use Rattle.disk_model.specs.declared.name.Kind.TheVariants as kind
 use Rattle.disk_model.specs.Files.{Files, IsListing}
 use Rattle.disk_model.specs.View.{DiskView}
-use Rattle.disk_model.specs.Looking.{OnlyLooks}
+use Rattle.disk_model.specs.OnlyReads.{OnlyReads}
 use Rattle.page_file.specs.Files.{NumberedFile, IsAsKnown}
 use Rattle.height_store.specs.Bad.{AreGoodMarks, SpellsMark, memory_namings, namings}
 use Rattle.height_store.specs.Found.{IsFound}
@@ -96,7 +96,7 @@ module _ (hs : List StoredHeight) (marks : List ReadMark) (of_marks : map read_o
       ∙ ap (λ (ms : List ReadMark). list_any (λ naming. nat_eq n naming.0) (namings (map parts_of ms))) (same_marks ∙ sym of_marks) ∙ any_named n hs good
 
   pub found_by : (files : Files) (named : List ℕ) (given next : ℕ) (pages : List NumberedFile) → AreGoodMarks files (map parts_of marks) → named ≡ numbers_of pages → AllByRecursion (IsAsKnown files) pages
-      → ((all : Files) → AllByRecursion (IsAsKnown all) pages → AllByRecursion (HasStacks all) hs) → IsFound (record { heights = hs; named = named; given = given; next = next }) files
+      → ((all : Files) → AllByRecursion (IsAsKnown all) pages → AllByRecursion (HasStacks all) hs) → IsFound (record { heights = hs; named = named; numbers_given = given; least_free = next }) files
   found_by files named given next pages good once kept stacks =
       let own = subst (λ ms. AreGoodMarks files (map parts_of ms)) (sym of_marks) good in
       record {
@@ -109,8 +109,8 @@ module _ (hs : List StoredHeight) (marks : List ReadMark) (of_marks : map read_o
       }
 
   pub read_by : (files : Files) (named : List ℕ) (given next : ℕ) (pages : List NumberedFile) (old mid new : DiskView) → named ≡ numbers_of pages → AllByRecursion (IsAsKnown files) pages
-      → OnlyLooks (sum_by (λ m. length (mark_text m.mark)) marks) old mid → OnlyLooks (sum_by (λ file. index_length file.index) pages) mid new
-      → ReadsAtMost files (record { heights = hs; named = named; given = given; next = next }) old.bytes_read new.bytes_read
+      → OnlyReads (sum_by (λ m. length (mark_text m.mark)) marks) old mid → OnlyReads (sum_by (λ file. index_length file.index) pages) mid new
+      → ReadsAtMost files (record { heights = hs; named = named; numbers_given = given; least_free = next }) old.bytes_read new.bytes_read
   read_by files named given next pages old mid new once kept first second =
       let sums : sum_by (λ m. length (mark_text m.mark)) marks ≡ sum_by (λ h. length (mark_text h.mark)) hs = ap (sum_by (λ m. length (mark_text m.mark))) (sym of_marks) ∙ marks_lengths hs in
       record {

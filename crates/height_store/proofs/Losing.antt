@@ -225,10 +225,10 @@ disk_never (Err m) disk.Memory made is = absurd cc
 -- ---- the store that is left
 
 abbrev pub store_of : List StoredHeight → List ℕ → ℕ → ℕ → Store
-store_of hs named given next = record { heights = hs; named = named; given = given; next = next }
+store_of hs named given next = record { heights = hs; named = named; numbers_given = given; least_free = next }
 
-pub lost : (inside store : Store) (hs : List StoredHeight) (height : ℕ) → inside ≡ store → hs ≡ without_height inside.heights height → store_of hs inside.named inside.given inside.next ≡ less height store
-lost inside store hs height is dropped = ap (λ (l : List StoredHeight). store_of l inside.named inside.given inside.next) dropped ∙ ap (less height) is
+pub lost : (inside store : Store) (hs : List StoredHeight) (height : ℕ) → inside ≡ store → hs ≡ without_height inside.heights height → store_of hs inside.named inside.numbers_given inside.least_free ≡ less height store
+lost inside store hs height is dropped = ap (λ (l : List StoredHeight). store_of l inside.named inside.numbers_given inside.least_free) dropped ∙ ap (less height) is
 
 pub nothing_removed : (hs : List StoredHeight) (ps qs : List Published) (v : DiskView) → KeepsHeights hs v.state ps → LeavesOnly v v (StandsForEither ps qs)
 nothing_removed hs ps qs v keeps = at_start v (StandsForEither ps qs) (λ image now. inl (kept_stands hs v.state ps keeps image now))

@@ -19,7 +19,7 @@ use Rattle.disk_model.specs.declared.name.Name.TheVariants as name
 use Rattle.disk_model.specs.Files.{Files, IsListing}
 use Rattle.disk_model.specs.View.{DiskView}
 use Rattle.disk_model.specs.State.{DiskState}
-use Rattle.disk_model.specs.Looking.{OnlyLooks, looks_then, looks_more}
+use Rattle.disk_model.specs.OnlyReads.{OnlyReads, reads_only_then, reads_only_more}
 use Rattle.height_store.specs.Bad.{SpellsMark, HasGoodMark, AreGoodMarks, IsFirstBadMark, mark_bytes, marks_bytes}
 use Rattle.height_store.specs.Opened.{ReadMark, parts_of}
 use Rattle.height_store.proofs.FilesFound.{error_inside}
@@ -87,9 +87,9 @@ spelled_more files mid ms now m height is same at one all =
     subst (AllByRecursion (λ (m : ReadMark). SpellsMark files m.mark.height m.mark (part_of m.system))) (sym is)
     (all_push (λ (m : ReadMark). SpellsMark files m.mark.height m.mark (part_of m.system)) ms m all (subst (λ (h : ℕ). SpellsMark files h m.mark (part_of m.system)) (sym at) (subst (λ (f : Files). SpellsMark f height m.mark (part_of m.system)) same one)))
 
-pub looks_longer : (ms now : List ReadMark) (m : ReadMark) (old mid new : DiskView) → now ≡ ms ++ m ∷ [] → OnlyLooks (sum_by (λ m. length (mark_text m.mark)) ms) old mid → OnlyLooks (length (mark_text m.mark)) mid new → OnlyLooks (sum_by (λ m. length (mark_text m.mark)) now) old new
-looks_longer ms now m old mid new is first second =
-    subst (λ (n : ℕ). OnlyLooks n old new) (sym (ap (sum_by text_length) is ∙ sum_by-append text_length ms (m ∷ []) ∙ omega arith)) (looks_then _ _ old mid new first second)
+pub reads_only_longer : (ms now : List ReadMark) (m : ReadMark) (old mid new : DiskView) → now ≡ ms ++ m ∷ [] → OnlyReads (sum_by (λ m. length (mark_text m.mark)) ms) old mid → OnlyReads (length (mark_text m.mark)) mid new → OnlyReads (sum_by (λ m. length (mark_text m.mark)) now) old new
+reads_only_longer ms now m old mid new is first second =
+    subst (λ (n : ℕ). OnlyReads n old new) (sym (ap (sum_by text_length) is ∙ sum_by-append text_length ms (m ∷ []) ∙ omega arith)) (reads_only_then _ _ old mid new first second)
   where
     text_length : ReadMark → ℕ
     text_length m = length (mark_text m.mark)
@@ -120,12 +120,12 @@ abbrev of_height : Files → ℕ → ℕ
 of_height files height = mark_bytes (files (name.Mark height))
 
 -- one mark more
-pub reads_more : (heights : List ℕ) (i : ℕ) (old mid new : DiskView) → i < length heights → mid.state ≡ old.state → OnlyLooks (marks_bytes old.state.files (take i heights)) old mid
-    → OnlyLooks (of_height mid.state.files (get_or heights i 0)) mid new → OnlyLooks (marks_bytes old.state.files (take (i + 1) heights)) old new
+pub reads_more : (heights : List ℕ) (i : ℕ) (old mid new : DiskView) → i < length heights → mid.state ≡ old.state → OnlyReads (marks_bytes old.state.files (take i heights)) old mid
+    → OnlyReads (of_height mid.state.files (get_or heights i 0)) mid new → OnlyReads (marks_bytes old.state.files (take (i + 1) heights)) old new
 reads_more heights i old mid new lt same first second =
-    subst (λ (n : ℕ). OnlyLooks n old new) (sym (sum_by_more (of_height old.state.files) heights i 0 lt))
-    (looks_then _ _ old mid new first (subst (λ (s : DiskState). OnlyLooks (of_height s.files (get_or heights i 0)) mid new) same second))
+    subst (λ (n : ℕ). OnlyReads n old new) (sym (sum_by_more (of_height old.state.files) heights i 0 lt))
+    (reads_only_then _ _ old mid new first (subst (λ (s : DiskState). OnlyReads (of_height s.files (get_or heights i 0)) mid new) same second))
 
 -- and no more than all
-pub reads_all : (heights : List ℕ) (i : ℕ) (old new : DiskView) → OnlyLooks (marks_bytes old.state.files (take i heights)) old new → OnlyLooks (marks_bytes old.state.files heights) old new
-reads_all heights i old new looks = looks_more _ _ old new (sum_by-take-le (of_height old.state.files) heights i) looks
+pub reads_all : (heights : List ℕ) (i : ℕ) (old new : DiskView) → OnlyReads (marks_bytes old.state.files (take i heights)) old new → OnlyReads (marks_bytes old.state.files heights) old new
+reads_all heights i old new reads_only = reads_only_more _ _ old new (sum_by-take-le (of_height old.state.files) heights i) reads_only

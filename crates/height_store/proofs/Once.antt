@@ -189,7 +189,7 @@ module _ (files : Files) where
   same_store one other a b =
       let heights = same_heights files one.heights other.heights (listing_once kind.Mark files (heights_in one.heights) (heights_in other.heights) a.found.listed b.found.listed) a.good b.good a.found.marks b.found.marks a.found.stacks b.found.stacks in
       let named = same_numbers one.named other.named a.named_ascends b.named_ascends (λ n. a.named n ∙ ap (λ (hs : List StoredHeight). is_named hs n) heights ∙ sym (b.named n)) in
-      λ i. record { heights = heights i; named = named i; given = (a.next.0 ∙ sym b.next.0) i; next = (a.next.1 ∙ sym b.next.1) i }
+      λ i. record { heights = heights i; named = named i; numbers_given = (a.next.0 ∙ sym b.next.0) i; least_free = (a.next.1 ∙ sym b.next.1) i }
 
   pub opened_once : (one other : Result Store StoreError) → OpensAs files one → OpensAs files other → IsAnswered one → IsAnswered other → one ≡ other
   opened_once (Err errors.Fault) other a b told _ = absurd told

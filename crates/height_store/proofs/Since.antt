@@ -16,7 +16,7 @@ use Rattle.disk_model.specs.View.{DiskView, EachImage, LeavesOnly, Done, Does}
 use Rattle.disk_model.specs.Laws.{IsSound, or_false, settled_is_settled}
 use Rattle.disk_model.specs.Moments.{one_call, then, weaker}
 use Rattle.disk_model.specs.Frame.{TouchesOnly}
-use Rattle.disk_model.specs.Looking.{OnlyLooks, looks_leave}
+use Rattle.disk_model.specs.OnlyReads.{OnlyReads, reads_only_leave}
 use Rattle.page_file.specs.Files.{NumberedFile, IsAsKnown}
 use Rattle.store_spec.proofs.Images.{listing_once}
 use Rattle.height_store.specs.Bad.{marks_bytes}
@@ -35,21 +35,21 @@ use Rattle.height_store.proofs.Strays.{listing_kept}
 pub settle_leaves : {T : Type 0} (result : Result T DiskError) (old mid : DiskView) → IsSound old.state → Does settle result old mid → LeavesOnly old mid (IsImageNow old.state)
 settle_leaves result old mid sound does = one_call settle result old mid (IsImageNow old.state) sound does (λ image h. h) (λ image h. h)
 
-pub looks_leave_before : (most : ℕ) (old mid new : DiskView) → LeavesOnly old mid (IsImageNow old.state) → OnlyLooks most mid new → LeavesOnly old new (IsImageNow old.state)
-looks_leave_before most old mid new first looks = then old mid new (IsImageNow old.state) first (looks_leave most mid new (IsImageNow old.state) looks first.now)
+pub reads_only_leave_before : (most : ℕ) (old mid new : DiskView) → LeavesOnly old mid (IsImageNow old.state) → OnlyReads most mid new → LeavesOnly old new (IsImageNow old.state)
+reads_only_leave_before most old mid new first reads_only = then old mid new (IsImageNow old.state) first (reads_only_leave most mid new (IsImageNow old.state) reads_only first.now)
 
 pub as_before : (old new : DiskView) → EachImage old.state StandsForSome → LeavesOnly old new (IsImageNow old.state) → LeavesOnly old new (StandsAsBefore old.state)
 as_before old new each leaves = weaker old new (IsImageNow old.state) (StandsAsBefore old.state) (λ image h. let stands = each image h in (stands.0, stands.1, image, h, stands.1)) leaves
 
 -- At a bad mark no more was read than of the marks.
-pub bad_mark_read : (old mid listed new : DiskView) (marks given heights : List ℕ) → Done settle old mid → OnlyLooks 0 mid listed → IsListing kind.Mark mid.state.files marks → given ≡ marks → IsListing kind.Mark old.state.files heights
-    → OnlyLooks (marks_bytes listed.state.files given) listed new → new.bytes_read ≤ old.bytes_read + marks_bytes old.state.files heights
-bad_mark_read old mid listed new marks given heights settled lists found given_is wanted looks =
+pub bad_mark_read : (old mid listed new : DiskView) (marks given heights : List ℕ) → Done settle old mid → OnlyReads 0 mid listed → IsListing kind.Mark mid.state.files marks → given ≡ marks → IsListing kind.Mark old.state.files heights
+    → OnlyReads (marks_bytes listed.state.files given) listed new → new.bytes_read ≤ old.bytes_read + marks_bytes old.state.files heights
+bad_mark_read old mid listed new marks given heights settled lists found given_is wanted reads_only =
     let from : mid.state.files ≡ old.state.files = ap (λ (s : DiskState). s.files) settled.state in
     let same : listed.state.files ≡ old.state.files = ap (λ (s : DiskState). s.files) lists.state ∙ from in
     let are : marks ≡ heights = listing_once kind.Mark old.state.files marks heights (subst (λ (f : Files). IsListing kind.Mark f marks) from found) wanted in
     let count : marks_bytes listed.state.files given ≡ marks_bytes old.state.files heights = λ i. marks_bytes (same i) ((given_is ∙ are) i) in
-    omega (arith, looks.read_most, lists.read_most, settled.bytes_read, count)
+    omega (arith, reads_only.read_most, lists.read_most, settled.bytes_read, count)
 
 -- ---- what the marks name is no stray
 
@@ -121,7 +121,7 @@ firm_and : (a b : Bool) → a ≡ false → (a && b) ≡ false
 firm_and a b h = rw h refl
 
 module _ (store : Store) (old mid listed seen new : DiskView) (sound : IsSound old.state) (settled : mid.state ≡ done settle old.state)
-    (lists : OnlyLooks 0 mid listed) (reads : (most : ℕ) × OnlyLooks most listed seen)
+    (lists : OnlyReads 0 mid listed) (reads : (most : ℕ) × OnlyReads most listed seen)
     (found : IsFound store listed.state.files) (good : AllByRecursion IsHeight store.heights)
     (names : (n : ℕ) → list_any (nat_eq n) store.named ≡ is_named store.heights n) where
   listed_state : listed.state ≡ done settle old.state

@@ -24,7 +24,7 @@ pub record OpensAs (files : Files) (result : Result Store StoreError) : Type 0 w
   pub found : IfOk result (λ store. IsReadable store.heights files)
   pub named : IfOk result (λ store. (n : ℕ) → list_any (nat_eq n) store.named ≡ is_named store.heights n)
   pub named_ascends : IfOk result (λ store. IsStrictlyIncreasing store.named)
-  pub next : IfOk result (λ store. (store.given ≡ 0) × (store.next ≡ 0))
+  pub next : IfOk result (λ store. (store.numbers_given ≡ 0) × (store.least_free ≡ 0))
   pub opens : OnOk result (Opens files)
   pub bad_mark : (height : ℕ) → IsErrOf result (BadMark height) → IsFirstBadMark files height
   pub bad_page : (number : ℕ) → IsErrOf result (BadPage number) → IsFirstBadPage files number

@@ -25,8 +25,8 @@ pub record StoredHeight : Type 0 where
 pub record Store : Type 0 where
   pub heights : List StoredHeight
   pub named : List ℕ
-  pub given : ℕ
-  pub next : ℕ
+  pub numbers_given : ℕ
+  pub least_free : ℕ
 
 abbrev pub heights_in : List StoredHeight → List ℕ
 heights_in hs = map (λ h. h.mark.height) hs
@@ -72,7 +72,7 @@ pub record IsStore (store : Store) : Type 0 where
   pub few : length store.heights ≤ MAX_PUBLISHED
   pub named_ascends : IsStrictlyIncreasing store.named
   -- a number that was passed was given or is named
-  pub passed : store.next ≤ store.given + count_by (λ n. nat_lt n store.next) store.named
+  pub passed : store.least_free ≤ store.numbers_given + count_by (λ n. nat_lt n store.least_free) store.named
 
 -- ---- the names of files that a store needs
 
@@ -90,12 +90,12 @@ is_needed hs q = false
 
 -- a number that page files may have, since a mark named it at opening or it was given
 abbrev pub is_used : Store → ℕ → Bool
-is_used store n = list_any (nat_eq n) store.named || nat_lt n store.next
+is_used store n = list_any (nat_eq n) store.named || nat_lt n store.least_free
 
 -- one line has given numbers to as many page files as it may, at most
 pub record GivesFew (old new : Store) : Type 0 where
-  pub least : old.given ≤ new.given
-  pub most : new.given ≤ old.given + MAX_GIVEN
+  pub least : old.numbers_given ≤ new.numbers_given
+  pub most : new.numbers_given ≤ old.numbers_given + MAX_GIVEN
 
 -- n is the least number from this one on that no mark named at opening
 pub record IsNextFree (named : List ℕ) (from n : ℕ) : Type 0 where

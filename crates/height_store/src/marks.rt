@@ -9,7 +9,7 @@ ghost use Rattle.disk_model.specs.declared.name.Kind.TheVariants as kind;
 ghost use Rattle.disk_model.specs.declared.name.Name.TheVariants as name;
 ghost use Rattle.disk_model.specs.Files.{IsListing};
 ghost use Rattle.disk_model.specs.Causes.{Fails, FailsFor};
-ghost use Rattle.disk_model.specs.Looking.{OnlyLooks};
+ghost use Rattle.disk_model.specs.OnlyReads.{OnlyReads};
 ghost use Rattle.height_store.specs.Bad.{AreGoodMarks, IsFirstBadMark, HasGoodMark, SpellsMark, mark_bytes, marks_bytes};
 ghost use Rattle.height_store.specs.Errors.{IsBadMark, disk_error};
 ghost use Rattle.height_store.specs.Opened.{parts_of};
@@ -54,8 +54,8 @@ pub(crate) fn read_marks<D: Disk>(
     ensures heights { IfOk result (λ marks. map (λ m. m.mark.height) marks.items ≡ heights.now) }
     ensures few { IfOk result (λ marks. length marks.items ≤ MAX_PUBLISHED) }
     ensures bad_mark { IsTrue D.tells → (height : ℕ) → IsErrOf result (StoreError.BadMark height) → IsFirstBadMark (D.view disk.old).state.files height }
-    ensures looks { IsTrue D.tells → IfOk result (λ marks. OnlyLooks (sum_by (λ m. length (mark_text m.mark)) marks.items) (D.view disk.old) (D.view disk.new)) }
-    ensures reads { IsTrue D.tells → OnlyLooks (marks_bytes (D.view disk.old).state.files heights.now) (D.view disk.old) (D.view disk.new) }
+    ensures reads_only { IsTrue D.tells → IfOk result (λ marks. OnlyReads (sum_by (λ m. length (mark_text m.mark)) marks.items) (D.view disk.old) (D.view disk.new)) }
+    ensures reads { IsTrue D.tells → OnlyReads (marks_bytes (D.view disk.old).state.files heights.now) (D.view disk.old) (D.view disk.new) }
     ensures cause { FailsFor D.Disk disk_error IsBadMark disk.old disk.new result }
 {
     let mut marks = Vec::new(alloc);
@@ -74,8 +74,8 @@ fn read_mark<D: Disk>(alloc: Global, disk: &mut D, height: u64) -> Result<Opened
     ensures height { IfOk result (λ m. m.mark.height ≡ height) }
     ensures bad { IsTrue D.tells → (n : ℕ) → IsErrOf result (StoreError.BadMark n) → HasGoodMark (D.view disk.old).state.files height → ⊥ }
     ensures number { (n : ℕ) → IsErrOf result (StoreError.BadMark n) → n ≡ height }
-    ensures looks { IsTrue D.tells → IfOk result (λ m. OnlyLooks (length (mark_text m.mark)) (D.view disk.old) (D.view disk.new)) }
-    ensures reads { IsTrue D.tells → OnlyLooks (mark_bytes ((D.view disk.old).state.files (name.Mark height))) (D.view disk.old) (D.view disk.new) }
+    ensures reads_only { IsTrue D.tells → IfOk result (λ m. OnlyReads (length (mark_text m.mark)) (D.view disk.old) (D.view disk.new)) }
+    ensures reads { IsTrue D.tells → OnlyReads (mark_bytes ((D.view disk.old).state.files (name.Mark height))) (D.view disk.old) (D.view disk.new) }
     ensures cause { FailsFor D.Disk disk_error IsBadMark disk.old disk.new result }
 {
     match read_text(alloc, disk, height)? {
@@ -92,8 +92,8 @@ fn read_text<D: Disk>(
 ) -> Result<Option<Vec<u8>>, DiskError>
     ensures text { IsTrue D.tells → IfOk result (λ text. IfSome text (λ bytes. (D.view disk.old).state.files (name.Mark height) ≡ Some bytes.items)) }
     ensures none { IsTrue D.tells → IfOk result (λ text. IfNone text (HasGoodMark (D.view disk.old).state.files height → ⊥)) }
-    ensures looks { IsTrue D.tells → IfOk result (λ text. IfSome text (λ bytes. OnlyLooks (length bytes.items) (D.view disk.old) (D.view disk.new))) }
-    ensures reads { IsTrue D.tells → OnlyLooks (mark_bytes ((D.view disk.old).state.files (name.Mark height))) (D.view disk.old) (D.view disk.new) }
+    ensures reads_only { IsTrue D.tells → IfOk result (λ text. IfSome text (λ bytes. OnlyReads (length bytes.items) (D.view disk.old) (D.view disk.new))) }
+    ensures reads { IsTrue D.tells → OnlyReads (mark_bytes ((D.view disk.old).state.files (name.Mark height))) (D.view disk.old) (D.view disk.new) }
     ensures cause { Fails D.Disk disk.old disk.new result }
 {
     let name = Name::Mark(height);

@@ -9,7 +9,7 @@ ghost use Rattle.disk_model.specs.declared.name.Name.{Name};
 ghost use Rattle.disk_model.specs.declared.name.Name.TheVariants as name;
 ghost use Rattle.disk_model.specs.Causes.{Fails, FailsFor};
 ghost use Rattle.disk_model.specs.Files.{IsListing};
-ghost use Rattle.disk_model.specs.Looking.{OnlyLooks};
+ghost use Rattle.disk_model.specs.OnlyReads.{OnlyReads};
 ghost use Rattle.disk_model.specs.State.{IsSettled, IsImageNow};
 ghost use Rattle.disk_model.specs.View.{EachImage, LeavesOnly};
 ghost use Rattle.disk_model.specs.Writing.{Writes};
@@ -64,7 +64,7 @@ impl HeightStore {
         ensures no_stage { IsTrue D.tells → OnOk result ((n : ℕ) → (D.view disk.new).state.files (name.Stage n) ≡ None) }
         ensures named { IfOk result (λ store. (n : ℕ) → list_any (nat_eq n) store.named ≡ is_named store.heights n) }
         ensures named_ascends { IfOk result (λ store. IsStrictlyIncreasing store.named) }
-        ensures next { IfOk result (λ store. (store.given ≡ 0) × (store.next ≡ 0)) }
+        ensures next { IfOk result (λ store. (store.numbers_given ≡ 0) × (store.least_free ≡ 0)) }
         ensures bad_mark_reads { IsTrue D.tells → (heights : List ℕ) → IsListing kind.Mark (D.view disk.old).state.files heights → (height : ℕ) → IsErrOf result (StoreError.BadMark height)
             → (D.view disk.new).bytes_read ≤ (D.view disk.old).bytes_read + marks_bytes (D.view disk.old).state.files heights }
         ensures read { IsTrue D.tells → IfOk result (λ store. ReadsAtMost (D.view disk.old).state.files store (D.view disk.old).bytes_read (D.view disk.new).bytes_read) }
@@ -94,7 +94,7 @@ fn list_all<D: Disk>(alloc: Global, disk: &mut D) -> Result<Lists, DiskError>
     ensures pages { IsTrue D.tells → IfOk result (λ lists. IsListing kind.Page (D.view disk.old).state.files lists.pages.items) }
     ensures drafts { IsTrue D.tells → IfOk result (λ lists. IsListing kind.Draft (D.view disk.old).state.files lists.drafts.items) }
     ensures stages { IsTrue D.tells → IfOk result (λ lists. IsListing kind.Stage (D.view disk.old).state.files lists.stages.items) }
-    ensures looks { IsTrue D.tells → OnlyLooks 0 (D.view disk.old) (D.view disk.new) }
+    ensures reads_only { IsTrue D.tells → OnlyReads 0 (D.view disk.old) (D.view disk.new) }
     ensures cause { Fails D.Disk disk.old disk.new result }
 {
     Ok(Lists {
@@ -118,11 +118,11 @@ fn read_store<D: Disk>(
     ensures bad_mark { IsTrue D.tells → (height : ℕ) → IsErrOf result (StoreError.BadMark height) → IsFirstBadMark (D.view disk.old).state.files height }
     ensures bad_page { IsTrue D.tells → (number : ℕ) → IsErrOf result (StoreError.BadPage number) → IsFirstBadPage (D.view disk.old).state.files number }
     ensures named { IfOk result (λ store. (n : ℕ) → list_any (nat_eq n) store.named ≡ is_named store.heights n) }
-    ensures next { IfOk result (λ store. (store.given ≡ 0) × (store.next ≡ 0)) }
+    ensures next { IfOk result (λ store. (store.numbers_given ≡ 0) × (store.least_free ≡ 0)) }
     ensures opens { IsTrue D.tells → OnOk result (Opens (D.view disk.old).state.files) }
     ensures read { IsTrue D.tells → IfOk result (λ store. ReadsAtMost (D.view disk.old).state.files store (D.view disk.old).bytes_read (D.view disk.new).bytes_read) }
-    ensures bad_mark_reads { IsTrue D.tells → (height : ℕ) → IsErrOf result (StoreError.BadMark height) → OnlyLooks (marks_bytes (D.view disk.old).state.files heights.now) (D.view disk.old) (D.view disk.new) }
-    ensures only_looks { IsTrue D.tells → (most : ℕ) × OnlyLooks most (D.view disk.old) (D.view disk.new) }
+    ensures bad_mark_reads { IsTrue D.tells → (height : ℕ) → IsErrOf result (StoreError.BadMark height) → OnlyReads (marks_bytes (D.view disk.old).state.files heights.now) (D.view disk.old) (D.view disk.new) }
+    ensures only_reads { IsTrue D.tells → (most : ℕ) × OnlyReads most (D.view disk.old) (D.view disk.new) }
     ensures cause { FailsFor D.Disk disk_error IsBadFile disk.old disk.new result }
 {
     check_order(heights)?;

@@ -9,7 +9,7 @@ ghost use Rattle.sys_state.specs.System.{part_of, IsWithinLimits};
 ghost use Rattle.page_spec.specs.PageFile.{index_length};
 ghost use Rattle.disk_model.specs.Causes.{FailsFor};
 ghost use Rattle.disk_model.specs.Files.{Files};
-ghost use Rattle.disk_model.specs.Looking.{OnlyLooks};
+ghost use Rattle.disk_model.specs.OnlyReads.{OnlyReads};
 ghost use Rattle.page_file.specs.Errors.{IsBadFile, page_error};
 ghost use Rattle.page_file.specs.Files.{IsAsKnown};
 ghost use Rattle.height_store.specs.Bad.{AreGoodMarks, IsFirstBadPage, IsGoodNaming, namings, mark_namings};
@@ -42,8 +42,8 @@ pub(crate) fn open_pages<D: Disk>(
     ensures named { IfOk result (λ files. (n : ℕ) → list_any (nat_eq n) (numbers_of files.items) ≡ list_any (λ naming. nat_eq n naming.0) (namings (map parts_of marks.now))) }
     ensures fits { IfOk result (λ files. FitNamings files.items (namings (map parts_of marks.now))) }
     ensures bad_page { IsTrue D.tells → (number : ℕ) → IsErrOf result (PageError.BadPage number) → IsFirstBadPage (D.view disk.old).state.files number }
-    ensures looks { IsTrue D.tells → IfOk result (λ files. OnlyLooks (sum_by (λ file. index_length file.index) files.items) (D.view disk.old) (D.view disk.new)) }
-    ensures only_looks { IsTrue D.tells → (most : ℕ) × OnlyLooks most (D.view disk.old) (D.view disk.new) }
+    ensures reads_only { IsTrue D.tells → IfOk result (λ files. OnlyReads (sum_by (λ file. index_length file.index) files.items) (D.view disk.old) (D.view disk.new)) }
+    ensures only_reads { IsTrue D.tells → (most : ℕ) × OnlyReads most (D.view disk.old) (D.view disk.new) }
     ensures cause { FailsFor D.Disk page_error IsBadFile disk.old disk.new result }
 {
     let mut namings = namings_of(alloc, marks)?;
@@ -127,8 +127,8 @@ fn open_named<D: Disk>(
     ensures named { IfOk result (λ files. (n : ℕ) → list_any (nat_eq n) (numbers_of files.items) ≡ list_any (λ naming. nat_eq n naming.0) named.now) }
     ensures fits { IfOk result (λ files. FitNamings files.items named.now) }
     ensures bad_page { IsTrue D.tells → (number : ℕ) → IsErrOf result (PageError.BadPage number) → IsFirstBadNaming (D.view disk.old).state.files named.now number }
-    ensures looks { IsTrue D.tells → IfOk result (λ files. OnlyLooks (index_bytes files.items) (D.view disk.old) (D.view disk.new)) }
-    ensures only_looks { IsTrue D.tells → (most : ℕ) × OnlyLooks most (D.view disk.old) (D.view disk.new) }
+    ensures reads_only { IsTrue D.tells → IfOk result (λ files. OnlyReads (index_bytes files.items) (D.view disk.old) (D.view disk.new)) }
+    ensures only_reads { IsTrue D.tells → (most : ℕ) × OnlyReads most (D.view disk.old) (D.view disk.new) }
     ensures cause { FailsFor D.Disk page_error IsBadFile disk.old disk.new result }
 {
     let mut files = Vec::new(alloc);
@@ -154,8 +154,8 @@ fn open_one<D: Disk>(
     ensures good { IsTrue D.tells → OnOk result (IsGoodNaming (D.view disk.old).state.files (number, pages)) }
     ensures number { (n : ℕ) → IsErrOf result (PageError.BadPage n) → n ≡ number }
     ensures bad { IsTrue D.tells → (n : ℕ) → IsErrOf result (PageError.BadPage n) → IsGoodNaming (D.view disk.old).state.files (number, pages) → ⊥ }
-    ensures looks { IsTrue D.tells → OnOk result ((most : ℕ) × (index_bytes files.new.items ≡ index_bytes files.old.items + most) × OnlyLooks most (D.view disk.old) (D.view disk.new)) }
-    ensures only_looks { IsTrue D.tells → (most : ℕ) × OnlyLooks most (D.view disk.old) (D.view disk.new) }
+    ensures reads_only { IsTrue D.tells → OnOk result ((most : ℕ) × (index_bytes files.new.items ≡ index_bytes files.old.items + most) × OnlyReads most (D.view disk.old) (D.view disk.new)) }
+    ensures only_reads { IsTrue D.tells → (most : ℕ) × OnlyReads most (D.view disk.old) (D.view disk.new) }
     ensures cause { FailsFor D.Disk page_error IsBadFile disk.old disk.new result }
 {
     if let Some(file) = find_file(files, number) {

@@ -5,7 +5,7 @@ ghost use Rattle.format_spec.specs.declared.limits.TheConstants.{PAGE_SIZE};
 ghost use Rattle.state_spec.specs.Files.{memories_in};
 ghost use Rattle.sys_state.specs.System.{part_of};
 ghost use Rattle.disk_model.specs.Causes.{FailsFor, OnlyIf};
-ghost use Rattle.disk_model.specs.Looking.{OnlyLooks};
+ghost use Rattle.disk_model.specs.OnlyReads.{OnlyReads};
 ghost use Rattle.height_store.specs.Answers.{ReadsAs};
 ghost use Rattle.height_store.specs.Errors.{disk_error};
 ghost use Rattle.height_store.specs.Kept.{IsReadable};
@@ -37,7 +37,7 @@ impl HeightStore {
 
         ensures no_height { (result ≡ Err StoreError.NoHeight) ↔ (is_some (height_at self.now.heights height) ≡ false) }
         ensures page { IsTrue D.tells → OnOk result (ReadsAs (D.view disk.old).state.files self.now.heights height file page into.new) }
-        ensures looks { IsTrue D.tells → OnlyLooks PAGE_SIZE (D.view disk.old) (D.view disk.new) }
+        ensures reads_only { IsTrue D.tells → OnlyReads PAGE_SIZE (D.view disk.old) (D.view disk.new) }
         ensures cause { FailsFor D.Disk disk_error (OnlyIf StoreError.NoHeight ⊤) disk.old disk.new result }
     {
         match self.find(height) {

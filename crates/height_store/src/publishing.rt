@@ -48,7 +48,7 @@ impl HeightStore {
         requires kept { IsTrue D.tells → AllByRecursion (AllByRecursion (IsAsKnown (D.view disk.old).state.files)) stacks.items }
 
         ensures gains { OnOk result (Gains self.old mark stacks.items self.new) }
-        ensures given { self.new.given ≡ self.old.given }
+        ensures numbers_given { self.new.numbers_given ≡ self.old.numbers_given }
         ensures readable { IsTrue D.tells → OnOk result (IsReadable self.new.heights (D.view disk.new).state.files) }
         ensures writable { IsTrue D.tells → OnOk result ((h : ℕ) → IsWritable self.old h (D.view disk.old).state.files → IsWritable self.new h (D.view disk.new).state.files) }
         ensures stands { IsTrue D.tells → (ps : List Published) (s : SystemPart) (p : Published)
@@ -87,7 +87,7 @@ impl HeightStore {
         ensures last_height { (result ≡ Err StoreError.LastHeight) ↔ IsTrue (is_newest self.old.heights height) }
         ensures refused { IsErrOf result StoreError.NoHeight ⊎ IsErrOf result StoreError.LastHeight → (self.new ≡ self.old) × (disk.new ≡ disk.old) }
         ensures store { OnOk result (self.new ≡ record self.old { heights = without_height self.old.heights height }) }
-        ensures given { self.new.given ≡ self.old.given }
+        ensures numbers_given { self.new.numbers_given ≡ self.old.numbers_given }
         ensures readable { IsTrue D.tells → OnOk result (IsReadable self.new.heights (D.view disk.new).state.files) }
         ensures writable { IsTrue D.tells → OnOk result ((h : ℕ) → IsWritable self.old h (D.view disk.old).state.files → IsWritable self.new h (D.view disk.new).state.files) }
         ensures stands { IsTrue D.tells → (ps : List Published)

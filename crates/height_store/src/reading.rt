@@ -10,7 +10,7 @@ ghost use Rattle.store_spec.specs.Image.{Published};
 ghost use Rattle.page_spec.specs.Layers.{Layer, memory_from};
 ghost use Rattle.sys_state.specs.System.{part_of};
 ghost use Rattle.disk_model.specs.Causes.{Fails};
-ghost use Rattle.disk_model.specs.Looking.{OnlyLooks};
+ghost use Rattle.disk_model.specs.OnlyReads.{OnlyReads};
 ghost use Rattle.page_file.specs.Files.{NumberedFile};
 ghost use Rattle.layer_stack.specs.Stacks.{AreLayers};
 ghost use Rattle.height_store.specs.Answers.{PageIs, RangeIs};
@@ -40,7 +40,7 @@ impl PublishedHeight {
         requires within { IsSomeAnd (slice_get (memories_in (part_of self.now.system)) file) (λ m. page < m.1) }
 
         ensures page { IsTrue D.tells → OnOk result (PageIs (D.view disk.old).state.files self.now file page into.new) }
-        ensures looks { IsTrue D.tells → OnlyLooks page_size (D.view disk.old) (D.view disk.new) }
+        ensures reads_only { IsTrue D.tells → OnlyReads page_size (D.view disk.old) (D.view disk.new) }
         ensures cause { Fails D.Disk disk.old disk.new result }
     {
         let _found = self.stacks[file as usize].read(alloc, disk, page, into)?;
@@ -63,7 +63,7 @@ impl PublishedHeight {
         ensures bytes { IsTrue D.tells → (p : Published) (memory : Bytes) → ShowsHeight (D.view disk.old).state.files self.now p
             → IsMemoryAt p.state file memory → IfOk result (λ bytes. bytes ≡ take len (drop offset memory)) }
         ensures range { IsTrue D.tells → IfOk result (RangeIs (D.view disk.old).state.files self.now file offset len) }
-        ensures looks { IsTrue D.tells → OnlyLooks (page_size * pages_holding offset len) (D.view disk.old) (D.view disk.new) }
+        ensures reads_only { IsTrue D.tells → OnlyReads (page_size * pages_holding offset len) (D.view disk.old) (D.view disk.new) }
         ensures cause { Fails D.Disk disk.old disk.new result }
     {
         // Its contract says how long a memory is at most.
@@ -84,7 +84,7 @@ impl PublishedHeight {
         ensures sizes { IfOk result (λ memories. map (λ memory. length memory.items) memories.items ≡ map (λ m. m.1 * page_size) (memories_in (part_of self.now.system))) }
         ensures bytes { IsTrue D.tells → (p : Published) → ShowsHeight (D.view disk.old).state.files self.now p
             → IfOk result (λ memories. map (λ memory. memory.items) memories.items ≡ memory_bytes p.state) }
-        ensures looks { IsTrue D.tells → OnlyLooks (bytes_of self.now) (D.view disk.old) (D.view disk.new) }
+        ensures reads_only { IsTrue D.tells → OnlyReads (bytes_of self.now) (D.view disk.old) (D.view disk.new) }
         ensures cause { Fails D.Disk disk.old disk.new result }
     {
         let pages = memory_pages(alloc, self.sys())?;
@@ -112,7 +112,7 @@ impl PublishedHeight {
         ensures bytes { IsTrue D.tells → (stack : List NumberedFile) (layers : List Layer)
             → slice_get self.now.stacks file ≡ Some stack → AreLayers (D.view disk.old).state.files stack layers
             → IfOk result (λ bytes. bytes.items ≡ memory_from pages layers) }
-        ensures looks { IsTrue D.tells → OnlyLooks (pages * page_size) (D.view disk.old) (D.view disk.new) }
+        ensures reads_only { IsTrue D.tells → OnlyReads (pages * page_size) (D.view disk.old) (D.view disk.new) }
         ensures cause { Fails D.Disk disk.old disk.new result }
     {
         self.read_range(alloc, disk, file, 0, u64::from(pages) * PAGE_SIZE as u64)
@@ -133,7 +133,7 @@ impl PublishedHeight {
 
         ensures size { IfOk result (λ bytes. length bytes.items ≡ len) }
         ensures range { IsTrue D.tells → IfOk result (λ bytes. RangeIs (D.view disk.old).state.files self.now file offset len bytes.items) }
-        ensures looks { IsTrue D.tells → OnlyLooks (page_size * pages_holding offset len) (D.view disk.old) (D.view disk.new) }
+        ensures reads_only { IsTrue D.tells → OnlyReads (page_size * pages_holding offset len) (D.view disk.old) (D.view disk.new) }
         ensures cause { Fails D.Disk disk.old disk.new result }
     {
         let pages = pages_of_range(offset, len);

@@ -65,9 +65,9 @@ pub struct HeightStore {
     // The numbers that marks named at opening, ascending.
     named: Vec<u64>,
     // How many numbers were given since.
-    given: u64,
+    numbers_given: u64,
     // No number below this one is given again.
-    next: u64,
+    least_free: u64,
 }
 
 // Contracts see the three.
@@ -76,9 +76,9 @@ impl Model for HeightStore {
 
     ghost Value = { Store };
 
-    ghost view = { λ store. record { heights = store.heights.items; named = store.named.items; given = store.given; next = store.next } };
+    ghost view = { λ store. record { heights = store.heights.items; named = store.named.items; numbers_given = store.numbers_given; least_free = store.least_free } };
 
-    ghost invariant = { λ store. IsStore (record { heights = store.heights.items; named = store.named.items; given = store.given; next = store.next }) };
+    ghost invariant = { λ store. IsStore (record { heights = store.heights.items; named = store.named.items; numbers_given = store.numbers_given; least_free = store.least_free }) };
 }
 
 impl HeightStore {
@@ -87,13 +87,13 @@ impl HeightStore {
         requires ascends { IsStrictlyIncreasing (heights_in heights.items) }
         requires few { length heights.items ≤ MAX_PUBLISHED }
         requires named_ascends { IsStrictlyIncreasing named.items }
-        ensures { result ≡ record { heights = heights.items; named = named.items; given = 0; next = 0 } }
+        ensures { result ≡ record { heights = heights.items; named = named.items; numbers_given = 0; least_free = 0 } }
     {
         HeightStore {
             heights,
             named,
-            given: 0,
-            next: 0,
+            numbers_given: 0,
+            least_free: 0,
         }
     }
 
@@ -186,14 +186,14 @@ impl HeightStore {
     /// A number for a page file: the least one that no mark named at opening and that was not given since. Fewer than
     /// 2^61 were given.
     pub fn next_number(&mut self) -> u64
-        requires { self.old.given < 2 ^ 61 }
-        ensures number { IsNextFree self.old.named self.old.next result }
-        ensures store { self.new ≡ record self.old { given = self.old.given + 1; next = result + 1 } }
+        requires { self.old.numbers_given < 2 ^ 61 }
+        ensures number { IsNextFree self.old.named self.old.least_free result }
+        ensures store { self.new ≡ record self.old { numbers_given = self.old.numbers_given + 1; least_free = result + 1 } }
     {
-        let below = count_below(&self.named, self.next);
-        let number = first_free(&self.named[below..], self.next);
-        self.given += 1;
-        self.next = number + 1;
+        let below = count_below(&self.named, self.least_free);
+        let number = first_free(&self.named[below..], self.least_free);
+        self.numbers_given += 1;
+        self.least_free = number + 1;
         number
     }
 }

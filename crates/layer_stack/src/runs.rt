@@ -3,7 +3,7 @@ ghost use Rattle.std.specs.Prelude.{◌≡◌, ◌*◌, ◌<◌, ◌≤◌, ◌+
 ghost use Rattle.std.specs.List.{AllByRecursion};
 ghost use Rattle.format_spec.specs.declared.limits.TheConstants.{PAGE_SIZE as page_size};
 ghost use Rattle.disk_model.specs.Causes.{Fails};
-ghost use Rattle.disk_model.specs.Looking.{OnlyLooks};
+ghost use Rattle.disk_model.specs.OnlyReads.{OnlyReads};
 ghost use Rattle.page_file.specs.Files.{IsAsKnown};
 ghost use Rattle.layer_stack.specs.Stacks.{PagesReadAs};
 ghost use Rattle.layer_stack.specs.Found.{FindsLayer, IsRun};
@@ -28,7 +28,7 @@ impl Stack {
         requires kept { IsTrue D.tells → AllByRecursion (IsAsKnown (D.view disk.old).state.files) self.now }
 
         ensures bytes { IsTrue D.tells → OnOk result (PagesReadAs (D.view disk.old).state.files self.now pages.now into.new) }
-        ensures looks { IsTrue D.tells → OnlyLooks (page_size * length pages.now) (D.view disk.old) (D.view disk.new) }
+        ensures reads_only { IsTrue D.tells → OnlyReads (page_size * length pages.now) (D.view disk.old) (D.view disk.new) }
         ensures cause { Fails D.Disk disk.old disk.new result }
     {
         let mut done = 0;
@@ -53,8 +53,8 @@ impl Stack {
 
         ensures count { IfOk result (λ count. (0 < count) × (count ≤ length pages.now)) }
         ensures bytes { IsTrue D.tells → IfOk result (λ count. PagesReadAs (D.view disk.old).state.files self.now (take count pages.now) (take (count * page_size) into.new)) }
-        ensures looks { IsTrue D.tells → IfOk result (λ count. OnlyLooks (page_size * count) (D.view disk.old) (D.view disk.new)) }
-        ensures looks_at_most { IsTrue D.tells → OnlyLooks (page_size * length pages.now) (D.view disk.old) (D.view disk.new) }
+        ensures reads_only { IsTrue D.tells → IfOk result (λ count. OnlyReads (page_size * count) (D.view disk.old) (D.view disk.new)) }
+        ensures reads_at_most { IsTrue D.tells → OnlyReads (page_size * length pages.now) (D.view disk.old) (D.view disk.new) }
         ensures cause { Fails D.Disk disk.old disk.new result }
     {
         match self.layer_with(pages[0]) {

@@ -2,7 +2,7 @@
 ghost use Rattle.std.specs.Prelude.{◌≡◌, ◌<◌, ◌≤◌, ◌++◌, [], ◌∷◌, List, length, drop, reverse, replicate, false, is_some, slice_index, IsTrue, OnOk, OnErr, IfOk};
 ghost use Rattle.std.specs.List.{AllByRecursion};
 ghost use Rattle.format_spec.specs.declared.limits.TheConstants.{PAGE_SIZE, MAX_LAYERS};
-ghost use Rattle.disk_model.specs.Looking.{OnlyLooks};
+ghost use Rattle.disk_model.specs.OnlyReads.{OnlyReads};
 ghost use Rattle.disk_model.specs.Causes.{Fails};
 ghost use Rattle.page_file.specs.Files.{IsAsKnown};
 ghost use Rattle.layer_stack.specs.Stacks.{ReadsAs, newest, numbers_of, sizes_of};
@@ -119,7 +119,7 @@ impl Stack {
         ensures bytes { IsTrue D.tells → OnOk result (ReadsAs (D.view disk.old).state.files self.now page into.new) }
         ensures found { IfOk result (λ found. found ≡ is_some (newest (reverse self.now) page)) }
         ensures zeros { IfOk result (λ found. found ≡ false → into.new ≡ replicate PAGE_SIZE 0) }
-        ensures looks { IsTrue D.tells → OnlyLooks PAGE_SIZE (D.view disk.old) (D.view disk.new) }
+        ensures reads_only { IsTrue D.tells → OnlyReads PAGE_SIZE (D.view disk.old) (D.view disk.new) }
         ensures cause { Fails D.Disk disk.old disk.new result }
     {
         match self.layer_with(page) {

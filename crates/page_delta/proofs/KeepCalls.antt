@@ -3,7 +3,7 @@ use Rattle.std.proofs.Common.{◌≡◌, inl, inr, ℕ, ◌+◌, ◌^◌, ◌≤
 use Rattle.std.proofs.lemmas.Bool.{cases_lt}
 use Rattle.page_pool.specs.Pool.{Pool, count_at}
 use Rattle.page_delta.specs.Totals.{total}
-use Rattle.page_delta.specs.Delta.{Pages, find, pages_in, pages_after, if_after, Keeps, SameReads}
+use Rattle.page_delta.specs.Delta.{Pages, find, pages_in, pages_after, if_after, KeepsAfter, SameReads}
 use Rattle.page_delta.specs.Nodes.{once, pages_below}
 use Rattle.page_delta.specs.Shared.{IsShared, KeepsBytes}
 use Rattle.page_delta.specs.Roots.{root_at, map_below, roots, AreSound, IsHeld, KeepsTree, HasNewer, KeepsRoot}
@@ -97,7 +97,7 @@ module _ (xs ys : List (Option Node)) (ids ids' : List (Option Root)) (pool pool
 
 module _ (n n' : List (Option Node)) (ids ids' : List (Option Root)) (pool pool' : Pool) (held : IsHeld n' pool' (λ s. 0))
     (bytes : KeepsBytes pool pool') where
-  pub keeps : (id kept b : ℕ) → KeepsRoot n n' ids ids' id kept b → Keeps pool pool' (seen n ids) (seen n' ids') id kept b
+  pub keeps : (id kept b : ℕ) → KeepsRoot n n' ids ids' id kept b → KeepsAfter pool pool' (seen n ids) (seen n' ids') id kept b
   keeps id kept b r = record {
     fresh = map-seen n ids kept ∙ ap (map_below n) r.fresh;
     live = live-seen n' ids' kept r.live;

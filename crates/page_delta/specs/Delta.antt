@@ -128,7 +128,7 @@ if_after b None = None
 if_after b (Some entry) = if nat_lt b entry.stamp then Some entry else None
 
 -- an id that was not live has the entries of another with a stamp above this one, and nothing else reads otherwise
-pub record Keeps (old_pool new_pool : Pool) (old new : Deltas) (id kept b : ℕ) : Type 0 where
+pub record KeepsAfter (old_pool new_pool : Pool) (old new : Deltas) (id kept b : ℕ) : Type 0 where
   pub fresh : map_of old kept ≡ None
   pub live : IsLive new kept
   pub entries : (page : ℕ) → find page (pages_of new kept) ≡ if_after b (find page (pages_of old id))

@@ -2,7 +2,7 @@
 
 ghost use Rattle.std.specs.Prelude.{◌≡◌, ℕ, ◌^◌, ◌<◌, [], length, None, OnOk, OnErr, IsOk, IfOk};
 ghost use Rattle.page_pool.specs.Pool.{Pool, used_in};
-ghost use Rattle.page_delta.specs.Delta.{map_of, IsLive, pages_of, find, pages_after, RiseFrom, Holds, Adds, IsOwn, Sets, Drops, Keeps, SameReads};
+ghost use Rattle.page_delta.specs.Delta.{map_of, IsLive, pages_of, find, pages_after, RiseFrom, Holds, Adds, IsOwn, Sets, Drops, KeepsAfter, SameReads};
 
 use crate::entry::Entry;
 use crate::keep::keep_root;
@@ -190,7 +190,7 @@ impl Deltas {
     ) -> Result<DeltaId, NoMemory>
         requires live { IsLive self.old id }
         requires holds { Holds pool.old self.old }
-        ensures kept { IfOk result (λ kept. Keeps pool.old pool.new self.old self.new id kept b) }
+        ensures kept { IfOk result (λ kept. KeepsAfter pool.old pool.new self.old self.new id kept b) }
         ensures err { OnErr result (SameReads pool.old pool.new self.old self.new) }
         ensures holds { Holds pool.new self.new }
     {

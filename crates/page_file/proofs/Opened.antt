@@ -9,7 +9,7 @@ use Rattle.disk_model.specs.declared.disk.DiskError.{DiskError}
 use Rattle.disk_model.specs.declared.name.Name.TheVariants.{Page}
 use Rattle.disk_model.specs.Files.{Files}
 use Rattle.disk_model.specs.View.{DiskView}
-use Rattle.disk_model.specs.Looking.{OnlyLooks}
+use Rattle.disk_model.specs.OnlyReads.{OnlyReads}
 use Rattle.page_file.specs.declared.format.Header.{Header}
 use Rattle.page_file.specs.Index.{IsHeader, HasRanges, ReadsHeader, ReadsIndex, header_text, are_counts}
 use Rattle.page_file.specs.Files.{NumberedFile, HasPages, IsAsKnown, HasHeader, FindsHeader, FindsIndex}
@@ -148,7 +148,7 @@ filled into now bytes rest n size None count whole is read same = read
 filled into now bytes rest n size (Some text) count whole is read same = is ∙ take_at now rest n count ∙ read ∙ ap (λ k. take k (drop 32 text)) same
 
 -- the bytes read for an index
-pub looked_for : (n : ℕ) (r : Result (Option PageIndex) DiskError) (old new : DiskView) → IfOk r (λ found. IfSome found (λ i. index_length i ≡ 32 + 12 * n)) → OnlyLooks (32 + 12 * n) old new → IfOk r (λ found. IfSome found (λ i. OnlyLooks (index_length i) old new))
-looked_for n (Err e) old new long looks = tt
-looked_for n (Ok None) old new long looks = tt
-looked_for n (Ok (Some i)) old new long looks = subst (λ k. OnlyLooks k old new) (sym long) looks
+pub looked_for : (n : ℕ) (r : Result (Option PageIndex) DiskError) (old new : DiskView) → IfOk r (λ found. IfSome found (λ i. index_length i ≡ 32 + 12 * n)) → OnlyReads (32 + 12 * n) old new → IfOk r (λ found. IfSome found (λ i. OnlyReads (index_length i) old new))
+looked_for n (Err e) old new long reads_only = tt
+looked_for n (Ok None) old new long reads_only = tt
+looked_for n (Ok (Some i)) old new long reads_only = subst (λ k. OnlyReads k old new) (sym long) reads_only

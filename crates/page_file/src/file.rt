@@ -3,7 +3,7 @@ ghost use Rattle.std.specs.Prelude.{◌≡◌, ◌+◌, ◌*◌, ◌<◌, ◌≤
 ghost use Rattle.format_spec.specs.declared.limits.TheConstants.{PAGE_SIZE, MAX_MEMORY_PAGES, INDEX_HEAD, INDEX_RANGE};
 ghost use Rattle.format_spec.specs.Bytes.{Bytes};
 ghost use Rattle.page_spec.specs.PageFile.{PageIndex, index_length};
-ghost use Rattle.disk_model.specs.Looking.{OnlyLooks};
+ghost use Rattle.disk_model.specs.OnlyReads.{OnlyReads};
 ghost use Rattle.disk_model.specs.Causes.{Fails, FailsFor, OnlyIf};
 ghost use Rattle.page_file.specs.Errors.{page_error};
 ghost use Rattle.page_file.specs.Index.{are_counts};
@@ -49,8 +49,8 @@ impl PageFile {
         ensures opens { IsTrue D.tells → Opens (D.view disk.old).state.files number result }
         ensures only { IsTrue D.tells → IfOk result (λ file. (i : PageIndex) (pages : Bytes) → HasPages (D.view disk.old).state.files number i pages → i ≡ file.index) }
         ensures number { IfOk result (λ file. file.number ≡ number) }
-        ensures looks { IsTrue D.tells → IfOk result (λ file. OnlyLooks (index_length file.index) (D.view disk.old) (D.view disk.new)) }
-        ensures looks_at_most { IsTrue D.tells → OnlyLooks (INDEX_HEAD + INDEX_RANGE * MAX_MEMORY_PAGES) (D.view disk.old) (D.view disk.new) }
+        ensures reads_only { IsTrue D.tells → IfOk result (λ file. OnlyReads (index_length file.index) (D.view disk.old) (D.view disk.new)) }
+        ensures reads_at_most { IsTrue D.tells → OnlyReads (INDEX_HEAD + INDEX_RANGE * MAX_MEMORY_PAGES) (D.view disk.old) (D.view disk.new) }
         ensures cause { FailsFor D.Disk page_error (OnlyIf (PageError.BadPage number) ⊤) disk.old disk.new result }
     {
         match read_index(alloc, disk, number)? {
@@ -96,7 +96,7 @@ impl PageFile {
         requires kept { IsTrue D.tells → IsAsKnown (D.view disk.old).state.files self.now }
 
         ensures page { IsTrue D.tells → OnOk result (ReadsAs (D.view disk.old).state.files self.now place into.new) }
-        ensures looks { IsTrue D.tells → OnlyLooks PAGE_SIZE (D.view disk.old) (D.view disk.new) }
+        ensures reads_only { IsTrue D.tells → OnlyReads PAGE_SIZE (D.view disk.old) (D.view disk.new) }
         ensures cause { Fails D.Disk disk.old disk.new result }
     {
         self.read_pages(alloc, disk, place, into)
@@ -115,7 +115,7 @@ impl PageFile {
         requires kept { IsTrue D.tells → IsAsKnown (D.view disk.old).state.files self.now }
 
         ensures pages { IsTrue D.tells → OnOk result (ReadsFrom (D.view disk.old).state.files self.now place (length into.old) into.new) }
-        ensures looks { IsTrue D.tells → OnlyLooks (length into.old) (D.view disk.old) (D.view disk.new) }
+        ensures reads_only { IsTrue D.tells → OnlyReads (length into.old) (D.view disk.old) (D.view disk.new) }
         ensures cause { Fails D.Disk disk.old disk.new result }
     {
         disk.read(
@@ -135,8 +135,8 @@ fn read_index<D: Disk>(
     number: u64,
 ) -> Result<Option<FileIndex>, DiskError>
     ensures found { IsTrue D.tells → FindsIndex (D.view disk.old).state.files number result }
-    ensures looks { IsTrue D.tells → IfOk result (λ found. IfSome found (λ i. OnlyLooks (index_length i) (D.view disk.old) (D.view disk.new))) }
-    ensures looks_at_most { IsTrue D.tells → OnlyLooks (INDEX_HEAD + INDEX_RANGE * MAX_MEMORY_PAGES) (D.view disk.old) (D.view disk.new) }
+    ensures reads_only { IsTrue D.tells → IfOk result (λ found. IfSome found (λ i. OnlyReads (index_length i) (D.view disk.old) (D.view disk.new))) }
+    ensures reads_at_most { IsTrue D.tells → OnlyReads (INDEX_HEAD + INDEX_RANGE * MAX_MEMORY_PAGES) (D.view disk.old) (D.view disk.new) }
     ensures cause { Fails D.Disk disk.old disk.new result }
 {
     match read_header(alloc, disk, number)? {
@@ -153,7 +153,7 @@ fn read_header<D: Disk>(
 ) -> Result<Option<Header>, DiskError>
     ensures found { IsTrue D.tells → FindsHeader (D.view disk.old).state.files number result }
     ensures possible { IfOk result (λ found. IfSome found (λ h. IsTrue (are_counts h.memory h.ranges h.pages))) }
-    ensures looks { IsTrue D.tells → OnlyLooks INDEX_HEAD (D.view disk.old) (D.view disk.new) }
+    ensures reads_only { IsTrue D.tells → OnlyReads INDEX_HEAD (D.view disk.old) (D.view disk.new) }
     ensures cause { Fails D.Disk disk.old disk.new result }
 {
     let name = Name::Page(number);
@@ -178,7 +178,7 @@ fn read_ranges<D: Disk>(
     requires header { IsTrue D.tells → HasHeader (D.view disk.old).state.files number header }
     ensures found { IsTrue D.tells → FindsIndex (D.view disk.old).state.files number result }
     ensures length { IsTrue D.tells → IfOk result (λ found. IfSome found (λ i. index_length i ≡ INDEX_HEAD + INDEX_RANGE * header.ranges)) }
-    ensures looks { IsTrue D.tells → OnlyLooks (INDEX_RANGE * header.ranges) (D.view disk.old) (D.view disk.new) }
+    ensures reads_only { IsTrue D.tells → OnlyReads (INDEX_RANGE * header.ranges) (D.view disk.old) (D.view disk.new) }
     ensures cause { Fails D.Disk disk.old disk.new result }
 {
     let mut bytes = vec![in alloc; 0; INDEX_RANGE * header.ranges as usize]?;

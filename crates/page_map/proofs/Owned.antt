@@ -113,7 +113,7 @@ module _ (pool pool1 : Pool) (deltas deltas1 : Deltas) where
       go true = ap as_own same
       go false = refl
 
-  pub keeps : (id kept b : ℕ) → delta.IsLive deltas id → delta.Keeps pool pool1 deltas deltas1 id kept b → Adds (maps_in pool deltas) (maps_in pool1 deltas1) kept (λ page. if_after b (own_at (maps_in pool deltas) id page))
+  pub keeps : (id kept b : ℕ) → delta.IsLive deltas id → delta.KeepsAfter pool pool1 deltas deltas1 id kept b → Adds (maps_in pool deltas) (maps_in pool1 deltas1) kept (λ page. if_after b (own_at (maps_in pool deltas) id page))
   keeps id kept b live is = record {
     fresh = dead_seen pool deltas kept is.fresh;
     live = live_seen pool1 deltas1 kept ∙ is.live;
@@ -189,10 +189,10 @@ module _ (pool pool1 : Pool) (deltas deltas1 : Deltas) (maps : Maps) (is : maps_
       subst (λ (m : Maps). OnOk r (Puts m (maps_in pool1 deltas1) id page (record { bytes = bytes; stamp = stamp }))) is
       (on_ok (delta.Sets pool pool1 deltas deltas1 id page bytes stamp) (Puts (maps_in pool deltas) (maps_in pool1 deltas1) id page (record { bytes = bytes; stamp = stamp })) r (puts pool pool1 deltas deltas1 id page bytes stamp) h)
 
-  pub ok_keep : (id b : ℕ) (r : Result ℕ NoMemory) → IsSome (owns_at maps id) → IfOk r (λ kept. delta.Keeps pool pool1 deltas deltas1 id kept b) → IfOk r (λ kept. Adds maps (maps_in pool1 deltas1) kept (λ page. if_after b (own_at maps id page)))
+  pub ok_keep : (id b : ℕ) (r : Result ℕ NoMemory) → IsSome (owns_at maps id) → IfOk r (λ kept. delta.KeepsAfter pool pool1 deltas deltas1 id kept b) → IfOk r (λ kept. Adds maps (maps_in pool1 deltas1) kept (λ page. if_after b (own_at maps id page)))
   ok_keep id b r live h =
       subst (λ (m : Maps). IfOk r (λ kept. Adds m (maps_in pool1 deltas1) kept (λ page. if_after b (own_at m id page)))) is
-      (if_ok (λ kept. delta.Keeps pool pool1 deltas deltas1 id kept b) (λ kept. Adds (maps_in pool deltas) (maps_in pool1 deltas1) kept (λ page. if_after b (own_at (maps_in pool deltas) id page))) r
+      (if_ok (λ kept. delta.KeepsAfter pool pool1 deltas deltas1 id kept b) (λ kept. Adds (maps_in pool deltas) (maps_in pool1 deltas1) kept (λ page. if_after b (own_at (maps_in pool deltas) id page))) r
       (λ kept k. keeps pool pool1 deltas deltas1 id kept b (live_delta pool deltas maps id is live) k) h)
 
   pub err_keep : {T : Type 0} (r : Result T NoMemory) → OnErr r (delta.SameReads pool pool1 deltas deltas1) → OnErr r (SameMaps maps (maps_in pool1 deltas1))

@@ -13,7 +13,7 @@ use Rattle.format_spec.specs.declared.limits.TheConstants.{PAGE_SIZE}
 use Rattle.state_spec.specs.Memory.{with_bytes_at, pages_between}
 use Rattle.page_spec.specs.Layers.{has_page}
 use Rattle.disk_model.specs.View.{DiskView}
-use Rattle.disk_model.specs.Looking.{OnlyLooks, looks_then, looks_more}
+use Rattle.disk_model.specs.OnlyReads.{OnlyReads, reads_only_then, reads_only_more}
 use Rattle.page_map.specs.Maps.{OwnPage, Maps, own_at}
 use Rattle.page_map.specs.Pieces.{touched_pages, is_filled_in_part, is_foreign, IsPiece}
 use Rattle.page_map.proofs.Whole.{overwritten_more}
@@ -59,22 +59,22 @@ module _ (p : ℕ → Bool) where
       let same = ap (λ (m : ℕ). length (filter p (range_with_len first m))) e in
       omega (arith, same, count_next first (n + k) (first + (n + k)) refl, count_more first n k)
 
-  pub looks_next : (first page most : ℕ) (old mid new : DiskView) → first ≤ page → most ≡ PAGE_SIZE * cond (p page) 1 0 → OnlyLooks (PAGE_SIZE * length (filter p (range_with_len first (page - first)))) old mid → OnlyLooks most mid new
-      → OnlyLooks (PAGE_SIZE * length (filter p (range_with_len first (page + 1 - first)))) old new
-  looks_next first page most old mid new le is so_far here =
+  pub reads_only_next : (first page most : ℕ) (old mid new : DiskView) → first ≤ page → most ≡ PAGE_SIZE * cond (p page) 1 0 → OnlyReads (PAGE_SIZE * length (filter p (range_with_len first (page - first)))) old mid → OnlyReads most mid new
+      → OnlyReads (PAGE_SIZE * length (filter p (range_with_len first (page + 1 - first)))) old new
+  reads_only_next first page most old mid new le is so_far here =
       let n : ℕ = page - first in
       let e : page + 1 - first ≡ n + 1 = omega (arith, le) in
       let f : first + n ≡ page = omega (arith, le) in
       let counted = ap (λ (m : ℕ). length (filter p (range_with_len first m))) e ∙ count_next first n page f in
       let total : PAGE_SIZE * length (filter p (range_with_len first n)) + most ≡ PAGE_SIZE * length (filter p (range_with_len first (page + 1 - first))) = omega (arith, counted, is) in
-      subst (λ (m : ℕ). OnlyLooks m old new) total (looks_then (PAGE_SIZE * length (filter p (range_with_len first n))) most old mid new so_far here)
+      subst (λ (m : ℕ). OnlyReads m old new) total (reads_only_then (PAGE_SIZE * length (filter p (range_with_len first n))) most old mid new so_far here)
 
-  pub looks_all : (first page behind : ℕ) (pages : List ℕ) (old new : DiskView) → first ≤ page → page ≤ behind → pages ≡ range_with_len first (behind - first) → OnlyLooks (PAGE_SIZE * length (filter p (range_with_len first (page - first)))) old new
-      → OnlyLooks (PAGE_SIZE * length (filter p pages)) old new
-  looks_all first page behind pages old new le le2 are looks =
+  pub reads_only_all : (first page behind : ℕ) (pages : List ℕ) (old new : DiskView) → first ≤ page → page ≤ behind → pages ≡ range_with_len first (behind - first) → OnlyReads (PAGE_SIZE * length (filter p (range_with_len first (page - first)))) old new
+      → OnlyReads (PAGE_SIZE * length (filter p pages)) old new
+  reads_only_all first page behind pages old new le le2 are reads_only =
       let e : behind - first ≡ page - first + (behind - page) = omega (arith, le, le2) in
       let same = ap (λ (l : List ℕ). length (filter p l)) are ∙ ap (λ (m : ℕ). length (filter p (range_with_len first m))) e in
-      looks_more (PAGE_SIZE * length (filter p (range_with_len first (page - first)))) (PAGE_SIZE * length (filter p pages)) old new (omega (arith, same, count_more first (page - first) (behind - page))) looks
+      reads_only_more (PAGE_SIZE * length (filter p (range_with_len first (page - first)))) (PAGE_SIZE * length (filter p pages)) old new (omega (arith, same, count_more first (page - first) (behind - page))) reads_only
 
 pub amount_read : (b : Bool) → cond b 0 PAGE_SIZE ≡ PAGE_SIZE * cond (not b) 1 0
 amount_read true = refl

@@ -4,7 +4,7 @@ ghost use Rattle.std.specs.List.{AllByRecursion};
 ghost use Rattle.format_spec.specs.declared.limits.TheConstants.{PAGE_SIZE as page_size, MAX_MEMORY_PAGES};
 ghost use Rattle.page_spec.specs.Layers.{Layer};
 ghost use Rattle.disk_model.specs.Causes.{Fails};
-ghost use Rattle.disk_model.specs.Looking.{OnlyLooks};
+ghost use Rattle.disk_model.specs.OnlyReads.{OnlyReads};
 ghost use Rattle.page_file.specs.Files.{IsAsKnown};
 ghost use Rattle.layer_stack.specs.Stacks.{AreLayers, EndBy};
 ghost use Rattle.page_map.specs.Maps.{owns_at, own_at, if_after};
@@ -114,7 +114,7 @@ impl Pages {
 
         ensures bytes { IsTrue D.tells → OnOk result (ReadsFrom (D.view disk.old).state.files self.old map.now at (length into.old) into.new) }
         ensures unchanged { SameMaps self.old self.new }
-        ensures looks { IsTrue D.tells → OnlyLooks (page_size * length (pages_for_read self.old map.now.id at (length into.old))) (D.view disk.old) (D.view disk.new) }
+        ensures reads_only { IsTrue D.tells → OnlyReads (page_size * length (pages_for_read self.old map.now.id at (length into.old))) (D.view disk.old) (D.view disk.new) }
         ensures cause { Fails D.Disk disk.old disk.new result }
     {
         read_range(&self.own, alloc, disk, map.id, &map.stack, at, into)
@@ -143,7 +143,7 @@ impl Pages {
         ensures others { KeepsOthers self.old self.new map.old.id }
         ensures apart { (other : ℕ) → other ≢ map.old.id → IsSome (owns_at self.old other) → other ≢ map.new.id }
         ensures refused { OnErr result ((map.new ≡ map.old) × SameMaps self.old self.new) }
-        ensures looks { IsTrue D.tells → OnlyLooks (page_size * length (pages_for_write self.old map.old.id at (length bytes.now))) (D.view disk.old) (D.view disk.new) }
+        ensures reads_only { IsTrue D.tells → OnlyReads (page_size * length (pages_for_write self.old map.old.id at (length bytes.now))) (D.view disk.old) (D.view disk.new) }
         ensures cause { Fails D.Disk disk.old disk.new result }
     {
         let pages = pages_of_range(at, bytes.len() as u64);

@@ -4,7 +4,7 @@ ghost use Rattle.std.specs.List.{AllByRecursion};
 ghost use Rattle.format_spec.specs.declared.limits.TheConstants.{PAGE_SIZE as page_size, MAX_MEMORY_PAGES};
 ghost use Rattle.page_spec.specs.Layers.{Layer, page_from};
 ghost use Rattle.disk_model.specs.Causes.{Fails};
-ghost use Rattle.disk_model.specs.Looking.{OnlyLooks};
+ghost use Rattle.disk_model.specs.OnlyReads.{OnlyReads};
 ghost use Rattle.page_file.specs.Files.{IsAsKnown};
 ghost use Rattle.layer_stack.specs.Stacks.{AreLayers};
 ghost use Rattle.page_map.specs.Maps.{owns_at, own_at};
@@ -37,7 +37,7 @@ pub(crate) fn read_range<D: Disk>(
 
     ensures bytes { IsTrue D.tells → OnOk result ((layers : List Layer) (count : ℕ) → AreLayers (D.view disk.old).state.files stack.now layers → at + length into.old ≤ count * page_size
         → into.new ≡ take (length into.old) (drop at (bytes_with layers (own_at own.now id) count))) }
-    ensures looks { IsTrue D.tells → OnlyLooks (page_size * length (pages_for_read own.now id at (length into.old))) (D.view disk.old) (D.view disk.new) }
+    ensures reads_only { IsTrue D.tells → OnlyReads (page_size * length (pages_for_read own.now id at (length into.old))) (D.view disk.old) (D.view disk.new) }
     ensures cause { Fails D.Disk disk.old disk.new result }
 {
     let pages = pages_of_range(at, into.len() as u64);
@@ -66,7 +66,7 @@ fn read_piece<D: Disk>(
 
     ensures bytes { IsTrue D.tells → OnOk result ((layers : List Layer) → AreLayers (D.view disk.old).state.files stack.now layers
         → into.new ≡ take (length into.old) (drop start (page_of layers (own_at own.now id page) page))) }
-    ensures looks { IsTrue D.tells → OnlyLooks (if is_some (own_at own.now id page) then 0 else page_size) (D.view disk.old) (D.view disk.new) }
+    ensures reads_only { IsTrue D.tells → OnlyReads (if is_some (own_at own.now id page) then 0 else page_size) (D.view disk.old) (D.view disk.new) }
     ensures cause { Fails D.Disk disk.old disk.new result }
 {
     match own.page(id, page) {
@@ -92,7 +92,7 @@ fn read_layers<D: Disk>(
 
     ensures bytes { IsTrue D.tells → OnOk result ((layers : List Layer) → AreLayers (D.view disk.old).state.files stack.now layers
         → into.new ≡ take (length into.old) (drop start (page_from (reverse layers) page))) }
-    ensures looks { IsTrue D.tells → OnlyLooks page_size (D.view disk.old) (D.view disk.new) }
+    ensures reads_only { IsTrue D.tells → OnlyReads page_size (D.view disk.old) (D.view disk.new) }
     ensures cause { Fails D.Disk disk.old disk.new result }
 {
     let mut buffer = [0; PAGE_SIZE];
@@ -115,7 +115,7 @@ pub(crate) fn read_page<D: Disk>(
     requires kept { IsTrue D.tells → AllByRecursion (IsAsKnown (D.view disk.old).state.files) stack.now }
 
     ensures bytes { IsTrue D.tells → OnOk result ((layers : List Layer) → AreLayers (D.view disk.old).state.files stack.now layers → into.new ≡ page_of layers (own_at own.now id page) page) }
-    ensures looks { IsTrue D.tells → OnlyLooks (if is_some (own_at own.now id page) then 0 else page_size) (D.view disk.old) (D.view disk.new) }
+    ensures reads_only { IsTrue D.tells → OnlyReads (if is_some (own_at own.now id page) then 0 else page_size) (D.view disk.old) (D.view disk.new) }
     ensures cause { Fails D.Disk disk.old disk.new result }
 {
     match own.page(id, page) {

@@ -6,7 +6,7 @@ ghost use Rattle.state_spec.specs.Memory.{with_bytes_at};
 ghost use Rattle.format_spec.specs.Bytes.{Bytes};
 ghost use Rattle.page_spec.specs.Layers.{Layer};
 ghost use Rattle.disk_model.specs.Causes.{Fails};
-ghost use Rattle.disk_model.specs.Looking.{OnlyLooks};
+ghost use Rattle.disk_model.specs.OnlyReads.{OnlyReads};
 ghost use Rattle.page_file.specs.Files.{IsAsKnown};
 ghost use Rattle.layer_stack.specs.Stacks.{AreLayers};
 ghost use Rattle.page_map.specs.Maps.{OwnPage, owns_at, own_at};
@@ -49,7 +49,7 @@ pub(crate) fn write_fork<D: Disk>(
         → bytes_with layers (own_at own.new fork) count ≡ with_bytes_at (bytes_with layers (own_at own.old id) count) at bytes.now) }
     ensures others { KeepsOthers own.old own.new id }
     ensures unchanged { OnErr result (SameMaps own.old own.new) }
-    ensures looks { IsTrue D.tells → OnlyLooks (page_size * length (pages_for_write own.old id at (length bytes.now))) (D.view disk.old) (D.view disk.new) }
+    ensures reads_only { IsTrue D.tells → OnlyReads (page_size * length (pages_for_write own.old id at (length bytes.now))) (D.view disk.old) (D.view disk.new) }
     ensures cause { Fails D.Disk disk.old disk.new result }
 {
     let fork = own.fork(alloc, id)?;
@@ -89,7 +89,7 @@ pub(crate) fn write_pages<D: Disk>(
         → bytes_with layers (own_at own.new id) count ≡ with_bytes_at (bytes_with layers (own_at own.old id) count) at bytes.now) }
     ensures live { IsSome (owns_at own.new id) }
     ensures others { ChangesOnly own.old own.new id }
-    ensures looks { IsTrue D.tells → OnlyLooks (page_size * length (pages_for_write own.old id at (length bytes.now))) (D.view disk.old) (D.view disk.new) }
+    ensures reads_only { IsTrue D.tells → OnlyReads (page_size * length (pages_for_write own.old id at (length bytes.now))) (D.view disk.old) (D.view disk.new) }
     ensures cause { Fails D.Disk disk.old disk.new result }
 {
     for page in pages.0..pages.1 {
@@ -122,7 +122,7 @@ pub(crate) fn write_page<D: Disk>(
     ensures bytes { IsTrue D.tells → OnOk result ((layers : List Layer) → AreLayers (D.view disk.old).state.files stack.now layers
         → page_of layers (own_at own.new id page) page ≡ with_bytes_at (page_of layers (own_at own.old id page) page) start bytes.now) }
     ensures err { OnErr result (own.new ≡ own.old) }
-    ensures looks { IsTrue D.tells → OnlyLooks (if nat_lt (length bytes.now) page_size && is_foreign own.old id page then page_size else 0) (D.view disk.old) (D.view disk.new) }
+    ensures reads_only { IsTrue D.tells → OnlyReads (if nat_lt (length bytes.now) page_size && is_foreign own.old id page then page_size else 0) (D.view disk.old) (D.view disk.new) }
     ensures cause { Fails D.Disk disk.old disk.new result }
 {
     if let Some(whole) = bytes.as_array::<4096>() {

@@ -30,7 +30,7 @@ fn answer_command<D: Disk>(
 ) -> Result<(), LineError>
     requires empty { out.old.items ≡ [] }
     requires fits { FitsForm command.now }
-    requires numbers { manager.old.store.given ≤ 2 ^ 60 }
+    requires numbers { manager.old.store.numbers_given ≤ 2 ^ 60 }
     requires usable { IsUsable D.tells manager.old (D.view disk.old) }
     ensures answer { OnOk result ((reply : Reply) × (out.new.items ≡ reply_text reply ++ codes "\n")
         × (IsTrue D.tells → (m : Machine) → Keeps manager.old (D.view disk.old).state m → (reply ≡ (step m command.now).reply) × Keeps manager.new (D.view disk.new).state (step m command.now).after)) }
@@ -59,7 +59,7 @@ pub fn answer_into<D: Disk>(
     disk: &mut D,
     out: &mut Vec<u8>,
 ) -> Result<(), LineError>
-    requires numbers { manager.old.store.given ≤ 2 ^ 60 }
+    requires numbers { manager.old.store.numbers_given ≤ 2 ^ 60 }
     requires usable { IsUsable D.tells manager.old (D.view disk.old) }
     ensures answer { OnOk result (AnswersLine D.tells (Keeps manager.old (D.view disk.old).state) (Keeps manager.new (D.view disk.new).state) line.now out.new.items) }
     ensures images { KeepsImages D.tells (Keeps manager.old (D.view disk.old).state) (D.view disk.old) (D.view disk.new) line.now }

@@ -120,7 +120,7 @@ fn answer_line<K: Sink, D: Disk>(
     sink: &mut K,
     disk: &mut D,
 ) -> Result<(), LineError>
-    requires numbers { session.old.manager.store.given ≤ MAX_GIVEN * MAX_LINES }
+    requires numbers { session.old.manager.store.numbers_given ≤ MAX_GIVEN * MAX_LINES }
     requires usable { IsUsable D.tells session.old.manager (D.view disk.old) }
     ensures answers { (gained : List ℕ) × Appends (K.written sink.old) (K.written sink.new) gained
         × WritesLine result D.tells (Keeps session.old.manager (D.view disk.old).state) (Keeps session.new.manager (D.view disk.new).state) session.old.line.items gained }
@@ -153,7 +153,7 @@ fn serve_line<S: Source, K: Sink, D: Disk>(
     disk: &mut D,
 ) -> Result<Continuation, RunStop>
     requires more { before < MAX_LINES }
-    requires numbers { session.old.manager.store.given ≤ MAX_GIVEN * MAX_LINES }
+    requires numbers { session.old.manager.store.numbers_given ≤ MAX_GIVEN * MAX_LINES }
     requires usable { IsUsable D.tells session.old.manager (D.view disk.old) }
     ensures turn { Moves (S.left source.old) (S.left source.new) (K.written sink.old) (K.written sink.new)
         (TakesTurn result before D.tells (Keeps session.old.manager (D.view disk.old).state) (Keeps session.new.manager (D.view disk.new).state) (IsAtEnd (S.left source.new)) (D.view disk.old) (D.view disk.new)) }
@@ -186,7 +186,7 @@ fn serve_lines<S: Source, K: Sink, D: Disk>(
     sink: &mut K,
     disk: &mut D,
 ) -> Result<(), RunStop>
-    requires numbers { session.old.manager.store.given ≡ 0 }
+    requires numbers { session.old.manager.store.numbers_given ≡ 0 }
     requires usable { IsUsable D.tells session.old.manager (D.view disk.old) }
     ensures session { Moves (S.left source.old) (S.left source.new) (K.written sink.old) (K.written sink.new)
         (EndsFrom 0 result D.tells (Keeps session.old.manager (D.view disk.old).state) all_shown IsOpen (IsAtEnd (S.left source.new)) (D.view disk.old) (D.view disk.new)) }

@@ -13,7 +13,7 @@ use Rattle.state_spec.specs.State.{State}
 use Rattle.store_spec.specs.Image.{Published}
 use Rattle.disk_model.specs.Files.{Files}
 use Rattle.disk_model.specs.Laws.{IsSound}
-use Rattle.disk_model.specs.Looking.{OnlyLooks, looks_leave, looks_none}
+use Rattle.disk_model.specs.OnlyReads.{OnlyReads, reads_only_leave, reads_only_none}
 use Rattle.disk_model.specs.Moments.{then}
 use Rattle.disk_model.specs.Spending.{Spends, spends_looks}
 use Rattle.disk_model.specs.State.{DiskState, IsImageNow, IsSettled}
@@ -60,16 +60,16 @@ on_failed P (Err e) failed = tt
 -- ---- lines that change nothing
 
 module _ (tells : Bool) (held : ManagerView) (before after : DiskView) (result : Result Reply DiskError) (command : Command) where
-  pub looks_line : (IsTrue tells → MatchesFiles held.store before.state.files) → (IsTrue tells → (most : ℕ) × OnlyLooks most before after)
+  pub reads_only_line : (IsTrue tells → MatchesFiles held.store before.state.files) → (IsTrue tells → (most : ℕ) × OnlyReads most before after)
       → (IsTrue tells → (m : Machine) → Keeps held before.state m → OnOk result (Spends (appends m command) (reads m command) before after))
       → (IsTrue tells → (m : Machine) → Keeps held before.state m → IfOk result (λ reply. (reply ≡ (step m command).reply) × ((step m command).after ≡ m)))
       → DoesLine tells held held before after result command
-  looks_line over looks spends reply = record {
-    reply = λ told m k. answers result m (subst (λ (s : DiskState). Keeps held s m) (sym (looks told).1.state) k) (reply told m k);
-    images = λ told m k. looks_leave (looks told).0 before after (StandsForEither m.published (step m command).after.published) (looks told).1 (λ image now. inl (kept_stands held.store.heights before.state m.published k.heights image now));
-    over = λ told. on_ok_always _ result (subst (λ (s : DiskState). MatchesFiles held.store s.files) (sym (looks told).1.state) (over told));
+  reads_only_line over reads_only spends reply = record {
+    reply = λ told m k. answers result m (subst (λ (s : DiskState). Keeps held s m) (sym (reads_only told).1.state) k) (reply told m k);
+    images = λ told m k. reads_only_leave (reads_only told).0 before after (StandsForEither m.published (step m command).after.published) (reads_only told).1 (λ image now. inl (kept_stands held.store.heights before.state m.published k.heights image now));
+    over = λ told. on_ok_always _ result (subst (λ (s : DiskState). MatchesFiles held.store s.files) (sym (reads_only told).1.state) (over told));
     spends = spends;
-    given = record { least = omega arith; most = omega arith };
+    numbers_given = record { least = omega arith; most = omega arith };
     same = refl;
   }
     where
@@ -83,13 +83,13 @@ pub still_line : (tells : Bool) (held : ManagerView) (view : DiskView) (result :
     → (IsTrue tells → (m : Machine) → Keeps held view.state m → IfOk result (λ reply. (reply ≡ (step m command).reply) × ((step m command).after ≡ m)))
     → DoesLine tells held held view view result command
 still_line tells held view result command over free reply =
-    looks_line tells held view view result command over (λ told. (0, looks_none 0 view)) (λ told m k. on_ok_always _ result (spends_nothing (appends m command) (reads m command) view (free m k))) reply
+    reads_only_line tells held view view result command over (λ told. (0, reads_only_none 0 view)) (λ told m k. on_ok_always _ result (spends_nothing (appends m command) (reads m command) view (free m k))) reply
 
 -- a call failed that changes nothing
 pub failed_line : (tells : Bool) (held : ManagerView) (before after : DiskView) (result : Result Reply DiskError) (command : Command) → IsErr result → (IsTrue tells → MatchesFiles held.store before.state.files)
-    → (IsTrue tells → (most : ℕ) × OnlyLooks most before after) → DoesLine tells held held before after result command
-failed_line tells held before after result command failed over looks =
-    looks_line tells held before after result command over looks (λ told m k. on_failed _ result failed) (λ told m k. if_failed _ result failed)
+    → (IsTrue tells → (most : ℕ) × OnlyReads most before after) → DoesLine tells held held before after result command
+failed_line tells held before after result command failed over reads_only =
+    reads_only_line tells held before after result command over reads_only (λ told m k. on_failed _ result failed) (λ told m k. if_failed _ result failed)
 
 -- a line that needs no disk
 module _ (tells : Bool) (old now : ManagerView) (view : DiskView) (command : Command) (over : IsTrue tells → MatchesFiles old.store view.state.files) (store : now.store ≡ old.store) (same : now.stopped ≡ old.stopped)
@@ -97,10 +97,10 @@ module _ (tells : Bool) (old now : ManagerView) (view : DiskView) (command : Com
   pub apart_line : (result : Result Reply DiskError) → ((m : Machine) → KeepsStates old m → IfOk result (λ reply. Performs (Ok reply) now m command)) → DoesLine tells old now view view result command
   apart_line result performs = record {
     reply = λ told m k. answers result m k (performs m k.states);
-    images = λ told m k. looks_leave 0 view view (StandsForEither m.published (step m command).after.published) (looks_none 0 view) (λ image now. inl (kept_stands old.store.heights view.state m.published k.heights image now));
+    images = λ told m k. reads_only_leave 0 view view (StandsForEither m.published (step m command).after.published) (reads_only_none 0 view) (λ image now. inl (kept_stands old.store.heights view.state m.published k.heights image now));
     over = λ told. on_ok_always _ result (rw store (over told));
     spends = λ told m k. on_ok_always _ result (spends_nothing (appends m command) (reads m command) view (free m));
-    given = rw store (record { least = omega arith; most = omega arith });
+    numbers_given = rw store (record { least = omega arith; most = omega arith });
     same = same;
   }
     where
@@ -240,7 +240,7 @@ module _ (tells : Bool) (old now : ManagerView) (before after : DiskView) (a : S
     images = images_of;
     over = λ told. on_failed _ result failed;
     spends = λ told m k. on_failed _ result failed;
-    given = publishes.given;
+    numbers_given = publishes.numbers_given;
     same = closed;
   }
     where
@@ -276,7 +276,7 @@ module _ (tells : Bool) (old now : ManagerView) (before after : DiskView) (a : S
         let kk = last_kept old.memory m.memory a k.states.memory last in
         subst (λ (n : ℕ). Spends n 0 before after) (sym (checkpoint_appends tells old before m a last k.states low few))
         (subst (λ (r : Result Bytes DiskError). OnOk r (Spends (whole_bytes kk.0.1) 0 before after)) done (publishes.spends told kk.0 kk.2));
-    given = publishes.given;
+    numbers_given = publishes.numbers_given;
     same = closed;
   }
 
@@ -335,35 +335,35 @@ starts now s ps sound usable live memory over settled heights machine =
     }
 
 pub reset_done : (tells : Bool) (old now : ManagerView) (before after : DiskView) (height : ℕ) → (IsTrue tells → IsImageNow after.state after.state.files) → (IsTrue tells → MatchesFiles old.store before.state.files)
-    → (IsTrue tells → OnlyLooks (newest_bytes old.store.heights) before after) → is_some (height_at old.store.heights height) ≡ true
+    → (IsTrue tells → OnlyReads (newest_bytes old.store.heights) before after) → is_some (height_at old.store.heights height) ≡ true
     → option_map_or (λ newest. newest == height) (last_or None (heights_in old.store.heights)) false ≡ true
     → now.store ≡ old.store → now.stopped ≡ old.stopped → now.memory ≡ []
     → (IsTrue tells → (ps : List Published) → AllZip (ShowsHeight before.state.files) old.store.heights ps → KeepsState now.live (live_of (start ps))) → (IsTrue tells → IsImageNow before.state before.state.files)
     → DoesLine tells old now before after (Ok replies.Fine) (commands.Reset height)
-reset_done tells old now before after height sound over looks there last store closed memory live before_sound = record {
+reset_done tells old now before after height sound over reads_only there last store closed memory live before_sound = record {
   reply = λ told m k.
       let s = height_there old.store.heights m.published height k.states.published there in
       let is_last = sym (newest_test (λ n. n == height) old.store.heights m.published k.states.published) ∙ last in
-      let l = looks told in
+      let l = reads_only told in
       let state : Keeps now after.state (start m.published) = starts now after.state m.published (sound told) (closed ∙ k.states.usable) (live told m.published (k.heights.images before.state.files (before_sound told)).each) memory
       (rw (l.state, store) (over told)) (rw l.state k.settled) (rw (l.state, store) k.heights) (start_is_sound m.published k.sound.published) in
       subst (λ (o : Outcome). (replies.Fine ≡ o.reply) × Keeps now after.state o.after) (sym (resets m height s.0 s.1 is_last)) (refl, state);
-  images = λ told m k. looks_leave _ before after (StandsForEither m.published (step m (commands.Reset height)).after.published) (looks told) (λ image now. inl (kept_stands old.store.heights before.state m.published k.heights image now));
-  over = λ told. let l = looks told in rw (l.state, store) (over told);
+  images = λ told m k. reads_only_leave _ before after (StandsForEither m.published (step m (commands.Reset height)).after.published) (reads_only told) (λ image now. inl (kept_stands old.store.heights before.state m.published k.heights image now));
+  over = λ told. let l = reads_only told in rw (l.state, store) (over told);
   spends = λ told m k.
       let is_last = sym (newest_test (λ n. n == height) old.store.heights m.published k.states.published) ∙ last in
       let most : newest_bytes old.store.heights ≡ reads m (commands.Reset height) =
       newest_there old.store.heights height last ∙ bytes_found old m k.states height there ∙ sym (rw is_last refl) in
-      subst (λ (n : ℕ). Spends 0 n before after) most (spends_looks _ before after (looks told));
-  given = rw store (record { least = omega arith; most = omega arith });
+      subst (λ (n : ℕ). Spends 0 n before after) most (spends_looks _ before after (reads_only told));
+  numbers_given = rw store (record { least = omega arith; most = omega arith });
   same = closed;
 }
 
 -- ---- opening
 
 -- a call that only looks, behind one after which each image is so
-pub looks_behind : (most : ℕ) (old mid new : DiskView) (P : Files → Type 0) → LeavesOnly old mid P → OnlyLooks most mid new → LeavesOnly old new P
-looks_behind most old mid new P before looks = then old mid new P before (looks_leave most mid new P looks before.now)
+pub reads_only_behind : (most : ℕ) (old mid new : DiskView) (P : Files → Type 0) → LeavesOnly old mid P → OnlyReads most mid new → LeavesOnly old new P
+reads_only_behind most old mid new P before reads_only = then old mid new P before (reads_only_leave most mid new P reads_only before.now)
 
 pub opens_keeping : (now : ManagerView) (mid after : DiskState) (ps : List Published) → after ≡ mid → IsImageNow after after.files → now.stopped ≡ None → now.memory ≡ [] → MatchesFiles now.store mid.files → IsSettled mid → KeepsHeights now.store.heights mid ps
     → IsImageNow mid mid.files → (AllZip (ShowsHeight mid.files) now.store.heights ps → KeepsState now.live (live_of (start ps))) → AreHeights ps → Keeps now after (start ps)

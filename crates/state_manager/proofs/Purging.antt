@@ -52,7 +52,7 @@ pub record Purges {T : Type 0} (tells : Bool) (old now : ManagerView) (before af
   pub no_height : (r ≡ Err store.NoHeight) ↔ (is_some (height_at old.store.heights height) ≡ false)
   pub last_height : (r ≡ Err store.LastHeight) ↔ IsTrue (is_newest old.store.heights height)
   pub refused : IsErrOf r store.NoHeight ⊎ IsErrOf r store.LastHeight → (now.store ≡ old.store) × (after ≡ before)
-  pub given : GivesFew old.store now.store
+  pub numbers_given : GivesFew old.store now.store
   pub over : IsTrue tells → OnOk r (MatchesFiles now.store after.state.files)
   pub spends : IsTrue tells → OnOk r (Spends 0 0 before after)
   pub stands : IsTrue tells → (ps : List Published) → IsSettled before.state → KeepsHeights old.store.heights before.state ps → OnOk r (KeepsHeights now.store.heights after.state (without_published ps height))
@@ -121,7 +121,7 @@ module _ {T : Type 0} (tells : Bool) (old now : ManagerView) (before after : Dis
         images = λ told m k. subst (λ (o : Outcome). LeavesOnly before after (StandsForEither m.published o.after.published)) (sym (does_purge there older m k.states)) (p.images told m.published k.settled k.heights);
         over = λ told. over_after a b _ (p.over told);
         spends = λ told m k. over_after a b _ (p.spends told);
-        given = p.given;
+        numbers_given = p.numbers_given;
         same = closed;
       }
     where

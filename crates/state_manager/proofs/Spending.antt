@@ -12,7 +12,7 @@ use Rattle.state_spec.specs.Files.{memories_in}
 use Rattle.state_spec.specs.State.{State, memory_bytes}
 use Rattle.sys_state.specs.System.{part_of}
 use Rattle.disk_model.specs.Files.{Files}
-use Rattle.disk_model.specs.Looking.{OnlyLooks}
+use Rattle.disk_model.specs.OnlyReads.{OnlyReads}
 use Rattle.disk_model.specs.Spending.{Spends, spends_looks, spends_more, spends_none}
 use Rattle.disk_model.specs.View.{DiskView}
 use Rattle.disk_model.specs.declared.disk.DiskError.{DiskError}
@@ -73,9 +73,9 @@ reads_more files store before mid now more reads last = record { pages = reads.p
 -- ---- lines that read
 
 pub read_spends : (m : Machine) (at : HeightOrLive) (s : State) → on_disk m at ≡ Some s → (id : Bytes) (mem : Mem) (offset len : ℕ) (before after : DiskView) (result : Result Reply DiskError)
-    → IfOk result (λ reply. OnlyLooks (PAGE_SIZE * pages_told reply offset len) before after) → IfOk result (λ reply. reply ≡ read_reply s id mem offset len)
+    → IfOk result (λ reply. OnlyReads (PAGE_SIZE * pages_told reply offset len) before after) → IfOk result (λ reply. reply ≡ read_reply s id mem offset len)
     → OnOk result (Spends 0 (reads m (commands.Read at id mem offset len)) before after)
-read_spends m at s there id mem offset len before after (Err e) looks is = tt
-read_spends m at s there id mem offset len before after (Ok reply) looks is =
+read_spends m at s there id mem offset len before after (Err e) reads_only is = tt
+read_spends m at s there id mem offset len before after (Ok reply) reads_only is =
     subst (λ (o : Option State). Spends 0 (option_map_or (λ (t : State). PAGE_SIZE * pages_told (read_reply t id mem offset len) offset len) o 0) before after) (sym there)
-    (spends_looks _ before after (subst (λ (r : Reply). OnlyLooks (PAGE_SIZE * pages_told r offset len) before after) is looks))
+    (spends_looks _ before after (subst (λ (r : Reply). OnlyReads (PAGE_SIZE * pages_told r offset len) before after) is reads_only))

@@ -106,5 +106,5 @@ pub record DoesLine (tells : Bool) (old new : ManagerView) (before after : DiskV
       → LeavesOnly before after (StandsForEither m.published (step m command).after.published)
   pub over : IsTrue tells → OnOk result (MatchesFiles new.store after.state.files)
   pub spends : IsTrue tells → (m : Machine) → Keeps old before.state m → OnOk result (Spends (appends m command) (reads m command) before after)
-  pub given : GivesFew old.store new.store
+  pub numbers_given : GivesFew old.store new.store
   pub same : new.stopped ≡ old.stopped

@@ -24,4 +24,4 @@ pub record Publishes (tells : Bool) (held : StateView) (old new : Store) (before
       → LeavesOnly before after (StandsForEither ps (ps ++ whole held.height k.1 ∷ []))
   pub over : IsTrue tells → OnOk result (MatchesFiles new after.state.files)
   pub spends : IsTrue tells → (k : ℕ × State) → KeepsState held k → OnOk result (Spends (whole_bytes k.1) 0 before after)
-  pub given : GivesFew old new
+  pub numbers_given : GivesFew old new

@@ -72,7 +72,7 @@ impl Manager {
         alloc: Global,
         disk: &mut D,
     ) -> Result<Reply, DiskError>
-        requires numbers { self.old.store.given ≤ 2 ^ 60 }
+        requires numbers { self.old.store.numbers_given ≤ 2 ^ 60 }
         requires over { IsTrue D.tells → MatchesFiles self.old.store (D.view disk.old).state.files }
         ensures line { DoesLine D.tells self.old self.new (D.view disk.old) (D.view disk.new) result Command.Checkpoint }
         ensures cause { Fails D.Disk disk.old disk.new result }

@@ -70,7 +70,7 @@ impl Manager {
         ensures images { IsTrue D.tells → EachImage (D.view disk.old).state StandsForSome
             → LeavesOnly (D.view disk.old) (D.view disk.new) (StandsAsBefore (D.view disk.old).state) }
         ensures over { IsTrue D.tells → IfOk result (λ manager. MatchesFiles manager.store (D.view disk.new).state.files) }
-        ensures usable { IfOk result (λ manager. (manager.stopped ≡ None) × (manager.store.given ≡ 0)) }
+        ensures usable { IfOk result (λ manager. (manager.stopped ≡ None) × (manager.store.numbers_given ≡ 0)) }
         ensures bad_mark { IsTrue D.tells → (height : ℕ) → IsErrOf result (OpenError.BadMark height) → IsFirstBadMark (D.view disk.old).state.files height }
         ensures bad_page { IsTrue D.tells → (number : ℕ) → IsErrOf result (OpenError.BadPage number) → IsFirstBadPage (D.view disk.old).state.files number }
         ensures bad_keeps { IsTrue D.tells → IsErrAnd result IsBadFile → LeavesOnly (D.view disk.old) (D.view disk.new) (IsImageNow (D.view disk.old).state) }
@@ -152,7 +152,7 @@ impl Manager {
         disk: &mut D,
     ) -> Result<Reply, DiskError>
         requires needs { needs_disk command.now ≡ true }
-        requires numbers { self.old.store.given ≤ 2 ^ 60 }
+        requires numbers { self.old.store.numbers_given ≤ 2 ^ 60 }
         requires over { IsTrue D.tells → MatchesFiles self.old.store (D.view disk.old).state.files }
         ensures line { DoesLine D.tells self.old self.new (D.view disk.old) (D.view disk.new) result command.now }
         ensures cause { Fails D.Disk disk.old disk.new result }
@@ -181,7 +181,7 @@ impl Manager {
         disk: &mut D,
     ) -> Result<Reply, DiskError>
         requires fits { FitsForm command.now }
-        requires numbers { self.old.store.given ≤ 2 ^ 60 }
+        requires numbers { self.old.store.numbers_given ≤ 2 ^ 60 }
         requires over { IsTrue D.tells → MatchesFiles self.old.store (D.view disk.old).state.files }
         ensures line { DoesLine D.tells self.old self.new (D.view disk.old) (D.view disk.new) result command.now }
         ensures cause { Fails D.Disk disk.old disk.new result }
@@ -209,7 +209,7 @@ impl Manager {
         disk: &mut D,
     ) -> Result<Reply, Stop>
         requires fits { FitsForm command.now }
-        requires numbers { self.old.store.given ≤ 2 ^ 60 }
+        requires numbers { self.old.store.numbers_given ≤ 2 ^ 60 }
         requires over { IsTrue D.tells → self.old.stopped ≡ None → MatchesFiles self.old.store (D.view disk.old).state.files }
 
         ensures step { IsTrue D.tells → (m : Machine) → Keeps self.old (D.view disk.old).state m → Applies result self.new (D.view disk.new).state m command.now }
@@ -218,7 +218,7 @@ impl Manager {
         ensures over { IsTrue D.tells → OnOk result (MatchesFiles self.new.store (D.view disk.new).state.files) }
         ensures spends { IsTrue D.tells → (m : Machine) → Keeps self.old (D.view disk.old).state m
             → OnOk result (Spends (appends m command.now) (reads m command.now) (D.view disk.old) (D.view disk.new)) }
-        ensures given { GivesFew self.old.store self.new.store }
+        ensures numbers_given { GivesFew self.old.store self.new.store }
         ensures closed { (result ≡ Err Stop.Closed) ↔ IsSome self.old.stopped }
         ensures silent { result ≡ Err Stop.Closed → (self.new ≡ self.old) × (disk.new ≡ disk.old) }
         ensures closes { IfErr result (λ stop. self.old.stopped ≡ None → self.new.stopped ≡ Some stop) }

@@ -7,7 +7,7 @@ ghost use Rattle.state_spec.specs.Memory.{pages_holding};
 ghost use Rattle.state_spec.specs.Root.{root_of};
 ghost use Rattle.store_spec.specs.Image.{Published, opened_state};
 ghost use Rattle.disk_model.specs.Causes.{Fails};
-ghost use Rattle.disk_model.specs.Looking.{OnlyLooks};
+ghost use Rattle.disk_model.specs.OnlyReads.{OnlyReads};
 ghost use Rattle.height_store.specs.Kept.{HasStacks, IsReadable, ShowsHeight};
 ghost use Rattle.height_store.specs.Known.{KnowsHeight, bytes_of};
 ghost use Rattle.machine_spec.specs.Costs.{pages_told};
@@ -36,7 +36,7 @@ pub fn load<D: Disk>(
     requires { IsTrue D.tells → HasStacks (D.view disk.old).state.files found.now }
     ensures state { IsTrue D.tells → (p : Published) → ShowsHeight (D.view disk.old).state.files found.now p
         → IfOk result (λ state. KeepsState state (p.height + 1, opened_state p)) }
-    ensures looks { IsTrue D.tells → OnlyLooks (bytes_of found.now) (D.view disk.old) (D.view disk.new) }
+    ensures reads_only { IsTrue D.tells → OnlyReads (bytes_of found.now) (D.view disk.old) (D.view disk.new) }
     ensures cause { Fails D.Disk disk.old disk.new result }
 {
     let memories = found.read_memories(alloc, disk)?;
@@ -53,7 +53,7 @@ pub fn begin<D: Disk>(
     requires readable { IsTrue D.tells → IsReadable store.now.heights (D.view disk.old).state.files }
     ensures state { IsTrue D.tells → (ps : List Published) → AllZip (ShowsHeight (D.view disk.old).state.files) store.now.heights ps
         → IfOk result (λ state. KeepsState state (live_of (start ps))) }
-    ensures looks { IsTrue D.tells → OnlyLooks (newest_bytes store.now.heights) (D.view disk.old) (D.view disk.new) }
+    ensures reads_only { IsTrue D.tells → OnlyReads (newest_bytes store.now.heights) (D.view disk.old) (D.view disk.new) }
     ensures cause { Fails D.Disk disk.old disk.new result }
 {
     match store.last() {
@@ -75,8 +75,8 @@ pub fn read_published<D: Disk>(
     requires { IsTrue D.tells → HasStacks (D.view disk.old).state.files found.now }
     ensures reply { IsTrue D.tells → (p : Published) → ShowsHeight (D.view disk.old).state.files found.now p
         → IfOk result (λ reply. reply ≡ read_reply p.state id.now mem offset len) }
-    ensures looks { IsTrue D.tells → OnlyLooks (page_size * pages_holding offset len) (D.view disk.old) (D.view disk.new) }
-    ensures told { IsTrue D.tells → IfOk result (λ reply. OnlyLooks (page_size * pages_told reply offset len) (D.view disk.old) (D.view disk.new)) }
+    ensures reads_only { IsTrue D.tells → OnlyReads (page_size * pages_holding offset len) (D.view disk.old) (D.view disk.new) }
+    ensures told { IsTrue D.tells → IfOk result (λ reply. OnlyReads (page_size * pages_told reply offset len) (D.view disk.old) (D.view disk.new)) }
     ensures cause { Fails D.Disk disk.old disk.new result }
 {
     let sys = found.sys();

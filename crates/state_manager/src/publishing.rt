@@ -24,7 +24,7 @@ pub fn publish<D: Disk>(
     requires at_most { state.now.height ≤ MAX_HEIGHT }
     requires above { AllByRecursion (λ h. h.mark.height < state.now.height) store.old.heights }
     requires few { length store.old.heights < MAX_PUBLISHED }
-    requires numbers { store.old.given ≤ 2 ^ 60 }
+    requires numbers { store.old.numbers_given ≤ 2 ^ 60 }
     requires over { IsTrue D.tells → MatchesFiles store.old (D.view disk.old).state.files }
     ensures publishes { Publishes D.tells state.now store.old store.new (D.view disk.old) (D.view disk.new) result }
     ensures cause { Fails D.Disk disk.old disk.new result }

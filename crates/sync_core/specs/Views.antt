@@ -26,7 +26,7 @@ abbrev pub core_of : List Wanted → Fresh → List ℕ → ℕ → spec_core.Co
 core_of tried fresh strikes turn = record { missing = missing_of (all_wanted tried) (items_of fresh); strikes = strikes; turn = turn }
 
 -- what always holds: there is room for as many items as can be in flight
-pub record IsKept (core : spec_core.Core) (room : ℕ) : Type 0 where
+pub record HoldsCore (core : spec_core.Core) (room : ℕ) : Type 0 where
   pub good : IsCore core
   pub few : length core.missing < 2 ^ 32
   pub enough : MAX_PEERS * MAX_ASKS ≤ room

@@ -48,13 +48,13 @@ pub struct SyncCore {
 impl Model for SyncCore {
     ghost use Rattle.std.specs.Prelude.{vec_capacity};
     ghost use Rattle.sync_spec.specs.Core.{Core};
-    ghost use Rattle.sync_core.specs.Views.{core_of, IsKept};
+    ghost use Rattle.sync_core.specs.Views.{core_of, HoldsCore};
 
     ghost Value = { Core };
 
     ghost view = { λ c. core_of c.tried.items c.fresh c.strikes.items c.turn };
 
-    ghost invariant = { λ c. IsKept (core_of c.tried.items c.fresh c.strikes.items c.turn) (vec_capacity c.tried) };
+    ghost invariant = { λ c. HoldsCore (core_of c.tried.items c.fresh c.strikes.items c.turn) (vec_capacity c.tried) };
 }
 
 impl SyncCore {

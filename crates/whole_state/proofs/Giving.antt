@@ -65,7 +65,7 @@ not_below n m le = grind (arith, nat_tests)
 
 pub used_more : (most : ℕ) (old new : Store) (n : ℕ) → GivesNumbers most old new → is_used old n ≡ true → is_used new n ≡ true
 used_more most old new n gives used =
-    or_lt (list_any (nat_eq n) new.named) n old.next new.next gives.next (subst (λ (ns : List ℕ). (list_any (nat_eq n) ns || nat_lt n old.next) ≡ true) (sym gives.named) used)
+    or_lt (list_any (nat_eq n) new.named) n old.least_free new.least_free gives.next (subst (λ (ns : List ℕ). (list_any (nat_eq n) ns || nat_lt n old.least_free) ≡ true) (sym gives.named) used)
 
 pub apart_from_used : (old new : Store) (n : ℕ) → is_used old n ≡ true → is_given_since old new (name.Page n) ≡ false
 apart_from_used old new n used = apart_used (is_used new n) (is_used old n) used
@@ -99,15 +99,15 @@ gives_then most old mid new first second = record {
 }
 
 -- the next number
-pub next_written : {D T : Type 0} (disk : Ghosts D) (result : Result T DiskError) (count : ℕ) (old new : Store) (number : ℕ) (before after : D) → IsNextFree old.named old.next number → new ≡ record old { given = old.given + 1; next = number + 1 }
+pub next_written : {D T : Type 0} (disk : Ghosts D) (result : Result T DiskError) (count : ℕ) (old new : Store) (number : ℕ) (before after : D) → IsNextFree old.named old.least_free number → new ≡ record old { numbers_given = old.numbers_given + 1; least_free = number + 1 }
     → Writes disk (same_name (name.Page number)) count before after result → Writes disk (is_given_since old new) count before after result
 next_written disk result count old new number before after free is writes = write_wider disk result (same_name (name.Page number)) (is_given_since old new) count before after within writes
   where
     used : is_used new number ≡ true
-    used = or_right (list_any (nat_eq number) new.named) (nat_lt number new.next) (subst (λ (n : ℕ). nat_lt number n ≡ true) (sym (ap (λ (s : Store). s.next) is)) (lt_next number))
+    used = or_right (list_any (nat_eq number) new.named) (nat_lt number new.least_free) (subst (λ (n : ℕ). nat_lt number n ≡ true) (sym (ap (λ (s : Store). s.least_free) is)) (lt_next number))
 
     unused : is_used old number ≡ false
-    unused = or_from (list_any (nat_eq number) old.named) (nat_lt number old.next) free.free (not_below number old.next free.not_before)
+    unused = or_from (list_any (nat_eq number) old.named) (nat_lt number old.least_free) free.free (not_below number old.least_free free.not_before)
 
     within : (q : Name) → is_given_since old new q ≡ false → same_name (name.Page number) q ≡ false
     within q apart = elim (cases_Bool (same_name (name.Page number) q)) [

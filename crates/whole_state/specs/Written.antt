@@ -46,9 +46,9 @@ AreFinished s bytes stack = AllByRecursion (λ file. IsFinished file bytes s) st
 pub record GivesNumbers (most : ℕ) (old new : Store) : Type 0 where
   pub heights : new.heights ≡ old.heights
   pub named : new.named ≡ old.named
-  pub next : old.next ≤ new.next
-  pub given_least : old.given ≤ new.given
-  pub given_most : new.given ≤ old.given + most
+  pub next : old.least_free ≤ new.least_free
+  pub given_least : old.numbers_given ≤ new.numbers_given
+  pub given_most : new.numbers_given ≤ old.numbers_given + most
 
 -- the page files whose numbers were given between the two
 abbrev pub is_given_since : Store → Store → Name → Bool

@@ -50,13 +50,13 @@ pub fn checkpoint<D: Disk>(
     requires few { length store.old.heights < MAX_PUBLISHED }
     requires fit { FitMemories (part_of sys.now) (map (λ memory. memory.items) memories.now) }
     requires within { AreWithin 1 (map (λ memory. memory.items) memories.now) }
-    requires numbers { store.old.given ≤ 2 ^ 60 }
+    requires numbers { store.old.numbers_given ≤ 2 ^ 60 }
     requires readable { IsTrue D.tells → IsReadable store.old.heights (D.view disk.old).state.files }
     requires writable { IsTrue D.tells → IsWritable store.old height (D.view disk.old).state.files }
 
     ensures root { (s : State) → HasParts s sys.now (map (λ memory. memory.items) memories.now) → IfOk result (λ root. root ≡ root_of s) }
     ensures gains { OnOk result ((h : StoredHeight) × (h.mark.height ≡ height) × (store.new.heights ≡ store.old.heights ++ h ∷ [])) }
-    ensures given { GivesFew store.old store.new }
+    ensures numbers_given { GivesFew store.old store.new }
     ensures readable { IsTrue D.tells → OnOk result (IsReadable store.new.heights (D.view disk.new).state.files) }
     ensures writable { IsTrue D.tells → OnOk result ((h : ℕ) → IsWritable store.old h (D.view disk.old).state.files → IsWritable store.new h (D.view disk.new).state.files) }
     ensures stands { IsTrue D.tells → (ps : List Published) (s : State)
@@ -86,7 +86,7 @@ fn write_memories<D: Disk>(
 ) -> Result<Vec<Stack>, DiskError>
     requires memories { AllByRecursion IsMemoryBytes (map (λ memory. memory.items) memories.now) }
     requires few { length memories.now ≤ MAX_GIVEN }
-    requires numbers { store.old.given ≤ 2 ^ 60 }
+    requires numbers { store.old.numbers_given ≤ 2 ^ 60 }
     requires room { IsTrue D.tells → HasRoom store.old (D.view disk.old).state.files }
 
     ensures store { GivesNumbers (length memories.now) store.old store.new }
@@ -110,7 +110,7 @@ fn write_memory<D: Disk>(
     memory: &[u8],
 ) -> Result<Stack, DiskError>
     requires memory { IsMemoryBytes memory.now }
-    requires numbers { store.old.given < 2 ^ 61 }
+    requires numbers { store.old.numbers_given < 2 ^ 61 }
     requires room { IsTrue D.tells → HasRoom store.old (D.view disk.old).state.files }
 
     ensures store { GivesNumbers 1 store.old store.new }

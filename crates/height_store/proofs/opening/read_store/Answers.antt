@@ -8,7 +8,7 @@ use Rattle.height_store.specs.Bad.{IsFirstBadPage}
 use Rattle.height_store.proofs.FilesFound.{page_handed_on, page_refused}
 use Rattle.std.proofs.Common.{subst, sym, ◌∙◌, ap}
 use Rattle.disk_model.specs.State.{DiskState}
-use Rattle.disk_model.specs.Looking.{looks_then}
+use Rattle.disk_model.specs.OnlyReads.{reads_only_then}
 use Rattle.page_file.specs.Files.{IsAsKnown}
 use Rattle.height_store.specs.Found.{IsFound}
 use Rattle.height_store.specs.Opened.{ReadsAtMost}
@@ -17,31 +17,31 @@ use Rattle.height_store.specs.Standing.{marks_open}
 use Rattle.height_store.proofs.HeightsFound.{read_of, among_by, same_heights, named_by, found_by, read_by}
 use Rattle.height_store.proofs.opening.read_store.Goals as goal
 
-pub returns-in_err-files-clause-only_looks : goal.returns-in_err-files-clause-only_looks
-returns-in_err-files-clause-only_looks g c = λ told.
-    let second = c.open_pages.ensures.only_looks told in
-    (_, looks_then _ second.0 _ _ _ (c.read_marks.ensures.reads told) second.1)
+pub returns-in_err-files-clause-only_reads : goal.returns-in_err-files-clause-only_reads
+returns-in_err-files-clause-only_reads g c = λ told.
+    let second = c.open_pages.ensures.only_reads told in
+    (_, reads_only_then _ second.0 _ _ _ (c.read_marks.ensures.reads told) second.1)
 
-pub returns-in_err-named-clause-only_looks : goal.returns-in_err-named-clause-only_looks
-returns-in_err-named-clause-only_looks g c = λ told.
-    let second = c.open_pages.ensures.only_looks told in
-    (_, looks_then _ second.0 _ _ _ (c.read_marks.ensures.reads told) second.1)
+pub returns-in_err-named-clause-only_reads : goal.returns-in_err-named-clause-only_reads
+returns-in_err-named-clause-only_reads g c = λ told.
+    let second = c.open_pages.ensures.only_reads told in
+    (_, reads_only_then _ second.0 _ _ _ (c.read_marks.ensures.reads told) second.1)
 
-pub returns-in_err-heights-clause-only_looks : goal.returns-in_err-heights-clause-only_looks
-returns-in_err-heights-clause-only_looks g c = λ told.
-    let second = c.open_pages.ensures.only_looks told in
-    (_, looks_then _ second.0 _ _ _ (c.read_marks.ensures.reads told) second.1)
+pub returns-in_err-heights-clause-only_reads : goal.returns-in_err-heights-clause-only_reads
+returns-in_err-heights-clause-only_reads g c = λ told.
+    let second = c.open_pages.ensures.only_reads told in
+    (_, reads_only_then _ second.0 _ _ _ (c.read_marks.ensures.reads told) second.1)
 
-pub returns-clause-only_looks : goal.returns-clause-only_looks
-returns-clause-only_looks g c = λ told.
-    let second = c.open_pages.ensures.only_looks told in
-    (_, looks_then _ second.0 _ _ _ (c.read_marks.ensures.reads told) second.1)
+pub returns-clause-only_reads : goal.returns-clause-only_reads
+returns-clause-only_reads g c = λ told.
+    let second = c.open_pages.ensures.only_reads told in
+    (_, reads_only_then _ second.0 _ _ _ (c.read_marks.ensures.reads told) second.1)
 
 pub returns-in_err-files-clause-bad_page : goal.returns-in_err-files-clause-bad_page
 returns-in_err-files-clause-bad_page g c = λ told number is.
     let p = err_from_is_err_and c.from_residual-in_err-files.result c.from_residual-in_err-files.ensures.1 in
     let err = page_handed_on _ c.from_residual-in_err-files.result p.0 c.in_err-files.field-0.0 number p.1 p.2 is in
-    subst (λ (s : DiskState). IsFirstBadPage s.files number) (c.in_ok-marks.ensures.looks told).state (c.in_err-files.ensures.bad_page told number err)
+    subst (λ (s : DiskState). IsFirstBadPage s.files number) (c.in_ok-marks.ensures.reads_only told).state (c.in_err-files.ensures.bad_page told number err)
 
 pub returns-in_err-files-clause-cause : goal.returns-in_err-files-clause-cause
 returns-in_err-files-clause-cause g c =
@@ -60,7 +60,7 @@ returns-clause-named g c = subst (λ (store : Store). (n : ℕ) → list_any (na
 pub returns-clause-found : goal.returns-clause-found
 returns-clause-found g c = λ told.
     let files = (g.D.Disk.view c.args.disk.now).state.files in
-    let kept = subst (λ (s : DiskState). AllByRecursion (IsAsKnown s.files) c.in_ok-files.files.items) (c.in_ok-marks.ensures.looks told).state (c.in_ok-files.ensures.kept told) in
+    let kept = subst (λ (s : DiskState). AllByRecursion (IsAsKnown s.files) c.in_ok-files.files.items) (c.in_ok-marks.ensures.reads_only told).state (c.in_ok-files.ensures.kept told) in
     subst (λ (store : Store). IsFound store files) (sym c.new.ensures)
     (found_by c.in_ok-heights.heights.items _ c.in_ok-heights.ensures.marks files _ 0 0 c.in_ok-files.files.items (c.in_ok-marks.ensures.good told)
     (c.in_ok-named.ensures ∙ ap numbers_of c.deref-2.ensures.value) kept
@@ -69,15 +69,15 @@ returns-clause-found g c = λ told.
 pub returns-clause-read : goal.returns-clause-read
 returns-clause-read g c = λ told.
     let files = (g.D.Disk.view c.args.disk.now).state.files in
-    let kept = subst (λ (s : DiskState). AllByRecursion (IsAsKnown s.files) c.in_ok-files.files.items) (c.in_ok-marks.ensures.looks told).state (c.in_ok-files.ensures.kept told) in
+    let kept = subst (λ (s : DiskState). AllByRecursion (IsAsKnown s.files) c.in_ok-files.files.items) (c.in_ok-marks.ensures.reads_only told).state (c.in_ok-files.ensures.kept told) in
     subst (λ (store : Store). ReadsAtMost files store (g.D.Disk.view c.args.disk.now).bytes_read (g.D.Disk.view c.open_pages.new.disk).bytes_read) (sym c.new.ensures)
     (read_by c.in_ok-heights.heights.items _ c.in_ok-heights.ensures.marks files _ 0 0 c.in_ok-files.files.items _ _ _
-    (c.in_ok-named.ensures ∙ ap numbers_of c.deref-2.ensures.value) kept (c.in_ok-marks.ensures.looks told) (c.in_ok-files.ensures.looks told))
+    (c.in_ok-named.ensures ∙ ap numbers_of c.deref-2.ensures.value) kept (c.in_ok-marks.ensures.reads_only told) (c.in_ok-files.ensures.reads_only told))
 
 pub returns-clause-opens : goal.returns-clause-opens
 returns-clause-opens g c = λ told.
     let files = (g.D.Disk.view c.args.disk.now).state.files in
-    let kept = subst (λ (s : DiskState). AllByRecursion (IsAsKnown s.files) c.in_ok-files.files.items) (c.in_ok-marks.ensures.looks told).state (c.in_ok-files.ensures.kept told) in
+    let kept = subst (λ (s : DiskState). AllByRecursion (IsAsKnown s.files) c.in_ok-files.files.items) (c.in_ok-marks.ensures.reads_only told).state (c.in_ok-files.ensures.kept told) in
     let found = found_by c.in_ok-heights.heights.items _ c.in_ok-heights.ensures.marks files _ 0 0 c.in_ok-files.files.items (c.in_ok-marks.ensures.good told)
     (c.in_ok-named.ensures ∙ ap numbers_of c.deref-2.ensures.value) kept
     (λ all are. c.in_ok-heights.ensures.stacks all (subst (AllByRecursion (IsAsKnown all)) (sym c.deref-3.ensures.value) are)) in

@@ -1,6 +1,6 @@
 use Rattle.std.proofs.Common.{◌≤◌, IsTrue, take}
 use Rattle.std.specs.List.{AllByRecursion}
-use Rattle.disk_model.specs.Looking.{OnlyLooks}
+use Rattle.disk_model.specs.OnlyReads.{OnlyReads}
 use Rattle.page_file.specs.Files.{IsAsKnown}
 use Rattle.height_store.specs.Bad.{IsGoodNaming}
 use Rattle.height_store.specs.Naming.{index_bytes}
@@ -13,5 +13,5 @@ invariant-loop-naming g l = record {
   faults : g.D.Disk.faults l.initial.disk ≤ g.D.Disk.faults l.disk;
   kept : IsTrue g.D.Disk.tells → AllByRecursion (IsAsKnown (g.D.Disk.view l.initial.disk).state.files) l.files.items;
   good : IsTrue g.D.Disk.tells → AllByRecursion (IsGoodNaming (g.D.Disk.view l.initial.disk).state.files) (take l.naming-index l.named);
-  looks : IsTrue g.D.Disk.tells → OnlyLooks (index_bytes l.files.items) (g.D.Disk.view l.initial.disk) (g.D.Disk.view l.disk);
+  reads_only : IsTrue g.D.Disk.tells → OnlyReads (index_bytes l.files.items) (g.D.Disk.view l.initial.disk) (g.D.Disk.view l.disk);
 }

@@ -2,7 +2,7 @@ use Rattle.std.proofs.Common.{◌∙◌, sym, subst, arith, List}
 use Rattle.std.proofs.lemmas.Result.{err_from_is_err_and}
 use Rattle.page_file.specs.declared.file.PageFile.{PageFile}
 use Rattle.page_file.specs.Files.{NumberedFile}
-use Rattle.disk_model.specs.Looking.{looks_none}
+use Rattle.disk_model.specs.OnlyReads.{reads_only_none}
 use Rattle.page_file.specs.declared.error.PageError.TheVariants.{BadPage}
 use Rattle.height_store.specs.Naming.{IsFileOf}
 use Rattle.height_store.proofs.MarksRead.{handed_on}
@@ -16,8 +16,8 @@ returns-in-Some-clause-bad g c = λ told n is.
     (kept_of (g.D.Disk.view c.args.disk.now).state.files c.args.files.now.items c.args.number c.in-Some.file.now (c.requires.kept told) of)
     (refused c.check_fits.result c.in-Some.file.now.number n c.args.pages c.in-Some.file.now.index.memory c.check_fits.ensures.bad is)
 
-pub returns-in-Some-clause-looks : goal.returns-in-Some-clause-looks
-returns-in-Some-clause-looks g c = λ told. on_ok c.check_fits.result _ (0, omega arith, looks_none 0 (g.D.Disk.view c.args.disk.now))
+pub returns-in-Some-clause-reads_only : goal.returns-in-Some-clause-reads_only
+returns-in-Some-clause-reads_only g c = λ told. on_ok c.check_fits.result _ (0, omega arith, reads_only_none 0 (g.D.Disk.view c.args.disk.now))
 
 pub returns-in_err-file-clause-bad : goal.returns-in_err-file-clause-bad
 returns-in_err-file-clause-bad g c = λ told n is.

@@ -1,20 +1,20 @@
 use Rattle.std.proofs.Common.{◌*◌, ◌∙◌, subst, length, drop}
 use Rattle.disk_model.specs.declared.name.Name.TheVariants.{Page}
-use Rattle.disk_model.specs.Looking.{OnlyLooks, looks_call}
+use Rattle.disk_model.specs.OnlyReads.{OnlyReads, reads_only_call}
 use Rattle.page_file.proofs.Opened.{filled, index_of_file, index_counted}
 use Rattle.page_file.proofs.file.read_ranges.Goals as goal
 
-pub returns-in_err-read-clause-looks : goal.returns-in_err-read-clause-looks
-returns-in_err-read-clause-looks g c = λ told.
-    subst (λ n. OnlyLooks n (g.D.Disk.view c.args.disk.now) (g.D.Disk.view c.read.new.self)) (c.deref_mut.ensures.len ∙ c.in_ok-bytes.ensures.len) (looks_call (length c.deref_mut.result.now) _ _ _ (c.read.ensures.looks told))
+pub returns-in_err-read-clause-reads_only : goal.returns-in_err-read-clause-reads_only
+returns-in_err-read-clause-reads_only g c = λ told.
+    subst (λ n. OnlyReads n (g.D.Disk.view c.args.disk.now) (g.D.Disk.view c.read.new.self)) (c.deref_mut.ensures.len ∙ c.in_ok-bytes.ensures.len) (reads_only_call (length c.deref_mut.result.now) _ _ _ (c.read.ensures.reads_only told))
 
-pub returns-in_err-read-2-clause-looks : goal.returns-in_err-read-2-clause-looks
-returns-in_err-read-2-clause-looks g c = λ told.
-    subst (λ n. OnlyLooks n (g.D.Disk.view c.args.disk.now) (g.D.Disk.view c.read.new.self)) (c.deref_mut.ensures.len ∙ c.in_ok-bytes.ensures.len) (looks_call (length c.deref_mut.result.now) _ _ _ (c.read.ensures.looks told))
+pub returns-in_err-read-2-clause-reads_only : goal.returns-in_err-read-2-clause-reads_only
+returns-in_err-read-2-clause-reads_only g c = λ told.
+    subst (λ n. OnlyReads n (g.D.Disk.view c.args.disk.now) (g.D.Disk.view c.read.new.self)) (c.deref_mut.ensures.len ∙ c.in_ok-bytes.ensures.len) (reads_only_call (length c.deref_mut.result.now) _ _ _ (c.read.ensures.reads_only told))
 
-pub returns-clause-looks : goal.returns-clause-looks
-returns-clause-looks g c = λ told.
-    subst (λ n. OnlyLooks n (g.D.Disk.view c.args.disk.now) (g.D.Disk.view c.read.new.self)) (c.deref_mut.ensures.len ∙ c.in_ok-bytes.ensures.len) (looks_call (length c.deref_mut.result.now) _ _ _ (c.read.ensures.looks told))
+pub returns-clause-reads_only : goal.returns-clause-reads_only
+returns-clause-reads_only g c = λ told.
+    subst (λ n. OnlyReads n (g.D.Disk.view c.args.disk.now) (g.D.Disk.view c.read.new.self)) (c.deref_mut.ensures.len ∙ c.in_ok-bytes.ensures.len) (reads_only_call (length c.deref_mut.result.now) _ _ _ (c.read.ensures.reads_only told))
 
 pub returns-clause-found : goal.returns-clause-found
 returns-clause-found g c = λ told.

@@ -7,21 +7,21 @@ use Rattle.layer_stack.specs.Stacks.{AreLayers}
 use Rattle.page_map.specs.Maps.{own_at}
 use Rattle.page_map.specs.Reads.{page_of, bytes_with}
 use Rattle.page_map.specs.Pieces.{touched_pages, is_foreign, IsPiece}
-use Rattle.page_map.proofs.Ranges.{looks_next, looks_all, amount_read, all_before, part_long, fits, read_more}
+use Rattle.page_map.proofs.Ranges.{reads_only_next, reads_only_all, amount_read, all_before, part_long, fits, read_more}
 use Rattle.page_map.proofs.Written.{bytes_piece}
 use Rattle.page_map.proofs.reads.read_range.Goals as goal
 use borrow.Rule.Slice.PartMut.{put_mid}
 
-pub returns-in_err-read_piece-clause-looks : goal.returns-in_err-read_piece-clause-looks
-returns-in_err-read_piece-clause-looks g c = λ told.
+pub returns-in_err-read_piece-clause-reads_only : goal.returns-in_err-read_piece-clause-reads_only
+returns-in_err-read_piece-clause-reads_only g c = λ told.
     let page = c.loop-page.page in
     let first = c.pages_of_range-pages.result.0 in
     let p = is_foreign c.args.own.now c.args.id in
     let old = g.D.Disk.view c.args.disk.now in
     let mid = g.D.Disk.view c.loop-page.disk in
     let new = g.D.Disk.view c.read_piece.new.disk in
-    looks_all p first (page + 1) c.pages_of_range-pages.result.1 (touched_pages c.args.at (length c.args.into.now)) old new (omega (arith, c.loop-page.invariant.from)) (omega (arith, c.loop-page-test.true)) c.pages_of_range-pages.ensures.touched
-    (looks_next p first page (cond (is_some (own_at c.args.own.now c.args.id page)) 0 PAGE_SIZE) old mid new c.loop-page.invariant.from (amount_read (is_some (own_at c.args.own.now c.args.id page))) (c.loop-page.invariant.looks told) (c.read_piece.ensures.looks told))
+    reads_only_all p first (page + 1) c.pages_of_range-pages.result.1 (touched_pages c.args.at (length c.args.into.now)) old new (omega (arith, c.loop-page.invariant.from)) (omega (arith, c.loop-page-test.true)) c.pages_of_range-pages.ensures.touched
+    (reads_only_next p first page (cond (is_some (own_at c.args.own.now c.args.id page)) 0 PAGE_SIZE) old mid new c.loop-page.invariant.from (amount_read (is_some (own_at c.args.own.now c.args.id page))) (c.loop-page.invariant.reads_only told) (c.read_piece.ensures.reads_only told))
 
 pub loop-page-preserved : goal.loop-page-preserved
 loop-page-preserved g c =
@@ -44,10 +44,10 @@ loop-page-preserved g c =
       from = omega (arith, c.loop-page.invariant.from);
       until = omega (arith, c.loop-page-test.true);
       faults = omega (arith, c.read_piece.ensures.cause.never_falls, c.loop-page.invariant.faults);
-      looks = λ told. looks_next p first page (cond (is_some (own_at c.args.own.now c.args.id page)) 0 PAGE_SIZE) old mid new c.loop-page.invariant.from (amount_read (is_some (own_at c.args.own.now c.args.id page))) (c.loop-page.invariant.looks told) (c.read_piece.ensures.looks told);
+      reads_only = λ told. reads_only_next p first page (cond (is_some (own_at c.args.own.now c.args.id page)) 0 PAGE_SIZE) old mid new c.loop-page.invariant.from (amount_read (is_some (own_at c.args.own.now c.args.id page))) (c.loop-page.invariant.reads_only told) (c.read_piece.ensures.reads_only told);
       bytes = λ told layers count are within.
           let files = old.state.files in
-          let here = subst (λ (s : DiskState). AreLayers s.files c.args.stack.now layers) (sym (c.loop-page.invariant.looks told).state) are in
+          let here = subst (λ (s : DiskState). AreLayers s.files c.args.stack.now layers) (sym (c.loop-page.invariant.reads_only told).state) are in
           let part = part_long at n page from to start is soon reached c.loop-page.into long in
           let s : Bytes = bytes_with layers (own_at c.args.own.now c.args.id) count in
           let room : c.read_piece.new.into ≡ take (to - from) (drop (page * PAGE_SIZE + start) s) =
@@ -58,10 +58,10 @@ loop-page-preserved g c =
           (c.loop-page.invariant.bytes told layers count are within) refl room (c.read_piece.auto.into ∙ part);
     }
 
-pub returns-clause-looks : goal.returns-clause-looks
-returns-clause-looks g c = λ told.
-    looks_all (is_foreign c.args.own.now c.args.id) c.pages_of_range-pages.result.0 c.loop-page.page c.pages_of_range-pages.result.1 (touched_pages c.args.at (length c.args.into.now)) (g.D.Disk.view c.args.disk.now) (g.D.Disk.view c.loop-page.disk)
-    c.loop-page.invariant.from c.loop-page.invariant.until c.pages_of_range-pages.ensures.touched (c.loop-page.invariant.looks told)
+pub returns-clause-reads_only : goal.returns-clause-reads_only
+returns-clause-reads_only g c = λ told.
+    reads_only_all (is_foreign c.args.own.now c.args.id) c.pages_of_range-pages.result.0 c.loop-page.page c.pages_of_range-pages.result.1 (touched_pages c.args.at (length c.args.into.now)) (g.D.Disk.view c.args.disk.now) (g.D.Disk.view c.loop-page.disk)
+    c.loop-page.invariant.from c.loop-page.invariant.until c.pages_of_range-pages.ensures.touched (c.loop-page.invariant.reads_only told)
 
 pub returns-clause-bytes : goal.returns-clause-bytes
 returns-clause-bytes g c = λ told layers count are within.

@@ -9,15 +9,15 @@ use Rattle.page_map.specs.Maps.{own_at}
 use Rattle.page_map.specs.Reads.{bytes_with}
 use Rattle.page_map.specs.Changes.{Writes}
 use Rattle.page_map.specs.Pieces.{touched_pages, is_foreign, is_filled_in_part}
-use Rattle.page_map.proofs.Ranges.{looks_next, looks_all, write_amount, all_before, part_long, fits, write_more}
+use Rattle.page_map.proofs.Ranges.{reads_only_next, reads_only_all, write_amount, all_before, part_long, fits, write_more}
 use Rattle.page_map.proofs.Written.{bytes_long, bytes_put, only_then, writes_more, written_whole}
 use Rattle.page_map.proofs.writes.write_pages.Goals as goal
 
 pub write_page-requires-clause-whole : goal.write_page-requires-clause-whole
 write_page-requires-clause-whole g c = written_whole (own_at c.args.own.now c.args.id) (own_at c.loop-page.own c.args.id) c.args.stamp c.args.pages.0 c.loop-page.page c.loop-page.invariant.written c.requires.whole
 
-pub returns-in_err-write_page-clause-looks : goal.returns-in_err-write_page-clause-looks
-returns-in_err-write_page-clause-looks g c = λ told.
+pub returns-in_err-write_page-clause-reads_only : goal.returns-in_err-write_page-clause-reads_only
+returns-in_err-write_page-clause-reads_only g c = λ told.
     let page = c.loop-page.page in
     let at = c.args.at in
     let n = length c.args.bytes.now in
@@ -32,8 +32,8 @@ returns-in_err-write_page-clause-looks g c = λ told.
     let reached : page * PAGE_SIZE < at + n = omega (arith, c.requires.pages.ends, c.loop-page-test.true) in
     let part : Bytes = take (to - from) (drop from c.args.bytes.now) in
     let amount = write_amount at n page from to c.piece_of-piece.result.start c.piece_of-piece.ensures soon reached c.args.bytes.now refl c.args.own.now c.loop-page.own c.args.id (c.loop-page.invariant.written.rest page (omega arith)) in
-    looks_all p first (page + 1) c.args.pages.1 (touched_pages at n) old new (omega (arith, c.loop-page.invariant.from)) (omega (arith, c.loop-page-test.true)) c.requires.pages.touched
-    (looks_next p first page (cond (nat_lt (length part) PAGE_SIZE && is_foreign c.loop-page.own c.args.id page) PAGE_SIZE 0) old mid new c.loop-page.invariant.from amount (c.loop-page.invariant.looks told) (c.write_page.ensures.looks told))
+    reads_only_all p first (page + 1) c.args.pages.1 (touched_pages at n) old new (omega (arith, c.loop-page.invariant.from)) (omega (arith, c.loop-page-test.true)) c.requires.pages.touched
+    (reads_only_next p first page (cond (nat_lt (length part) PAGE_SIZE && is_foreign c.loop-page.own c.args.id page) PAGE_SIZE 0) old mid new c.loop-page.invariant.from amount (c.loop-page.invariant.reads_only told) (c.write_page.ensures.reads_only told))
 
 pub loop-page-preserved : goal.loop-page-preserved
 loop-page-preserved g c =
@@ -60,10 +60,10 @@ loop-page-preserved g c =
       live = put.2.live;
       written = writes_more (own_at c.args.own.now c.args.id) c.loop-page.own c.write_page.new.own c.args.id c.args.stamp first page put.0 c.loop-page.invariant.from put.1 c.loop-page.invariant.written put.2;
       others = only_then c.args.own.now c.loop-page.own c.write_page.new.own c.args.id c.loop-page.invariant.others put.2.others;
-      looks = λ told. looks_next p first page (cond (nat_lt (length part) PAGE_SIZE && is_foreign c.loop-page.own c.args.id page) PAGE_SIZE 0) old mid new c.loop-page.invariant.from amount (c.loop-page.invariant.looks told) (c.write_page.ensures.looks told);
+      reads_only = λ told. reads_only_next p first page (cond (nat_lt (length part) PAGE_SIZE && is_foreign c.loop-page.own c.args.id page) PAGE_SIZE 0) old mid new c.loop-page.invariant.from amount (c.loop-page.invariant.reads_only told) (c.write_page.ensures.reads_only told);
       bytes = λ told layers count are within.
           let files = old.state.files in
-          let here = subst (λ (s : DiskState). AreLayers s.files c.args.stack.now layers) (sym (c.loop-page.invariant.looks told).state) are in
+          let here = subst (λ (s : DiskState). AreLayers s.files c.args.stack.now layers) (sym (c.loop-page.invariant.reads_only told).state) are in
           let whole = written_whole (own_at c.args.own.now c.args.id) (own_at c.loop-page.own c.args.id) c.args.stamp first page c.loop-page.invariant.written c.requires.whole in
           let long = bytes_long files c.args.stack.now layers are (own_at c.args.own.now c.args.id) c.requires.whole count in
           let part_fits = fits at n page from to start c.piece_of-piece.ensures soon reached in
@@ -79,10 +79,10 @@ returns-clause-written g c =
     let last : c.loop-page.page ≡ c.args.pages.1 = omega (arith, c.loop-page-test.false, c.loop-page.invariant.until) in
     subst (λ (k : ℕ). Writes (own_at c.args.own.now c.args.id) (own_at c.loop-page.own c.args.id) c.args.stamp c.args.pages.0 k) last c.loop-page.invariant.written
 
-pub returns-clause-looks : goal.returns-clause-looks
-returns-clause-looks g c = λ told.
-    looks_all (λ (q : ℕ). is_filled_in_part c.args.at (length c.args.bytes.now) q && is_foreign c.args.own.now c.args.id q) c.args.pages.0 c.loop-page.page c.args.pages.1 (touched_pages c.args.at (length c.args.bytes.now)) (g.D.Disk.view c.args.disk.now) (g.D.Disk.view c.loop-page.disk)
-    c.loop-page.invariant.from c.loop-page.invariant.until c.requires.pages.touched (c.loop-page.invariant.looks told)
+pub returns-clause-reads_only : goal.returns-clause-reads_only
+returns-clause-reads_only g c = λ told.
+    reads_only_all (λ (q : ℕ). is_filled_in_part c.args.at (length c.args.bytes.now) q && is_foreign c.args.own.now c.args.id q) c.args.pages.0 c.loop-page.page c.args.pages.1 (touched_pages c.args.at (length c.args.bytes.now)) (g.D.Disk.view c.args.disk.now) (g.D.Disk.view c.loop-page.disk)
+    c.loop-page.invariant.from c.loop-page.invariant.until c.requires.pages.touched (c.loop-page.invariant.reads_only told)
 
 pub returns-clause-bytes : goal.returns-clause-bytes
 returns-clause-bytes g c = λ told layers count are within.

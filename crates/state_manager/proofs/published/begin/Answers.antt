@@ -1,7 +1,7 @@
 use Rattle.std.proofs.Common.{ℕ, Option, ◌∙◌, ap, subst}
 use Rattle.std.proofs.lemmas.Result.{IfOk-weaker}
 use Rattle.std.specs.Option.{option_map_or}
-use Rattle.disk_model.specs.Looking.{OnlyLooks, looks_none}
+use Rattle.disk_model.specs.OnlyReads.{OnlyReads, reads_only_none}
 use Rattle.height_store.specs.Known.{bytes_at, bytes_of}
 use Rattle.height_store.specs.Kept.{ShowsHeight}
 use Rattle.height_store.specs.Laws.{last_found, last_height, stacks_found}
@@ -22,12 +22,12 @@ returns-in-Some-clause-state g c = λ told ps each.
     let last = newest_found (ShowsHeight _) c.args.store.now.heights ps c.in-Some.found.now each c.in-Some.ensures.last in
     IfOk-weaker c.load.result _ _ (λ state k. begun state last.0 ps k last.2) (c.load.ensures.state told last.0 last.1)
 
-pub returns-in-None-clause-looks : goal.returns-in-None-clause-looks
-returns-in-None-clause-looks g c = λ told. looks_none _ _
+pub returns-in-None-clause-reads_only : goal.returns-in-None-clause-reads_only
+returns-in-None-clause-reads_only g c = λ told. reads_only_none _ _
 
-pub returns-in-Some-clause-looks : goal.returns-in-Some-clause-looks
-returns-in-Some-clause-looks g c = λ told.
+pub returns-in-Some-clause-reads_only : goal.returns-in-Some-clause-reads_only
+returns-in-Some-clause-reads_only g c = λ told.
     let hs = c.args.store.now.heights in
     let found = last_found hs c.in-Some.found.now c.in-Some.ensures.ascends c.in-Some.ensures.last in
-    subst (λ (n : ℕ). OnlyLooks n (g.D.Disk.view c.args.disk.now) (g.D.Disk.view c.load.new.disk))
-    (ap (λ (o : Option StoredHeight). option_map_or bytes_of o 0) found ∙ ap (λ (newest : Option ℕ). option_map_or (bytes_at hs) newest 0) (last_height hs c.in-Some.found.now c.in-Some.ensures.last)) (c.load.ensures.looks told)
+    subst (λ (n : ℕ). OnlyReads n (g.D.Disk.view c.args.disk.now) (g.D.Disk.view c.load.new.disk))
+    (ap (λ (o : Option StoredHeight). option_map_or bytes_of o 0) found ∙ ap (λ (newest : Option ℕ). option_map_or (bytes_at hs) newest 0) (last_height hs c.in-Some.found.now c.in-Some.ensures.last)) (c.load.ensures.reads_only told)

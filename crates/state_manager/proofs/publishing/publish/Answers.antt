@@ -36,5 +36,5 @@ returns-clause-publishes g c =
           subst (λ (n : ℕ). OnOk c.checkpoint.result (Spends n 0 (g.D.Disk.view c.args.disk.now) (g.D.Disk.view c.checkpoint.new.disk)))
           (ap (λ (system : System). whole_length (length (system_text (part_of system))) (map (λ v. v.items) c.memories.result.now)) c.system.ensures
           ∙ written_bytes c.args.state.now k keeps _ (sym c.memories.ensures.value)) (writes_spend c.checkpoint.result _ _ _ _ (c.checkpoint.ensures.writes.only told));
-      given = c.checkpoint.ensures.given;
+      numbers_given = c.checkpoint.ensures.numbers_given;
     }

@@ -34,16 +34,16 @@ write_memories-requires-clause-memories g c = memories_good (part_of c.args.sys.
 pub write_memories-requires-clause-few : goal.write_memories-requires-clause-few
 write_memories-requires-clause-few g c = omega (arith, memories_few (part_of c.args.sys.now) (map bytes c.args.memories.now) c.encode.ensures.system c.requires.fit, length-map c.args.memories.now bytes)
 
-pub returns-in_err-stacks-clause-given : goal.returns-in_err-stacks-clause-given
-returns-in_err-stacks-clause-given g c =
+pub returns-in_err-stacks-clause-numbers_given : goal.returns-in_err-stacks-clause-numbers_given
+returns-in_err-stacks-clause-numbers_given g c =
     given_bounds bytes c.args.memories.now c.args.store.now c.write_memories.new.store (memories_few (part_of c.args.sys.now) (map bytes c.args.memories.now) c.encode.ensures.system c.requires.fit) c.write_memories.ensures.store
 
 pub returns-in_err-stacks-clause-images : goal.returns-in_err-stacks-clause-images
 returns-in_err-stacks-clause-images g c = λ told ps s parts settled keeps.
     stands_on c.args.store.now c.write_memories.new.store _ _ ps _ (g.met.D.Disk.reads_as_image c.args.disk.now told) (c.requires.readable told) (c.requires.writable told).room (c.write_memories.ensures.writes.only told).touches keeps
 
-pub returns-in_err-mark-clause-given : goal.returns-in_err-mark-clause-given
-returns-in_err-mark-clause-given g c =
+pub returns-in_err-mark-clause-numbers_given : goal.returns-in_err-mark-clause-numbers_given
+returns-in_err-mark-clause-numbers_given g c =
     given_bounds bytes c.args.memories.now c.args.store.now c.write_memories.new.store (memories_few (part_of c.args.sys.now) (map bytes c.args.memories.now) c.encode.ensures.system c.requires.fit) c.write_memories.ensures.store
 
 pub returns-in_err-mark-clause-images : goal.returns-in_err-mark-clause-images
@@ -78,15 +78,15 @@ pub returns-clause-writable : goal.returns-clause-writable
 returns-clause-writable g c = λ told n writable.
     c.in_ok-publish.ensures.writable told n (record { room = c.in_ok-stacks.ensures.room told; no_draft = (c.write_memories.ensures.writes.only told).touches.reads (Draft n) refl ∙ writable.no_draft })
 
-pub returns-in_err-publish-clause-given : goal.returns-in_err-publish-clause-given
-returns-in_err-publish-clause-given g c =
+pub returns-in_err-publish-clause-numbers_given : goal.returns-in_err-publish-clause-numbers_given
+returns-in_err-publish-clause-numbers_given g c =
     let given = given_bounds bytes c.args.memories.now c.args.store.now c.write_memories.new.store (memories_few (part_of c.args.sys.now) (map bytes c.args.memories.now) c.encode.ensures.system c.requires.fit) c.write_memories.ensures.store in
-    record { least = omega (arith, c.publish.ensures.given, given.least); most = omega (arith, c.publish.ensures.given, given.most) }
+    record { least = omega (arith, c.publish.ensures.numbers_given, given.least); most = omega (arith, c.publish.ensures.numbers_given, given.most) }
 
-pub returns-clause-given : goal.returns-clause-given
-returns-clause-given g c =
+pub returns-clause-numbers_given : goal.returns-clause-numbers_given
+returns-clause-numbers_given g c =
     let given = given_bounds bytes c.args.memories.now c.args.store.now c.write_memories.new.store (memories_few (part_of c.args.sys.now) (map bytes c.args.memories.now) c.encode.ensures.system c.requires.fit) c.write_memories.ensures.store in
-    record { least = omega (arith, c.publish.ensures.given, given.least); most = omega (arith, c.publish.ensures.given, given.most) }
+    record { least = omega (arith, c.publish.ensures.numbers_given, given.least); most = omega (arith, c.publish.ensures.numbers_given, given.most) }
 
 pub returns-in_err-publish-clause-images : goal.returns-in_err-publish-clause-images
 returns-in_err-publish-clause-images g c = λ told ps s parts settled keeps.

@@ -14,8 +14,8 @@ invariant_of-self-2 c = record {
   wrote_bytes = wrote_after (files_in c.args.self.now.first.entries) c.args.self.now.events.items Look _ _ c.reserve.ensures.items c.note.ensures c.args.self.now.wrote_bytes no_bytes;
 }
 
-pub returns-clause-looks : goal.returns-clause-looks
+pub returns-clause-reads_only : goal.returns-clause-reads_only
 unfolding mem_view
-returns-clause-looks c =
+returns-clause-reads_only c =
     done_look _ _ _ c.args.count (did (files_in c.args.self.now.first.entries) c.args.self.now.events.items Look _ _ c.args.self.now.bytes_read c.reserve.ensures.items c.note.ensures)
     refl refl refl (omega (arith, c.saturating_add-self.ensures)) (omega (arith, c.saturating_add-self.ensures))

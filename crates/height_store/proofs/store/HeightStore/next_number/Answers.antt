@@ -15,12 +15,12 @@ invariant_of-self c = record {
   ascends = c.self.invariant.ascends;
   few = c.self.invariant.few;
   named_ascends = c.self.invariant.named_ascends;
-  passed = passed_next c.self.inside.named.items c.self.inside.given c.self.inside.next c.first_free-number.result c.self.invariant.passed
-      (next_of_all c.self.inside.named.items c.deref.result.now c.deref-2.result.now c.count_below-below.result c.self.inside.next c.first_free-number.result
+  passed = passed_next c.self.inside.named.items c.self.inside.numbers_given c.self.inside.least_free c.first_free-number.result c.self.invariant.passed
+      (next_of_all c.self.inside.named.items c.deref.result.now c.deref-2.result.now c.count_below-below.result c.self.inside.least_free c.first_free-number.result
       c.deref.ensures.value c.deref-2.ensures.value c.count_below-below.ensures.count c.count_below-below.ensures.below c.first_free-number.ensures.free);
 }
 
 pub returns-clause-number : goal.returns-clause-number
-returns-clause-number c = subst (λ (s : Store). IsNextFree s.named s.next c.first_free-number.result) c.self.view_is
-    (next_of_all c.self.inside.named.items c.deref.result.now c.deref-2.result.now c.count_below-below.result c.self.inside.next c.first_free-number.result
+returns-clause-number c = subst (λ (s : Store). IsNextFree s.named s.least_free c.first_free-number.result) c.self.view_is
+    (next_of_all c.self.inside.named.items c.deref.result.now c.deref-2.result.now c.count_below-below.result c.self.inside.least_free c.first_free-number.result
     c.deref.ensures.value c.deref-2.ensures.value c.count_below-below.ensures.count c.count_below-below.ensures.below c.first_free-number.ensures.free)

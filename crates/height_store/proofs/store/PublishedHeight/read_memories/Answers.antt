@@ -21,28 +21,28 @@ read_memory-requires-clause-at_most g c =
     count_fits (part_of c.sys.result.now) c.in_ok-pages.pages.items c.loop-file.file c.index.result.now c.in_ok-pages.ensures.pages lt c.index.ensures c.in_ok-pages.ensures.kept.system
 
 pub read_memory-requires-clause-readable : goal.read_memory-requires-clause-readable
-read_memory-requires-clause-readable g c = λ told. subst (λ (s : DiskState). HasStacks s.files c.args.self.now) (sym (c.loop-file.invariant.looks told).state) (c.requires told)
+read_memory-requires-clause-readable g c = λ told. subst (λ (s : DiskState). HasStacks s.files c.args.self.now) (sym (c.loop-file.invariant.reads_only told).state) (c.requires told)
 
 pub read_memory-requires-clause-there : goal.read_memory-requires-clause-there
 read_memory-requires-clause-there g c =
     let lt : c.loop-file.file < length c.in_ok-pages.pages.items = omega (arith, c.loop-file-test.true, c.len-file-end.ensures) in
     is_there (part_of c.args.self.now.system) c.in_ok-pages.pages.items c.loop-file.file c.index.result.now (own_counts c.args.self.now _ _ c.sys.ensures.sys c.in_ok-pages.ensures.pages) lt c.index.ensures
 
-pub returns-in_err-memory-clause-looks : goal.returns-in_err-memory-clause-looks
-returns-in_err-memory-clause-looks g c = λ told.
+pub returns-in_err-memory-clause-reads_only : goal.returns-in_err-memory-clause-reads_only
+returns-in_err-memory-clause-reads_only g c = λ told.
     let lt : c.loop-file.file < length c.in_ok-pages.pages.items = omega (arith, c.loop-file-test.true, c.len-file-end.ensures) in
     reads_within c.args.self.now c.in_ok-pages.pages.items (own_counts c.args.self.now _ _ c.sys.ensures.sys c.in_ok-pages.ensures.pages) (c.loop-file.file + 1) _ _
-    (reads_next c.in_ok-pages.pages.items c.loop-file.file c.index.result.now _ _ _ lt c.index.ensures (c.loop-file.invariant.looks told) (c.read_memory.ensures.looks told))
+    (reads_next c.in_ok-pages.pages.items c.loop-file.file c.index.result.now _ _ _ lt c.index.ensures (c.loop-file.invariant.reads_only told) (c.read_memory.ensures.reads_only told))
 
-pub returns-in_err-push-clause-looks : goal.returns-in_err-push-clause-looks
-returns-in_err-push-clause-looks g c = λ told.
+pub returns-in_err-push-clause-reads_only : goal.returns-in_err-push-clause-reads_only
+returns-in_err-push-clause-reads_only g c = λ told.
     let lt : c.loop-file.file < length c.in_ok-pages.pages.items = omega (arith, c.loop-file-test.true, c.len-file-end.ensures) in
     reads_within c.args.self.now c.in_ok-pages.pages.items (own_counts c.args.self.now _ _ c.sys.ensures.sys c.in_ok-pages.ensures.pages) (c.loop-file.file + 1) _ _
-    (reads_next c.in_ok-pages.pages.items c.loop-file.file c.index.result.now _ _ _ lt c.index.ensures (c.loop-file.invariant.looks told) (c.read_memory.ensures.looks told))
+    (reads_next c.in_ok-pages.pages.items c.loop-file.file c.index.result.now _ _ _ lt c.index.ensures (c.loop-file.invariant.reads_only told) (c.read_memory.ensures.reads_only told))
 
-pub returns-clause-looks : goal.returns-clause-looks
-returns-clause-looks g c = λ told.
-    reads_within c.args.self.now c.in_ok-pages.pages.items (own_counts c.args.self.now _ _ c.sys.ensures.sys c.in_ok-pages.ensures.pages) c.loop-file.file _ _ (c.loop-file.invariant.looks told)
+pub returns-clause-reads_only : goal.returns-clause-reads_only
+returns-clause-reads_only g c = λ told.
+    reads_within c.args.self.now c.in_ok-pages.pages.items (own_counts c.args.self.now _ _ c.sys.ensures.sys c.in_ok-pages.ensures.pages) c.loop-file.file _ _ (c.loop-file.invariant.reads_only told)
 
 pub loop-file-preserved : goal.loop-file-preserved
 loop-file-preserved g c =
@@ -57,10 +57,10 @@ loop-file-preserved g c =
       sizes = read_more (λ (memory : Vec ℕ Global). length memory.items) c.loop-file.memories.items c.push.new.self.items c.in_ok-memory.memory (map (λ n. n * PAGE_SIZE) pages) file 0
           c.in_ok-push.ensures.items within (c.in_ok-memory.ensures.size ∙ size_here pages file count lt c.index.ensures) c.loop-file.invariant.sizes;
       faults = omega (arith, c.read_memory.ensures.cause.never_falls, c.loop-file.invariant.faults);
-      looks = λ told. reads_next pages file count _ _ _ lt c.index.ensures (c.loop-file.invariant.looks told) (c.read_memory.ensures.looks told);
+      reads_only = λ told. reads_next pages file count _ _ _ lt c.index.ensures (c.loop-file.invariant.reads_only told) (c.read_memory.ensures.reads_only told);
       bytes = λ told p shows.
           let place = own_place files c.args.self.now p shows pages own file count lt c.index.ensures in
-          let are = subst (λ (s : DiskState). AreLayers s.files place.stack place.own) (sym (c.loop-file.invariant.looks told).state) place.are in
+          let are = subst (λ (s : DiskState). AreLayers s.files place.stack place.own) (sym (c.loop-file.invariant.reads_only told).state) place.are in
           let read = c.in_ok-memory.ensures.bytes told place.stack place.own place.stack_at are in
           read_more (λ (memory : Vec ℕ Global). memory.items) c.loop-file.memories.items c.push.new.self.items c.in_ok-memory.memory (memory_bytes p.state) file []
           c.in_ok-push.ensures.items (omega (arith, lt, as_many files c.args.self.now p shows pages own))

@@ -1,7 +1,7 @@
 use Rattle.std.proofs.Common.{◌≡◌, ℕ, ◌+◌, ◌-◌, ◌*◌, ◌<◌, ◌≤◌, min, sym, ◌∙◌, ap, subst, arith}
 use Rattle.format_spec.specs.declared.limits.TheConstants.{PAGE_SIZE}
 use Rattle.disk_model.specs.State.{DiskState}
-use Rattle.disk_model.specs.Looking.{OnlyLooks, looks_then, looks_more}
+use Rattle.disk_model.specs.OnlyReads.{OnlyReads, reads_only_then, reads_only_more}
 use Rattle.layer_stack.specs.Stacks.{AreLayers}
 use Rattle.height_store.specs.Kept.{HasStacks}
 use Rattle.height_store.specs.Memories.{layers_whole}
@@ -18,19 +18,19 @@ all_most : (page first behind holding : ℕ) → first ≤ page → page < behin
 all_most page first behind holding le lt count = omega (arith, le, lt, count)
 
 pub read_page-requires-clause-readable : goal.read_page-requires-clause-readable
-read_page-requires-clause-readable g c = λ told. subst (λ (s : DiskState). HasStacks s.files c.args.self.now) (sym (c.loop-page.invariant.looks told).state) (c.requires.readable told)
+read_page-requires-clause-readable g c = λ told. subst (λ (s : DiskState). HasStacks s.files c.args.self.now) (sym (c.loop-page.invariant.reads_only told).state) (c.requires.readable told)
 
-pub returns-in_err-read_page-clause-looks : goal.returns-in_err-read_page-clause-looks
-returns-in_err-read_page-clause-looks g c = λ told.
-    looks_more _ (PAGE_SIZE * pages_holding c.args.offset c.args.len) _ _
+pub returns-in_err-read_page-clause-reads_only : goal.returns-in_err-read_page-clause-reads_only
+returns-in_err-read_page-clause-reads_only g c = λ told.
+    reads_only_more _ (PAGE_SIZE * pages_holding c.args.offset c.args.len) _ _
     (all_most c.loop-page.page c.pages_of_range-pages.result.0 c.pages_of_range-pages.result.1 (pages_holding c.args.offset c.args.len) c.loop-page.invariant.from c.loop-page-test.true c.pages_of_range-pages.ensures.count)
-    (looks_then (PAGE_SIZE * (c.loop-page.page - c.pages_of_range-pages.result.0)) PAGE_SIZE _ _ _ (c.loop-page.invariant.looks told) (c.read_page.ensures.looks told))
+    (reads_only_then (PAGE_SIZE * (c.loop-page.page - c.pages_of_range-pages.result.0)) PAGE_SIZE _ _ _ (c.loop-page.invariant.reads_only told) (c.read_page.ensures.reads_only told))
 
-pub returns-in_err-extend_from_slice-clause-looks : goal.returns-in_err-extend_from_slice-clause-looks
-returns-in_err-extend_from_slice-clause-looks g c = λ told.
-    looks_more _ (PAGE_SIZE * pages_holding c.args.offset c.args.len) _ _
+pub returns-in_err-extend_from_slice-clause-reads_only : goal.returns-in_err-extend_from_slice-clause-reads_only
+returns-in_err-extend_from_slice-clause-reads_only g c = λ told.
+    reads_only_more _ (PAGE_SIZE * pages_holding c.args.offset c.args.len) _ _
     (all_most c.loop-page.page c.pages_of_range-pages.result.0 c.pages_of_range-pages.result.1 (pages_holding c.args.offset c.args.len) c.loop-page.invariant.from c.loop-page-test.true c.pages_of_range-pages.ensures.count)
-    (looks_then (PAGE_SIZE * (c.loop-page.page - c.pages_of_range-pages.result.0)) PAGE_SIZE _ _ _ (c.loop-page.invariant.looks told) (c.read_page.ensures.looks told))
+    (reads_only_then (PAGE_SIZE * (c.loop-page.page - c.pages_of_range-pages.result.0)) PAGE_SIZE _ _ _ (c.loop-page.invariant.reads_only told) (c.read_page.ensures.reads_only told))
 
 pub loop-page-preserved : goal.loop-page-preserved
 loop-page-preserved g c =
@@ -49,11 +49,11 @@ loop-page-preserved g c =
       size = size_more offset len page _ _ from to soon reached
           c.loop-page.bytes.items c.extend_from_slice.new.self.items c.read_page.new.into c.read_page.array_long c.loop-page.invariant.size c.in_ok-extend_from_slice.ensures.items;
       faults = omega (arith, c.read_page.ensures.cause.never_falls, c.loop-page.invariant.faults);
-      looks = λ told. subst (λ (most : ℕ). OnlyLooks most old new) (next_most page c.pages_of_range-pages.result.0 c.loop-page.invariant.from)
-          (looks_then (PAGE_SIZE * (page - c.pages_of_range-pages.result.0)) PAGE_SIZE old _ new (c.loop-page.invariant.looks told) (c.read_page.ensures.looks told));
+      reads_only = λ told. subst (λ (most : ℕ). OnlyReads most old new) (next_most page c.pages_of_range-pages.result.0 c.loop-page.invariant.from)
+          (reads_only_then (PAGE_SIZE * (page - c.pages_of_range-pages.result.0)) PAGE_SIZE old _ new (c.loop-page.invariant.reads_only told) (c.read_page.ensures.reads_only told));
       bytes = λ told m stack layers of has are.
           let within = within_memory _ (offset + len) m c.requires.within of in
-          let read = c.in_ok-read_page.ensures.page told stack layers has (subst (λ (s : DiskState). AreLayers s.files stack layers) (sym (c.loop-page.invariant.looks told).state) are) in
+          let read = c.in_ok-read_page.ensures.page told stack layers has (subst (λ (s : DiskState). AreLayers s.files stack layers) (sym (c.loop-page.invariant.reads_only told).state) are) in
           range_more offset len page _ _ from to soon reached _ c.loop-page.bytes.items c.extend_from_slice.new.self.items c.read_page.new.into
           (read ∙ page_of_memory m.1 page layers (layers_whole old.state.files stack layers are) (omega (arith, within, reached)))
           (c.loop-page.invariant.bytes told m stack layers of has are) c.in_ok-extend_from_slice.ensures.items;

@@ -3,16 +3,16 @@ use Rattle.std.proofs.lemmas.List.{length-drop, take_rest}
 use Rattle.format_spec.specs.Bytes.{Bytes}
 use Rattle.format_spec.specs.declared.limits.TheConstants.{PAGE_SIZE}
 use Rattle.disk_model.specs.State.{DiskState}
-use Rattle.disk_model.specs.Looking.{OnlyLooks, looks_then, looks_more}
+use Rattle.disk_model.specs.OnlyReads.{OnlyReads, reads_only_then, reads_only_more}
 use Rattle.layer_stack.specs.Stacks.{AreLayers, pages_from}
 use Rattle.layer_stack.proofs.RunBytes.{pages_more}
 use Rattle.layer_stack.proofs.stack.Stack.read_pages.Goals as goal
 
-pub returns-in_err-done-clause-looks : goal.returns-in_err-done-clause-looks
-returns-in_err-done-clause-looks g c = λ told.
-    looks_more _ _ _ _ (omega (arith, c.loop-done.invariant.within, length-drop c.loop-done.done c.args.pages.now))
-    (looks_then (PAGE_SIZE * c.loop-done.done) (PAGE_SIZE * length (drop c.loop-done.done c.args.pages.now)) (g.D.Disk.view c.args.disk.now) (g.D.Disk.view c.loop-done.disk) (g.D.Disk.view c.read_run.new.disk) (c.loop-done.invariant.looks told)
-    (subst (λ (l : List ℕ). OnlyLooks (PAGE_SIZE * length l) (g.D.Disk.view c.loop-done.disk) (g.D.Disk.view c.read_run.new.disk)) (take_rest c.args.pages.now c.loop-done.done) (c.read_run.ensures.looks_at_most told)))
+pub returns-in_err-done-clause-reads_only : goal.returns-in_err-done-clause-reads_only
+returns-in_err-done-clause-reads_only g c = λ told.
+    reads_only_more _ _ _ _ (omega (arith, c.loop-done.invariant.within, length-drop c.loop-done.done c.args.pages.now))
+    (reads_only_then (PAGE_SIZE * c.loop-done.done) (PAGE_SIZE * length (drop c.loop-done.done c.args.pages.now)) (g.D.Disk.view c.args.disk.now) (g.D.Disk.view c.loop-done.disk) (g.D.Disk.view c.read_run.new.disk) (c.loop-done.invariant.reads_only told)
+    (subst (λ (l : List ℕ). OnlyReads (PAGE_SIZE * length l) (g.D.Disk.view c.loop-done.disk) (g.D.Disk.view c.read_run.new.disk)) (take_rest c.args.pages.now c.loop-done.done) (c.read_run.ensures.reads_at_most told)))
 
 pub loop-done-preserved : goal.loop-done-preserved
 loop-done-preserved g c =
@@ -24,9 +24,9 @@ loop-done-preserved g c =
     record {
       within = omega (arith, fits.1, rest, c.loop-done.invariant.within);
       faults = omega (arith, c.loop-done.invariant.faults, c.read_run.ensures.cause.never_falls);
-      looks = λ told. looks_more _ _ _ _ (omega arith) (looks_then (PAGE_SIZE * done) (PAGE_SIZE * count) _ _ _ (c.loop-done.invariant.looks told) (c.in_ok-done.ensures.looks told));
+      reads_only = λ told. reads_only_more _ _ _ _ (omega arith) (reads_only_then (PAGE_SIZE * done) (PAGE_SIZE * count) _ _ _ (c.loop-done.invariant.reads_only told) (c.in_ok-done.ensures.reads_only told));
       bytes = λ told layers are.
-          let here = subst (λ (s : DiskState). AreLayers s.files c.args.self.now layers) (sym (c.loop-done.invariant.looks told).state) are in
+          let here = subst (λ (s : DiskState). AreLayers s.files c.args.self.now layers) (sym (c.loop-done.invariant.reads_only told).state) are in
           pages_more layers c.args.pages.now done count (length c.loop-done.into - done * PAGE_SIZE) c.loop-done.into c.read_run.new.into
           (omega (arith, c.loop-done.auto.into, c.requires.size)) (omega (arith, fits.1, rest, c.loop-done.invariant.within)) (omega arith)
           (c.read_run.auto.into ∙ ap (λ (l : Bytes). length l) (take_rest c.loop-done.into (done * PAGE_SIZE)) ∙ length-drop (done * PAGE_SIZE) c.loop-done.into)

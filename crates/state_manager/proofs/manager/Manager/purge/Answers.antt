@@ -26,7 +26,7 @@ returns-clause-line g c =
       no_height = c.purge.ensures.no_height;
       last_height = c.purge.ensures.last_height;
       refused = λ h. let same = c.purge.ensures.refused h in (same.0, ap g.D.Disk.view same.1);
-      given = record { least = omega (arith, c.purge.ensures.given); most = omega (arith, c.purge.ensures.given) };
+      numbers_given = record { least = omega (arith, c.purge.ensures.numbers_given); most = omega (arith, c.purge.ensures.numbers_given) };
       over = λ told. over_after c.purge.result c.self.inside.store c.purge.new.self _ _ (over told) (c.purge.ensures.readable told) (c.purge.ensures.writable told);
       spends = λ told. writes_spend c.purge.result _ _ _ _ (c.purge.ensures.writes told);
       stands = c.purge.ensures.stands;

@@ -1,10 +1,10 @@
 use Rattle.std.proofs.Common.{◌∙◌, Ok, ap, refl}
 use Rattle.std.proofs.lemmas.Result.{IfOk-weaker}
-use Rattle.disk_model.specs.Looking.{looks_none}
+use Rattle.disk_model.specs.OnlyReads.{reads_only_none}
 use Rattle.script_text.specs.declared.command.Command.TheVariants as commands
 use Rattle.machine_spec.specs.LiveSteps.{read_reply}
 use Rattle.machine_spec.specs.Machine.{outcome_of}
-use Rattle.state_manager.proofs.DiskLines.{failed_line, looks_line, shown_some, still_line}
+use Rattle.state_manager.proofs.DiskLines.{failed_line, reads_only_line, shown_some, still_line}
 use Rattle.state_manager.proofs.Spending.{read_spends}
 use Rattle.state_manager.proofs.Standing.{asks_none, asks_there, at_none, at_some, published_none, stacks_there}
 use Rattle.state_manager.proofs.manager.Manager.read.Goals as goal
@@ -14,7 +14,7 @@ read_published-requires g c = λ told. stacks_there _ c.args.self.now c.args.at 
 
 pub returns-in-Some-clause-line : goal.returns-in-Some-clause-line
 returns-in-Some-clause-line g c =
-    looks_line g.D.Disk.tells c.args.self.now (g.D.Disk.view c.args.disk.now) _ c.read_published.result (commands.Read c.args.at c.args.id.now c.args.mem c.args.offset c.args.len) c.requires.over (λ told. (_, c.read_published.ensures.looks told))
+    reads_only_line g.D.Disk.tells c.args.self.now (g.D.Disk.view c.args.disk.now) _ c.read_published.result (commands.Read c.args.at c.args.id.now c.args.mem c.args.offset c.args.len) c.requires.over (λ told. (_, c.read_published.ensures.reads_only told))
     (λ told m k.
     let p = shown_some c.args.self.now _ m (g.met.D.Disk.reads_as_image c.args.disk.now told) k c.args.at c.in-Some.found.now c.in-Some.ensures in
     read_spends m c.args.at p.published.state p.on_disk c.args.id.now c.args.mem c.args.offset c.args.len _ _ c.read_published.result (c.read_published.ensures.told told)
@@ -26,7 +26,7 @@ returns-in-Some-clause-line g c =
 
 pub returns-in_err-read-in-Some-state_at-clause-line : goal.returns-in_err-read-in-Some-state_at-clause-line
 returns-in_err-read-in-Some-state_at-clause-line g c =
-    failed_line g.D.Disk.tells c.args.self.now (g.D.Disk.view c.args.disk.now) (g.D.Disk.view c.args.disk.now) c.from_residual.result (commands.Read c.args.at c.args.id.now c.args.mem c.args.offset c.args.len) c.from_residual.ensures.0 c.requires.over (λ told. (0, looks_none 0 _))
+    failed_line g.D.Disk.tells c.args.self.now (g.D.Disk.view c.args.disk.now) (g.D.Disk.view c.args.disk.now) c.from_residual.result (commands.Read c.args.at c.args.id.now c.args.mem c.args.offset c.args.len) c.from_residual.ensures.0 c.requires.over (λ told. (0, reads_only_none 0 _))
 
 pub returns-in_ok-read-in-Some-state_at-clause-line : goal.returns-in_ok-read-in-Some-state_at-clause-line
 returns-in_ok-read-in-Some-state_at-clause-line g c =

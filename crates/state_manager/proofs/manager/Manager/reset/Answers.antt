@@ -25,12 +25,12 @@ returns-then-not-is_newest-clause-line g c =
     as_step (replies.Refused refusals.HeightLow) _ _ m (reset_low m c.args.height s.0 s.1 (sym (newest_test (λ (n : ℕ). n == c.args.height) c.self.inside.store.heights m.published k.states.published) ∙ sym c.if-not-is_newest.ensures)) refl refl))
 
 pub returns-in_err-self-inside-clause-line : goal.returns-in_err-self-inside-clause-line
-returns-in_err-self-inside-clause-line g c = failed_line g.D.Disk.tells c.args.self.now (g.D.Disk.view c.args.disk.now) _ c.from_residual.result (commands.Reset c.args.height) c.from_residual.ensures.0 c.requires.over (λ told. (_, c.begin.ensures.looks told))
+returns-in_err-self-inside-clause-line g c = failed_line g.D.Disk.tells c.args.self.now (g.D.Disk.view c.args.disk.now) _ c.from_residual.result (commands.Reset c.args.height) c.from_residual.ensures.0 c.requires.over (λ told. (_, c.begin.ensures.reads_only told))
 
 pub returns-clause-line : goal.returns-clause-line
 returns-clause-line g c =
     let over : IsTrue g.D.Disk.tells → MatchesFiles c.self.inside.store (g.D.Disk.view c.args.disk.now).state.files = λ told. subst (λ (h : ManagerView). MatchesFiles h.store (g.D.Disk.view c.args.disk.now).state.files) (sym c.self.view_is) (c.requires.over told) in
     let now : ManagerView = record { live = c.in_ok-self-inside.field-0; memory = c.clear.new.self.items; store = c.self.inside.store; stopped = c.self.inside.stopped } in
     subst (λ (h : ManagerView). DoesLine g.D.Disk.tells h now (g.D.Disk.view c.args.disk.now) (g.D.Disk.view c.begin.new.disk) (Ok replies.Fine) (commands.Reset c.args.height)) c.self.view_is
-    (reset_done g.D.Disk.tells _ now (g.D.Disk.view c.args.disk.now) (g.D.Disk.view c.begin.new.disk) c.args.height (λ told. g.met.D.Disk.reads_as_image c.begin.new.disk told) over c.begin.ensures.looks (sym c.if-not-is_published.ensures) (sym c.if-not-is_newest.ensures)
+    (reset_done g.D.Disk.tells _ now (g.D.Disk.view c.args.disk.now) (g.D.Disk.view c.begin.new.disk) c.args.height (λ told. g.met.D.Disk.reads_as_image c.begin.new.disk told) over c.begin.ensures.reads_only (sym c.if-not-is_published.ensures) (sym c.if-not-is_newest.ensures)
     refl refl c.clear.ensures.items (λ told ps each. c.in_ok-self-inside.ensures.state told ps each) (λ told. g.met.D.Disk.reads_as_image c.args.disk.now told))

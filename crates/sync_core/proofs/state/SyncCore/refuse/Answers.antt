@@ -4,7 +4,7 @@ use Rattle.sync_plan.specs.Views.{item_of}
 use Rattle.sync_spec.specs.Core.{Core, with_strike, without_ask, same_item, is_asked_of, core_after_fault}
 use Rattle.sync_core.specs.declared.tried.Wanted.{Wanted}
 use Rattle.sync_core.specs.Fresh.{items_of}
-use Rattle.sync_core.specs.Views.{all_wanted, IsKept}
+use Rattle.sync_core.specs.Views.{all_wanted, HoldsCore}
 use Rattle.sync_core.proofs.Slices.{put_back}
 use Rattle.sync_core.proofs.Kept.{kept_fault}
 use Rattle.sync_core.proofs.Calls.{fault_is}
@@ -18,7 +18,7 @@ invariant_of-self c =
     let strikes_back = put_back c.self.inside.strikes.len c.strike.new.strikes c.self.inside.strikes.items _ c.deref_mut-2.ensures.value c.deref_mut-2.ensures.len c.strike.auto.strikes in
     let after = strikes_back ∙ c.strike.ensures ∙ ap (λ (s : List ℕ). with_strike c.args.peer s) c.deref_mut-2.ensures.value in
     let e = fault_is (all_wanted c.self.inside.tried.items) _ (items_of c.self.inside.fresh) c.self.inside.strikes.items _ c.self.inside.turn c.args.peer item now after in
-    subst (λ (k : Core). IsKept k (vec_capacity c.self.inside.tried)) (sym e) (kept_fault _ c.args.peer item _ c.self.invariant)
+    subst (λ (k : Core). HoldsCore k (vec_capacity c.self.inside.tried)) (sym e) (kept_fault _ c.args.peer item _ c.self.invariant)
 
 pub returns : goal.returns
 returns c =

@@ -2,7 +2,7 @@ use Rattle.std.proofs.Common.{◌≡◌, ◌<◌, ◌^◌, length, ◌∙◌, sy
 use Rattle.std.specs.Vec.{vec_capacity}
 use Rattle.sync_spec.specs.Core.{Core, with_items, all_pieces}
 use Rattle.sync_core.specs.Fresh.{items_of}
-use Rattle.sync_core.specs.Views.{all_wanted, IsKept}
+use Rattle.sync_core.specs.Views.{all_wanted, HoldsCore}
 use Rattle.sync_core.proofs.Kept.{kept_pieces}
 use Rattle.sync_core.proofs.Calls.{pieces_is}
 use Rattle.sync_core.proofs.state.SyncCore.set_pieces.Goals as goal
@@ -12,7 +12,7 @@ invariant_of-self c =
     let none = subst (λ (k : Core). length k.missing ≡ 0) (sym c.self.view_is) c.requires in
     let e = pieces_is (all_wanted c.self.inside.tried.items) (items_of c.self.inside.fresh) c.in_ok-self-inside.field-0.kind _ c.args.count c.self.inside.strikes.items c.self.inside.turn none c.in_ok-self-inside.ensures.kind c.in_ok-self-inside.ensures.numbers in
     let below : c.args.count < 2 ^ 32 = search rules in
-    subst (λ (k : Core). IsKept k (vec_capacity c.self.inside.tried)) (sym e) (kept_pieces _ _ c.args.count below c.self.invariant)
+    subst (λ (k : Core). HoldsCore k (vec_capacity c.self.inside.tried)) (sym e) (kept_pieces _ _ c.args.count below c.self.invariant)
 
 pub returns-clause-pieces : goal.returns-clause-pieces
 returns-clause-pieces c =

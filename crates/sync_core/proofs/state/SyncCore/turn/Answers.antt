@@ -3,7 +3,7 @@ use Rattle.std.specs.Vec.{vec_capacity}
 use Rattle.sync_spec.specs.Core.{Core, with_strike_for_ask, without_ask, is_old, pardoned_strikes, core_after_turn}
 use Rattle.sync_core.specs.declared.tried.Wanted.{Wanted}
 use Rattle.sync_core.specs.Fresh.{items_of}
-use Rattle.sync_core.specs.Views.{all_wanted, IsKept}
+use Rattle.sync_core.specs.Views.{all_wanted, HoldsCore}
 use Rattle.sync_core.proofs.Slices.{put_back}
 use Rattle.sync_core.proofs.Kept.{kept_turn}
 use Rattle.sync_core.proofs.Calls.{turn_is}
@@ -21,7 +21,7 @@ invariant_of-self c =
     let pardoned_back = put_back c.self.inside.strikes.len c.pardon.new.strikes _ _ c.deref_mut-3.ensures.value c.deref_mut-3.ensures.len c.pardon.auto.strikes in
     let pardoned = pardoned_back ∙ c.pardon.ensures ∙ ap pardoned_strikes (c.deref_mut-3.ensures.value ∙ struck_back) in
     let e = turn_is (all_wanted c.self.inside.tried.items) _ (items_of c.self.inside.fresh) c.self.inside.strikes.items c.strike_old.new.strikes _ c.self.inside.turn next n after now pardoned in
-    subst (λ (k : Core). IsKept k (vec_capacity c.self.inside.tried)) (sym e) (kept_turn _ _ c.self.invariant)
+    subst (λ (k : Core). HoldsCore k (vec_capacity c.self.inside.tried)) (sym e) (kept_turn _ _ c.self.invariant)
 
 pub returns : goal.returns
 returns c =

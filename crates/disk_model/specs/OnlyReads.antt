@@ -11,7 +11,7 @@ use Rattle.disk_model.specs.View.{DiskView, EachImage, EachImageOf, LeavesOnly, 
 use Rattle.disk_model.specs.Frame.{TouchesOnly}
 
 -- nothing changes but the clock and the bytes read, which rise by so many at most
-pub record OnlyLooks (most : ℕ) (old new : DiskView) : Type 0 where
+pub record OnlyReads (most : ℕ) (old new : DiskView) : Type 0 where
   pub calls : ℕ
   pub state : new.state ≡ old.state
   pub past : new.past ≡ old.past ++ replicate calls old.state
@@ -19,8 +19,8 @@ pub record OnlyLooks (most : ℕ) (old new : DiskView) : Type 0 where
   pub read_least : old.bytes_read ≤ new.bytes_read
   pub read_most : new.bytes_read ≤ old.bytes_read + most
 
-pub looks_none : (most : ℕ) (v : DiskView) → OnlyLooks most v v
-looks_none most v = record {
+pub reads_only_none : (most : ℕ) (v : DiskView) → OnlyReads most v v
+reads_only_none most v = record {
   calls = 0;
   state = refl;
   past = sym (append-nil v.past);
@@ -29,21 +29,21 @@ looks_none most v = record {
   read_most = omega arith;
 }
 
-looked : (most : ℕ) (old new : DiskView) → Looks most old new → OnlyLooks most old new
-looked most old new looks = record {
+looked : (most : ℕ) (old new : DiskView) → Looks most old new → OnlyReads most old new
+looked most old new reads_only = record {
   calls = 1;
-  state = looks.state;
-  past = looks.past;
-  appended = looks.appended;
-  read_least = looks.read_least;
-  read_most = looks.read_most;
+  state = reads_only.state;
+  past = reads_only.past;
+  appended = reads_only.appended;
+  read_least = reads_only.read_least;
+  read_most = reads_only.read_most;
 }
 
 -- one call, whatever it answers
-pub looks_call : {T : Type 0} (most : ℕ) (result : Result T DiskError) (old new : DiskView) → LooksOrNot most result old new → OnlyLooks most old new
-looks_call most (Ok x) old new looks = looked most old new looks
-looks_call most (Err Fault) old new looks = looked most old new looks
-looks_call most (Err Memory) old new looks = subst (OnlyLooks most old) (sym looks) (looks_none most old)
+pub reads_only_call : {T : Type 0} (most : ℕ) (result : Result T DiskError) (old new : DiskView) → LooksOrNot most result old new → OnlyReads most old new
+reads_only_call most (Ok x) old new reads_only = looked most old new reads_only
+reads_only_call most (Err Fault) old new reads_only = looked most old new reads_only
+reads_only_call most (Err Memory) old new reads_only = subst (OnlyReads most old) (sym reads_only) (reads_only_none most old)
 
 replicate-append : {X : Type 0} (m n : ℕ) (x : X) → replicate m x ++ replicate n x ≡ replicate (m + n) x
 replicate-append zero n x = let e : n ≡ 0 + n = omega arith in ap (λ (k : ℕ). replicate k x) e
@@ -51,8 +51,8 @@ replicate-append (suc m) n x =
     let e : suc (m + n) ≡ suc m + n = omega arith in
     ap (λ l. x ∷ l) (replicate-append m n x) ∙ ap (λ (k : ℕ). replicate k x) e
 
-pub looks_then : (m n : ℕ) (old mid new : DiskView) → OnlyLooks m old mid → OnlyLooks n mid new → OnlyLooks (m + n) old new
-looks_then m n old mid new first second = record {
+pub reads_only_then : (m n : ℕ) (old mid new : DiskView) → OnlyReads m old mid → OnlyReads n mid new → OnlyReads (m + n) old new
+reads_only_then m n old mid new first second = record {
   calls = first.calls + second.calls;
   state = second.state ∙ first.state;
   past = second.past ∙ ap (λ (l : List DiskState). l ++ replicate second.calls mid.state) first.past
@@ -64,13 +64,13 @@ looks_then m n old mid new first second = record {
   read_most = omega arith;
 }
 
-pub looks_more : (m n : ℕ) (old new : DiskView) → m ≤ n → OnlyLooks m old new → OnlyLooks n old new
-looks_more m n old new le looks = record {
-  calls = looks.calls;
-  state = looks.state;
-  past = looks.past;
-  appended = looks.appended;
-  read_least = looks.read_least;
+pub reads_only_more : (m n : ℕ) (old new : DiskView) → m ≤ n → OnlyReads m old new → OnlyReads n old new
+reads_only_more m n old new le reads_only = record {
+  calls = reads_only.calls;
+  state = reads_only.state;
+  past = reads_only.past;
+  appended = reads_only.appended;
+  read_least = reads_only.read_least;
   read_most = omega arith;
 }
 
@@ -79,19 +79,19 @@ each_of_same zero s P each = tt
 each_of_same (suc n) s P each = (each, each_of_same n s P each)
 
 -- each image since they began is one from before
-pub looks_leave : (most : ℕ) (old new : DiskView) (P : Files → Type 0) → OnlyLooks most old new → EachImage old.state P → LeavesOnly old new P
-looks_leave most old new P looks each = record {
-  since = replicate looks.calls old.state;
-  grows = looks.past;
-  each = each_of_same looks.calls old.state P each;
-  now = λ image now. each image (subst (λ s. IsImageNow s image) looks.state now);
+pub reads_only_leave : (most : ℕ) (old new : DiskView) (P : Files → Type 0) → OnlyReads most old new → EachImage old.state P → LeavesOnly old new P
+reads_only_leave most old new P reads_only each = record {
+  since = replicate reads_only.calls old.state;
+  grows = reads_only.past;
+  each = each_of_same reads_only.calls old.state P each;
+  now = λ image now. each image (subst (λ s. IsImageNow s image) reads_only.state now);
 }
 
 -- they touch nothing
-pub looks_touch : (most : ℕ) (given : Name → Bool) (old new : DiskView) → OnlyLooks most old new → TouchesOnly given old new
-looks_touch most given old new looks = record {
-  images = looks_leave most old new _ looks (λ image h. (image, h, λ q _. refl));
-  reads = λ q _. ap (λ (s : DiskState). s.files q) looks.state;
-  firm = λ q _ firm. ap (λ (s : DiskState). s.loose q) looks.state ∙ firm;
-  loose = λ q _ was. subst (λ (s : DiskState). IsLoose s q) (sym looks.state) was;
+pub reads_only_touch : (most : ℕ) (given : Name → Bool) (old new : DiskView) → OnlyReads most old new → TouchesOnly given old new
+reads_only_touch most given old new reads_only = record {
+  images = reads_only_leave most old new _ reads_only (λ image h. (image, h, λ q _. refl));
+  reads = λ q _. ap (λ (s : DiskState). s.files q) reads_only.state;
+  firm = λ q _ firm. ap (λ (s : DiskState). s.loose q) reads_only.state ∙ firm;
+  loose = λ q _ was. subst (λ (s : DiskState). IsLoose s q) (sym reads_only.state) was;
 }
