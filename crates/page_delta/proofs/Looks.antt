@@ -65,7 +65,8 @@ module _ (xs ys : NodeList) (key count tall d child : ℕ) (kids : List (Option 
             let old : child_in (node_at xs m) digit ≡ get_or kids digit None = ap (λ o. child_in o digit) (ap (λ i. node_at xs i) same ∙ sets.here) in
             let new : child_in (node_at ys m) digit ≡ get_or (set kids d (Some child)) digit None = ap (λ o. child_in o digit) (ap (λ i. node_at ys i) same ∙ sets.now) in
             ap (λ (o : Option ℕ). look level ys o q) new ∙ elim (cases_eq digit d) [
-              | inl at ↦ ap (λ (o : Option ℕ). look level ys o q) (ap (λ i. get_or (set kids d (Some child)) i None) at ∙ get_or-set_same kids d (Some child) None sets.below) ∙ looks-link level child q ∙ alike level q ∙ ap (λ (o : Option ℕ). look level xs o q) (ap (λ i. get_or kids i None) (sym at) ∙ sym old)
+              | inl at ↦ ap (λ (o : Option ℕ). look level ys o q) (ap (λ i. get_or (set kids d (Some child)) i None) at ∙ get_or-set_same kids d (Some child) None sets.below)
+                  ∙ looks-link level child q ∙ alike level q ∙ ap (λ (o : Option ℕ). look level xs o q) (ap (λ i. get_or kids i None) (sym at) ∙ sym old)
               | inr far ↦ ap (λ (o : Option ℕ). look level ys o q) (get_or-set_other kids d digit (Some child) None far) ∙ look-option level xs ys q (get_or kids digit None) (λ t e. looks-link level t q) ∙ ap (λ (o : Option ℕ). look level xs o q) (sym old)
             ]
         | inr ne ↦ ap (λ (o : Option ℕ). look level ys o q) (ap (λ o. child_in o digit) (sets.rest m ne)) ∙ look-option level xs ys q (child_in (node_at xs m) digit) (λ t e. looks-link level t q)

@@ -1,17 +1,18 @@
 -- What the arrays of a node say. No public clause cites this module.
-use Rattle.std.specs.Prelude.{ℕ, List, [], ◌∷◌, Bool, Option, Some, None, if◌then◌else◌}
+use Rattle.std.specs.Prelude.{ℕ, List, [], ◌∷◌, map, Option, Some, None}
+use Rattle.page_pool.specs.Pool.{slot_of}
 use Rattle.page_delta.specs.declared.entry.Entry.{Entry}
 
--- the numbers at the places that have one
-abbrev pub numbers_of : List Bool → List ℕ → List (Option ℕ)
-numbers_of [] numbers = []
-numbers_of (has ∷ more) [] = []
-numbers_of (has ∷ more) (number ∷ numbers) = (if has then Some number else None) ∷ numbers_of more numbers
+-- the children of a branch, whose keys have the mark for none that numbers of slots have
+abbrev pub children_of : List ℕ → List (Option ℕ)
+children_of keys = map slot_of keys
 
--- the entries at the places that have one
-abbrev pub entries_of : List Bool → List ℕ → List ℕ → List (Option Entry)
-entries_of [] slots stamps = []
-entries_of (has ∷ more) [] stamps = []
-entries_of (has ∷ more) (slot ∷ slots) [] = []
-entries_of (has ∷ more) (slot ∷ slots) (stamp ∷ stamps) =
-    (if has then Some (record { slot = slot; stamp = stamp }) else None) ∷ entries_of more slots stamps
+abbrev pub entry_with : Option ℕ → ℕ → Option Entry
+entry_with None stamp = None
+entry_with (Some slot) stamp = Some (record { slot = slot; stamp = stamp })
+
+-- the entries of a leaf
+abbrev pub entries_of : List ℕ → List ℕ → List (Option Entry)
+entries_of [] stamps = []
+entries_of (slot ∷ slots) [] = []
+entries_of (slot ∷ slots) (stamp ∷ stamps) = entry_with (slot_of slot) stamp ∷ entries_of slots stamps

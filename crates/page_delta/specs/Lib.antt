@@ -1,6 +1,5 @@
 pub mod Totals
 pub mod Arrays
-pub mod Leaves
 pub mod Delta
 pub mod Nodes
 pub mod Shared

@@ -1,5 +1,5 @@
 -- What maps are kept as: roots of trees. No public clause cites this module.
-use Rattle.std.specs.Prelude.{◌≡◌, ◌≢◌, ℕ, ◌+◌, ◌%◌, ◌^◌, ◌<◌, ◌≤◌, ◌==◌, List, length, Option, Some, None, IsSome, Result, Ok, Err, slice_index_or, count_by, is_some, if◌then◌else◌}
+use Rattle.std.specs.Prelude.{⊤, ◌≡◌, ◌≢◌, ℕ, ◌+◌, ◌%◌, ◌^◌, ◌<◌, ◌≤◌, ◌==◌, List, length, Option, Some, None, IsSome, Result, Ok, Err, slice_index_or, count_by, is_some, if◌then◌else◌}
 use Rattle.page_pool.specs.Pool.{Pool, count_at}
 use Rattle.page_delta.specs.declared.roots.Root.{Root}
 use Rattle.page_delta.specs.declared.entry.Entry.{Entry}
@@ -95,6 +95,11 @@ size_of (Some root) = root.pages
 abbrev pub kept_of : {E : Type 0} → Result (Option Root) E → Option Root
 kept_of (Ok kept) = kept
 kept_of (Err error) = None
+
+-- the key of the kept tree fits into 32 bits and isn't the last one there
+abbrev pub IsSmall : Option Root → Type 0
+IsSmall None = ⊤
+IsSmall (Some root) = root.node + 1 < 2 ^ 32
 
 -- the node with another child at a digit, if there is one
 abbrev pub hung : Node → ℕ → Option ℕ → Node

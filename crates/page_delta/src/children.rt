@@ -1,15 +1,16 @@
-//! The 32 places of a branch, in arrays.
+//! The 32 places of a branch, in an array.
 
-ghost use Rattle.std.specs.Prelude.{◌≡◌, ◌<◌, Some, None, replicate, slice_index_or, slice_set};
+ghost use Rattle.std.specs.Prelude.{◌≡◌, ◌+◌, ◌^◌, ◌<◌, Some, None, replicate, slice_index_or, slice_set};
 
 use std::marker::Model;
+
+// The key that no node has.
+const NO_CHILD: u32 = u32::MAX;
 
 // The key of a node or none at each place.
 #[derive(Drop)]
 pub(crate) struct Children {
-    keys: [usize; 32],
-    // Which places have a node.
-    has: [bool; 32],
+    keys: [u32; 32],
 }
 
 impl Model for Children {
@@ -17,9 +18,9 @@ impl Model for Children {
 
     ghost Value = { List (Option ℕ) };
 
-    ghost use Rattle.page_delta.specs.Arrays.{numbers_of};
+    ghost use Rattle.page_delta.specs.Arrays.{children_of};
 
-    ghost view = { λ s. numbers_of s.has s.keys };
+    ghost view = { λ s. children_of s.keys };
 }
 
 impl Children {
@@ -27,38 +28,33 @@ impl Children {
         ensures { result ≡ replicate 32 None }
     {
         Children {
-            keys: [0; 32],
-            has: [false; 32],
+            keys: [NO_CHILD; 32],
         }
     }
 
     pub(crate) fn copied(&self) -> Children
         ensures { result ≡ self.now }
     {
-        Children {
-            keys: self.keys,
-            has: self.has,
-        }
+        Children { keys: self.keys }
     }
 
     pub(crate) fn at(&self, digit: u32) -> Option<usize>
         requires { digit < 32 }
         ensures { result ≡ slice_index_or self.now digit None }
     {
-        let place = digit as usize;
-        if !self.has[place] {
+        let key = self.keys[digit as usize];
+        if key == NO_CHILD {
             return None;
         }
-        Some(self.keys[place])
+        Some(key as usize)
     }
 
     pub(crate) fn set(&mut self, digit: u32, child: usize)
-        requires { digit < 32 }
+        requires digit { digit < 32 }
+        requires child { child + 1 < 2 ^ 32 }
         ensures { self.new ≡ slice_set self.old digit (Some child) }
     {
-        let place = digit as usize;
-        self.has[place] = true;
-        self.keys[place] = child;
+        self.keys[digit as usize] = child as u32;
     }
 
     // All places as one array.

@@ -2,7 +2,7 @@
 
 ghost use Rattle.std.specs.Prelude.{◌≡◌, ◌≢◌, ℕ, ◌<◌, None, Some, IsSome, IfOk, OnErr};
 ghost use Rattle.page_delta.specs.Nodes.{node_at, level_in};
-ghost use Rattle.page_delta.specs.Roots.{root_at, map_below, node_of, size_of, kept_of, hung, AreSound, IsHeld, KeepsTree, HasNewer, KeepsRoot};
+ghost use Rattle.page_delta.specs.Roots.{root_at, map_below, node_of, size_of, kept_of, hung, IsSmall, AreSound, IsHeld, KeepsTree, HasNewer, KeepsRoot};
 ghost use Rattle.page_delta.specs.Shared.{Stands, Grows, KeepsBytes};
 ghost use Rattle.page_delta.specs.declared.node.Node.{Node as Held_node};
 
@@ -25,6 +25,7 @@ fn keep_leaf(
     requires level { level_in (node_at nodes.old.slots from) ≡ 0 }
     ensures keeps { KeepsTree nodes.old.slots nodes.new.slots pool.old pool.new (node_of (kept_of result)) }
     ensures newer { IfOk result (λ kept. HasNewer nodes.old.slots nodes.new.slots from 0 b kept) }
+    ensures small { IfOk result IsSmall }
 {
     let (kept, pages) = nodes[from].newer(b);
     if pages == 0 {
@@ -40,6 +41,7 @@ fn keep_leaf(
 fn hang(nodes: &mut Slab<Node>, parent: usize, digit: u32, kept: Option<Root>) -> u32
     requires parent { IsSome (node_at nodes.old.slots parent) }
     requires digit { digit < 32 }
+    requires small { IsSmall kept }
     ensures size { result ≡ size_of kept }
     ensures now { (node : Held_node) → node_at nodes.old.slots parent ≡ Some node → node_at nodes.new.slots parent ≡ Some (hung node digit (node_of kept)) }
     ensures rest { (m : ℕ) → m ≢ parent → node_at nodes.new.slots m ≡ node_at nodes.old.slots m }
@@ -68,6 +70,7 @@ fn keep_below(
     requires level { level_in (node_at nodes.old.slots from) ≡ level }
     ensures keeps { KeepsTree nodes.old.slots nodes.new.slots pool.old pool.new (node_of (kept_of result)) }
     ensures newer { IfOk result (λ kept. HasNewer nodes.old.slots nodes.new.slots from level b kept) }
+    ensures small { IfOk result IsSmall }
 {
     if level == 0 {
         return keep_leaf(nodes, pool, from, b);

@@ -1,6 +1,6 @@
 //! A node of a tree: it has 32 places.
 
-ghost use Rattle.std.specs.Prelude.{◌≡◌, ◌<◌, Some};
+ghost use Rattle.std.specs.Prelude.{◌≡◌, ◌+◌, ◌^◌, ◌<◌, Some};
 ghost use Rattle.page_delta.specs.Nodes.{child_in, entry_in, count_in, level_in, recount, with_child, with_entry, empty_node};
 ghost use Rattle.page_delta.specs.Shared.{IsNewer};
 
@@ -23,7 +23,7 @@ pub(crate) enum Node {
     },
 }
 
-const _: () = prove!(size_of::<Node>() == 440);
+const _: () = prove!(size_of::<Node>() == 400);
 
 impl Node {
     // A node with nothing in it, counted once.
@@ -114,7 +114,8 @@ impl Node {
     }
 
     pub(crate) fn set_child(&mut self, digit: u32, child: usize)
-        requires { digit < 32 }
+        requires digit { digit < 32 }
+        requires child { child + 1 < 2 ^ 32 }
         ensures { self.new ≡ with_child self.old digit child }
     {
         match self {

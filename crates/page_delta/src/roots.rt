@@ -35,17 +35,21 @@ pub(crate) struct OwnPlace {
     pub(crate) slot: SlotId,
 }
 
-// Takes memory for so many nodes. Nothing else changes.
+// Takes memory for so many nodes, whose keys will be below the mark of `Children`. Nothing else changes.
 pub(crate) fn make_room(nodes: &mut Slab<Node>, more: usize) -> Result<(), NoMemory>
     requires { more < 2 ^ 10 }
     ensures nodes { nodes.new.slots ≡ nodes.old.slots }
     ensures room { OnOk result (HasRoomFor nodes.new more) }
+    ensures keys { OnOk result (nodes.new.capacity < 2 ^ 32) }
     ensures few { OnOk result (slab_len nodes.new + more ≤ 2 ^ 26) }
 {
     if nodes.len() >= MAX_NODES - more {
         return Err(NoMemory);
     }
     nodes.reserve(more)?;
+    if nodes.capacity() > u32::MAX as usize {
+        return Err(NoMemory);
+    }
     Ok(())
 }
 
@@ -72,6 +76,7 @@ fn own_root(nodes: &mut Slab<Node>, ids: &mut Slab<Root>, pool: &mut PagePool, i
     requires held { (loose : ℕ → ℕ) × IsHeld nodes.old.slots pool.old loose × ((slot : ℕ) → loose slot ≤ 1) }
     requires live { IsSome (root_at ids.old.slots id) }
     requires room { HasRoomFor nodes.old 1 }
+    requires keys { nodes.old.capacity < 2 ^ 32 }
     requires few { slab_len nodes.old + 1 ≤ 2 ^ 26 }
     ensures kept { AreSound nodes.new.slots ids.new.slots }
     ensures held { (loose : ℕ → ℕ) → IsHeld nodes.old.slots pool.old loose → IsHeld nodes.new.slots pool.new loose }
@@ -166,6 +171,7 @@ fn put_own(
     requires live { IsSome (root_at ids.old.slots id) }
     requires placed { StandsAt nodes.old.slots entry.slot (page % 32) }
     requires room { HasRoomFor nodes.old 4 }
+    requires keys { nodes.old.capacity < 2 ^ 32 }
     requires few { slab_len nodes.old + 4 ≤ 2 ^ 26 }
     ensures puts { PutsOwn nodes.old.slots nodes.new.slots ids.old.slots ids.new.slots (count_at pool.new) id page entry result }
     ensures counted { IsCounted pool.new }
@@ -193,6 +199,7 @@ pub(crate) fn put_entry(
     requires page { page < 2 ^ 20 }
     requires placed { StandsAt nodes.old.slots entry.slot (page % 32) }
     requires room { HasRoomFor nodes.old 4 }
+    requires keys { nodes.old.capacity < 2 ^ 32 }
     requires few { slab_len nodes.old + 4 ≤ 2 ^ 26 }
     ensures kept { AreSound nodes.new.slots ids.new.slots }
     ensures held { IsHeld nodes.new.slots pool.new (λ slot. 0) }

@@ -111,7 +111,9 @@ fn retain_each(pool: &mut PagePool, entries: &[Option<Entry>])
 
 // Puts a node at a key that is free, with no memory.
 pub(crate) fn put(nodes: &mut Slab<Node>, node: Node) -> usize
-    requires { HasRoomFor nodes.old 1 }
+    requires room { HasRoomFor nodes.old 1 }
+    requires keys { nodes.old.capacity < 2 ^ 32 }
+    ensures small { result + 1 < 2 ^ 32 }
     ensures fresh { node_at nodes.old.slots result ≡ None }
     ensures here { node_at nodes.new.slots result ≡ Some node }
     ensures rest { (m : ℕ) → m ≢ result → node_at nodes.new.slots m ≡ node_at nodes.old.slots m }
@@ -157,7 +159,9 @@ pub(crate) fn copy(nodes: &mut Slab<Node>, pool: &mut PagePool, node: usize) -> 
     requires stands { Stands nodes.old.slots pool.old }
     requires node { IsSome (node_at nodes.old.slots node) }
     requires room { HasRoomFor nodes.old 1 }
+    requires keys { nodes.old.capacity < 2 ^ 32 }
     ensures shared { (hands loose : ℕ → ℕ) → IsShared nodes.old.slots (count_at pool.old) hands loose → IsShared nodes.new.slots (count_at pool.new) (λ m. hands m + once m (Some result)) loose }
+    ensures small { result + 1 < 2 ^ 32 }
     ensures fresh { node_at nodes.old.slots result ≡ None }
     ensures copy { node_at nodes.new.slots result ≡ node_with_count (node_at nodes.old.slots node) 1 }
     ensures rest { (m : ℕ) → m ≢ result → node_at nodes.new.slots m ≡ node_with_count (node_at nodes.old.slots m) (count_in (node_at nodes.old.slots m) + names m (node_at nodes.old.slots node)) }
@@ -176,6 +180,7 @@ pub(crate) fn copy(nodes: &mut Slab<Node>, pool: &mut PagePool, node: usize) -> 
 pub(crate) fn link(nodes: &mut Slab<Node>, parent: usize, digit: u32, child: usize)
     requires parent { IsSome (node_at nodes.old.slots parent) }
     requires digit { digit < 32 }
+    requires child { child + 1 < 2 ^ 32 }
     ensures now { (node : Held_node) → node_at nodes.old.slots parent ≡ Some node → node_at nodes.new.slots parent ≡ Some (with_child node digit child) }
     ensures rest { (m : ℕ) → m ≢ parent → node_at nodes.new.slots m ≡ node_at nodes.old.slots m }
     ensures grows { Grows nodes.old nodes.new 0 }
@@ -190,6 +195,7 @@ fn sprout(nodes: &mut Slab<Node>, parent: usize, digit: u32) -> usize
     requires digit { digit < 32 }
     requires none { child_in (node_at nodes.old.slots parent) digit ≡ None }
     requires room { HasRoomFor nodes.old 1 }
+    requires keys { nodes.old.capacity < 2 ^ 32 }
     ensures shared { (counts hands loose : ℕ → ℕ) → IsShared nodes.old.slots counts hands loose → IsShared nodes.new.slots counts hands loose }
     ensures owned { Owned nodes.old.slots nodes.new.slots parent digit result }
     ensures grows { Grows nodes.old nodes.new 1 }
@@ -214,6 +220,7 @@ fn split(
     requires child { child_in (node_at nodes.old.slots parent) digit ≡ Some child }
     requires many { 1 < count_in (node_at nodes.old.slots child) }
     requires room { HasRoomFor nodes.old 1 }
+    requires keys { nodes.old.capacity < 2 ^ 32 }
     ensures shared { (hands loose : ℕ → ℕ) → IsShared nodes.old.slots (count_at pool.old) hands loose → IsShared nodes.new.slots (count_at pool.new) hands loose }
     ensures owned { Owned nodes.old.slots nodes.new.slots parent digit result }
     ensures grows { Grows nodes.old nodes.new 1 }
@@ -232,6 +239,7 @@ fn own_child(nodes: &mut Slab<Node>, pool: &mut PagePool, parent: usize, digit: 
     requires parent { 0 < level_in (node_at nodes.old.slots parent) }
     requires digit { digit < 32 }
     requires room { HasRoomFor nodes.old 1 }
+    requires keys { nodes.old.capacity < 2 ^ 32 }
     ensures shared { (hands loose : ℕ → ℕ) → IsShared nodes.old.slots (count_at pool.old) hands loose → IsShared nodes.new.slots (count_at pool.new) hands loose }
     ensures owned { Owned nodes.old.slots nodes.new.slots parent digit result }
     ensures grows { Grows nodes.old nodes.new 1 }
@@ -273,6 +281,7 @@ pub(crate) fn insert(
     requires root { level_in (node_at nodes.old.slots root) ≡ 3 }
     requires own { count_in (node_at nodes.old.slots root) ≡ 1 }
     requires room { HasRoomFor nodes.old 3 }
+    requires keys { nodes.old.capacity < 2 ^ 32 }
     requires few { slab_len nodes.old + 3 ≤ 2 ^ 26 }
     ensures inserts { Inserts nodes.old.slots nodes.new.slots pool.old pool.new root page entry }
     ensures grows { Grows nodes.old nodes.new 3 }

@@ -3,7 +3,7 @@ use Rattle.std.proofs.Common.{◌≡◌, ◌≢◌, ℕ, ◌<◌, List, length, 
 use Rattle.page_spec.specs.Layers.{Layer, page_from}
 use Rattle.page_map.specs.Maps.{OwnPage, Maps, Map, owns_at, own_at}
 use Rattle.page_map.specs.Reads.{page_of, bytes_with, bytes_of, IsLive}
-use Rattle.page_map.specs.Changes.{SameMaps, ChangesOnly, KeepsOthers}
+use Rattle.page_map.specs.Changes.{SameMaps, KeepsOthers}
 use Rattle.page_map.proofs.Whole.{same_pages}
 
 pub moved : (old new : Maps) (m n : Map) → IsSome (owns_at new n.id) → ((page : ℕ) → own_at new n.id page ≡ own_at old m.id page) → n.stack ≡ m.stack → n.length ≡ m.length → IsLive old m → IsLive new n
@@ -38,9 +38,3 @@ agree maps m layers others same = same_pages (λ page. page_of layers (own_at ma
     go : (page : ℕ) → page < m.length → (o : Option OwnPage) → page_of layers o page ≡ page_of others o page
     go page lt None = same page lt
     go page lt (Some o) = refl
-
-pub only_others : (old new : Maps) (id : ℕ) → ChangesOnly old new id → KeepsOthers old new id
-only_others old new id only = record {
-  live = λ other ne live. only.live other ne ∙ live;
-  own = λ other page ne live. only.own other page ne;
-}

@@ -8,4 +8,4 @@ mod tests;
 
 pub use format_spec::PageBytes;
 pub use pool::PagePool;
-pub use slot::SlotId;
+pub use slot::{NO_SLOT, SlotId};

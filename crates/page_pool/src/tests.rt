@@ -1,4 +1,4 @@
-use crate::PagePool;
+use crate::{PagePool, SlotId};
 use std::test::Fail;
 
 #[test]
@@ -10,6 +10,7 @@ fn a_shared_page_is_copied_before_it_is_written(rt: HostRuntime) -> Result<(), F
     pool.retain(shared);
     let copy = pool.write(shared);
     assert!(rt; copy != shared);
+    assert!(rt; SlotId::with_number(copy.number()) == Some(copy));
     pool.page_mut(copy)[0] = 8;
     assert!(rt; pool.page(shared)[0] == 7);
     assert!(rt; pool.page(copy)[0] == 8);

@@ -46,7 +46,8 @@ pub returns-in_ok-map-inside-in_default-clause-stamps : goal.returns-in_ok-map-i
 returns-in_ok-map-inside-in_default-clause-stamps g c =
     let id = c.in_ok-map-inside-in_default.field-0 in
     rw (← c.self.view_is, ← c.map.view_is)
-    (written_stamps (own_at c.self.inside.own c.map.inside.id) (own_at c.write_fork.new.own id) c.args.stamp c.pages_of_range-pages.result.0 c.pages_of_range-pages.result.1 c.in_ok-map-inside-in_default.ensures.written c.args.at (length c.args.bytes.now) c.pages_of_range-pages.ensures.order c.pages_of_range-pages.ensures.touched)
+    (written_stamps (own_at c.self.inside.own c.map.inside.id) (own_at c.write_fork.new.own id) c.args.stamp c.pages_of_range-pages.result.0
+    c.pages_of_range-pages.result.1 c.in_ok-map-inside-in_default.ensures.written c.args.at (length c.args.bytes.now) c.pages_of_range-pages.ensures.order c.pages_of_range-pages.ensures.touched)
 
 pub returns-in_ok-map-inside-in_default-clause-live : goal.returns-in_ok-map-inside-in_default-clause-live
 returns-in_ok-map-inside-in_default-clause-live g c =
