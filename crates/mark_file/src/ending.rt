@@ -27,13 +27,14 @@ pub(crate) fn root_hash(
     requires fit { FitSums (part_of sys.now) (map (λ mem. mem.sums) mems.now) }
     ensures { IfOk result (λ root. root ≡ root_from (part_of sys.now) mems.now) }
 {
-    let sums = sums_of(alloc, mems)?;
+    let sums = memory_sums(alloc, mems)?;
     let manifest = Manifest::from_sums(alloc, system, sys, &sums)?;
     let meta = manifest.meta(alloc)?;
     Ok(meta.root())
 }
 
-fn sums_of(alloc: Global, mems: &[MarkMem]) -> Result<Vec<Vec<Hash32>>, NoMemory>
+/// The hashes of the chunks of each memory.
+pub fn memory_sums(alloc: Global, mems: &[MarkMem]) -> Result<Vec<Vec<Hash32>>, NoMemory>
     ensures { IfOk result (λ lists. map (λ list. list.items) lists.items ≡ map (λ mem. mem.sums) mems.now) }
 {
     let mut lists = Vec::with_capacity(alloc, mems.len())?;

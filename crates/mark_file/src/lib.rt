@@ -12,6 +12,7 @@ mod memories;
 #[cfg(test)]
 mod tests;
 
+pub use ending::memory_sums;
 pub use error::MarkError;
 pub use laws::{decode_has_one_answer, marks_can_be_written};
 pub use mark::{Mark, MarkMem};
