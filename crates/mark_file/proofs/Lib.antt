@@ -3,3 +3,4 @@ pub mod MemoryLaws
 pub mod Bodies
 pub mod Wholes
 pub mod Once
+pub mod SystemRows

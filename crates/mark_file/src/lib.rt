@@ -7,6 +7,7 @@ mod ending;
 mod error;
 mod fields;
 mod laws;
+mod making;
 mod mark;
 mod memories;
 #[cfg(test)]

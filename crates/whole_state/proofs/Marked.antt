@@ -25,50 +25,6 @@ use Rattle.whole_state.specs.Written.{IsWholeStack, whole_stack, pages_in}
 use Rattle.std.proofs.lemmas.Slice.Zip.{AllZip-long}
 use Rattle.state_spec.proofs.RowSizes.{length-chunk_hashes}
 
--- ---- the chunk rows of the last file
-
-abbrev rows_at : ℕ → List ChunkSum → List ChunkRow
-rows_at k sums = map (λ c. record { file = k; sum = c }) sums
-
-abbrev hash_of : ChunkRow → Bytes
-hash_of row = row.sum.hash
-
-rows_end : (n : ℕ) (fs : List FileSums) (f : FileSums) → (front : List ChunkRow) × (k : ℕ) × (chunk_rows n (fs ++ f ∷ []) ≡ front ++ rows_at k (chunk_sums f))
-rows_end n [] f = ([], n, append-nil (rows_at n (chunk_sums f)))
-rows_end n (g ∷ fs) f =
-    let more = rows_end (suc n) fs f in
-    let own = rows_at n (chunk_sums g) in
-    (own ++ more.0, more.1, ap (λ (l : List ChunkRow). own ++ l) more.2 ∙ sym (append_assoc own more.0 (rows_at more.1 (chunk_sums f))))
-
-abbrev sum_at : ℕ → ℕ × Bytes → ChunkSum
-sum_at size e = record { size = chunk_size_at size e.0; offset = chunk_offset e.0; hash = e.1 }
-
-hashes_back : (k size i : ℕ) (hashes : List Bytes) → map hash_of (rows_at k (map (sum_at size) (enumerate_from i hashes))) ≡ hashes
-hashes_back k size i [] = refl
-hashes_back k size i (h ∷ hashes) = ap (λ (hs : List Bytes). h ∷ hs) (hashes_back k size (i + 1) hashes)
-
-behind : (front rows : List ChunkRow) → drop (length (front ++ rows) - length rows) (front ++ rows) ≡ rows
-behind front rows = let count = length-append front rows in drop_at front rows (length (front ++ rows) - length rows) (omega (arith, count))
-
--- they are the last, and their hashes are those of the system text
-pub system_rows : (m : Manifest) (s : SystemPart) (hashes : List (List Bytes)) (size : ℕ) → m ≡ manifest_from 1 (file_sums s hashes) → size ≡ length (system_text s)
-    → (part_count CHUNK_SIZE size ≤ length m.chunks) × (map hash_of (drop (length m.chunks - part_count CHUNK_SIZE size) m.chunks) ≡ chunk_hashes (system_text s))
-unfolding manifest_from file_sums
-system_rows m s hashes size is sized =
-    let f : FileSums = sums_of (system_name, system_text s) in
-    let end = rows_end 0 (memory_sums (memories_in s) hashes) f in
-    let rows = rows_at end.1 (chunk_sums f) in
-    let chunks : m.chunks ≡ end.0 ++ rows = ap (λ (x : Manifest). x.chunks) is ∙ end.2 in
-    let back : map hash_of rows ≡ chunk_hashes (system_text s) = hashes_back end.1 f.size 0 f.hashes in
-    let count : length rows ≡ part_count CHUNK_SIZE size = sym (length-map rows hash_of) ∙ ap length back ∙ length-chunk_hashes (system_text s) ∙ ap (part_count CHUNK_SIZE) (sym sized) in
-    let all = length-append end.0 rows in
-    let long : length m.chunks ≡ length (end.0 ++ rows) = ap length chunks in (
-      omega (arith, long, all, count),
-      ap (λ (k : ℕ). map hash_of (drop (length m.chunks - k) m.chunks)) (sym count)
-          ∙ ap (λ (cs : List ChunkRow). map hash_of (drop (length cs - length rows) cs)) chunks
-          ∙ ap (map hash_of) (behind end.0 rows) ∙ back,
-    )
-
 -- ---- the memories
 
 length-chunk_hash : (bytes : Bytes) → length (chunk_hash bytes) ≡ 32
@@ -123,21 +79,7 @@ memories_fit (m ∷ ms) (f ∷ fs) (b ∷ memories) (s ∷ stacks) layers sums s
     let n = heads (length b) (f.1 * PAGE_SIZE) (map (λ (x : Bytes). length x) memories) (map (λ (x : Bytes × ℕ). x.1 * PAGE_SIZE) fs) sizes in
     (fits_one m f b s l.0 h.0 n.0 whole.0, memories_fit ms fs memories stacks l.1 h.1 n.1 whole.1)
 
--- ---- the mark
-
-pub is_mark : (m : Mark) (s : SystemPart) (memories : List Bytes) (stacks : List (List NumberedFile)) → m.version ≡ 1 → 1 ≤ m.height → m.height ≤ MAX_HEIGHT → IsSystem 1 s → m.system ≡ system_text s
-    → map (λ x. x.layers) m.memories ≡ map numbers_of stacks → map (λ x. x.sums) m.memories ≡ map chunk_hashes memories → FitMemories s memories → AllZip IsWholeStack memories stacks
-    → m.system_sums ≡ chunk_hashes (system_text s) → m.root ≡ root_of_meta (meta_of (manifest_from 1 (file_sums s (map chunk_hashes memories)))) → IsMark m s
-is_mark m s memories stacks version from_one at_most good text layers sums fit whole own root = record {
-  version = version;
-  from_one = from_one;
-  height_fits = at_most;
-  system_good = subst (λ (v : ℕ). IsSystem v s) (sym version) good;
-  system_spelled = text;
-  memories_fit = memories_fit m.memories (memories_in s) memories stacks layers sums fit whole;
-  system_sums = own ∙ ap chunk_hashes (sym text);
-  root = root ∙ ap (λ (hs : List (List Bytes)). root_of_meta (meta_of (manifest_from 1 (file_sums s hs)))) (sym sums) ∙ ap (λ (v : ℕ). root_of_meta (meta_of (manifest_from v (file_sums s (map (λ x. x.sums) m.memories))))) (sym version);
-}
+-- ---- the root
 
 pub root_is : (root : Bytes) (system : System) (memories : List Bytes) (s : State) → FitMemories (part_of system) memories → HasParts s system memories → root ≡ root_of_meta (meta_of (manifest_from 1 (file_sums (part_of system) (map chunk_hashes memories)))) → root ≡ root_of s
 unfolding root_of

@@ -1,9 +1,8 @@
 //! The mark of a state whose memories are written whole.
 
-ghost use Rattle.std.specs.Prelude.{◌≡◌, ◌≤◌, ◌-◌, length, map, drop, IfOk};
+ghost use Rattle.std.specs.Prelude.{◌≡◌, ◌≤◌, length, map, IfOk};
 ghost use Rattle.std.specs.List.{AllZip};
-ghost use Rattle.format_spec.specs.Bytes.{part_count};
-ghost use Rattle.format_spec.specs.declared.limits.TheConstants.{CHUNK_SIZE as chunk_size, MAX_HEIGHT};
+ghost use Rattle.format_spec.specs.declared.limits.TheConstants.{MAX_HEIGHT};
 ghost use Rattle.state_spec.specs.State.{State, IsSystem};
 ghost use Rattle.state_spec.specs.SystemText.{system_text};
 ghost use Rattle.state_spec.specs.Manifest.{chunk_hashes as hashes_of_chunks};
@@ -16,10 +15,8 @@ ghost use Rattle.whole_state.specs.Whole.{HasParts};
 ghost use Rattle.whole_state.specs.Written.{IsWholeStack};
 
 use byte_codec::{Blob, NoMemory};
-use format_spec::{CHUNK_SIZE, VERSION};
 use hash_domain::{Hash32, chunk_hashes};
 use layer_stack::Stack;
-use manifest::Manifest;
 use mark_file::{Mark, MarkMem};
 use std::alloc::Global;
 use sys_state::SysState;
@@ -48,18 +45,8 @@ pub(crate) fn mark_of(
     ensures root { IfOk result (λ m. (s : State) → HasParts s sys.now (map (λ memory. memory.items) memories.now) → m.root ≡ root_of s) }
 {
     let sums = all_sums(alloc, memories)?;
-    let manifest = Manifest::from_sums(alloc, system.bytes(), sys, &sums)?;
-    let system_sums = last_hashes(alloc, &manifest, system.bytes().len())?;
-    let root = manifest.meta(alloc)?.root();
     let mems = mems_of(alloc, stacks, &sums)?;
-    Ok(Mark {
-        height,
-        version: VERSION,
-        system,
-        mems,
-        system_sums,
-        root,
-    })
+    Mark::made(alloc, height, sys, system, mems)
 }
 
 // The hashes of the chunks of each memory.
@@ -71,19 +58,6 @@ fn all_sums(alloc: Global, memories: &[Vec<u8>]) -> Result<Vec<Vec<Hash32>>, NoM
         sums.push(chunk_hashes(alloc, memory)?)?;
     }
     Ok(sums)
-}
-
-// The hashes of the chunks of the last file, which has so many bytes.
-fn last_hashes(alloc: Global, manifest: &Manifest, size: usize) -> Result<Vec<Hash32>, NoMemory>
-    requires { part_count chunk_size size ≤ length manifest.now.chunks }
-    ensures { IfOk result (λ hashes. hashes.items ≡ map (λ row. row.sum.hash) (drop (length manifest.now.chunks - part_count chunk_size size) manifest.now.chunks)) }
-{
-    let count = size.div_ceil(CHUNK_SIZE);
-    let mut hashes = Vec::with_capacity(alloc, count)?;
-    for row in &manifest.chunks[manifest.chunks.len() - count..] {
-        hashes.push(row.hash)?;
-    }
-    Ok(hashes)
 }
 
 // What the mark says of each memory.
