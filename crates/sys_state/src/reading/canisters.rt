@@ -5,6 +5,7 @@ ghost use Rattle.std.specs.List.{AllByRecursion};
 ghost use Rattle.std.specs.Int.{w32};
 ghost use Rattle.format_spec.specs.Bytes.{IsBytes, bytes_cmp, is_after, last_key};
 ghost use Rattle.format_spec.specs.Fields.{field, number, string8, each};
+ghost use Rattle.format_spec.specs.declared.limits.TheConstants.{MAX_STATE_PAGES};
 ghost use Rattle.format_spec.specs.Versions.{memory_limit as limit_of_memory, state_limit as limit_of_state};
 ghost use Rattle.state_spec.specs.State.{is_id, all_pages};
 ghost use Rattle.state_spec.specs.SystemText.{canister_after, wasm_form, wasm_fits};
@@ -73,6 +74,7 @@ fn read_certified(alloc: Global, reader: &mut Reader) -> Result<Blob, FieldError
 fn read_pages(reader: &mut Reader, before: u32, more: u32, version: u32) -> Result<u32, FieldError>
     requires { before + more ≤ limit_of_state version }
     ensures small { IfOk result (λ n. before + more + n ≤ limit_of_state version) }
+    ensures few { IfOk result (λ n. before + more + n ≤ MAX_STATE_PAGES) }
     ensures read { Gives (λ n. (n, reader.new)) result (field (number w32) (λ n. nat_le n (limit_of_memory version) && nat_le (before + more + n) (limit_of_state version)) reader.old) }
 {
     let at = reader.at() as u64;
@@ -100,6 +102,7 @@ fn read_canister(
     ensures bytes { IfOk result IsCanister }
     ensures birth { IfOk result (λ c. c.1.birth ≡ birth) }
     ensures small { IfOk result (λ c. pages + c.1.heap + c.1.stable ≤ limit_of_state version) }
+    ensures few { IfOk result (λ c. pages + c.1.heap + c.1.stable ≤ MAX_STATE_PAGES) }
 {
     let id = read_id(reader, canisters)?;
     let module = read_module(alloc, reader)?;
