@@ -2,9 +2,11 @@
 use Rattle.std.proofs.Common.{◌≡◌, ℕ, suc, ◌*◌, ◌<◌, ◌≤◌, ◌==◌, ◌&&◌, ◌||◌, not, true, false, List, [], ◌∷◌, ◌++◌, length, map, filter, find, fold, is_some, option_map, Option, Some, None, IfSome, refl, sym, ap, ◌∙◌, subst, arith}
 use Rattle.std.specs.List.{list_any, range_with_len, AllByRecursion}
 use Rattle.std.specs.Option.{option_or, option_map_or}
+use Rattle.std.proofs.lemmas.Option.{none-some, same_Some}
 use Rattle.format_spec.specs.declared.limits.TheConstants.{MAX_PEERS, MAX_ASKS}
 use Rattle.sync_spec.specs.Messages.{Item}
-use Rattle.sync_spec.specs.Core.{Core, Wanted, same_item, has_item, unasked_item, with_items, all_pieces, chunks_without, is_old, without_ask, with_strike, with_strike_for_ask, pardoned_strikes, core_after_turn, is_asked_of, asks_of, may_be_asked, peers_of, is_unasked, ask_for, next_ask, with_ask_now, core_after_send, core_after_failure, core_without_item, core_after_fault}
+use Rattle.sync_spec.specs.Core.{Core, Wanted, same_item, has_item, unasked_item, with_items, all_pieces, chunks_without, is_old, without_ask, with_strike, with_strike_for_ask, pardoned_strikes}
+use Rattle.sync_spec.specs.Core.{core_after_turn, is_asked_of, asks_of, may_be_asked, peers_of, is_unasked, ask_for, next_ask, with_ask_now, core_after_send, core_after_failure, core_without_item, core_after_fault}
 use Rattle.sync_spec.specs.CoreLaws.{IsCore}
 use Rattle.sync_spec.proofs.Lasting.{sent_good}
 use Rattle.sync_core.specs.Views.{missing_of}
@@ -72,24 +74,18 @@ fault_is ws now is strikes after turn peer item n a =
 
 -- ---- an ask that is due
 
-some_none : {X : Type 0} (x : X) → Some x ≡ None → ⊥
-some_none x e = cc
-
-same_some : {X : Type 0} (x y : X) → Some x ≡ Some y → x ≡ y
-same_some x y e = cc
-
 -- what is seen of two options is the same
 pub is_found : {X Y Z : Type 0} (f : X → Z) (g : Y → Z) (r : Option X) (o : Option Y) → option_map f r ≡ option_map g o → is_some r ≡ true → (y : Y) × (o ≡ Some y)
 is_found f g None o e t = absurd (both_ways t)
   where
     both_ways : false ≡ true → ⊥
     both_ways k = cc
-is_found f g (Some x) None e t = absurd (some_none (f x) e)
+is_found f g (Some x) None e t = absurd (none-some (f x) (sym e))
 is_found f g (Some x) (Some y) e t = (y, refl)
 
 pub is_not_found : {X Y Z : Type 0} (f : X → Z) (g : Y → Z) (r : Option X) (o : Option Y) → option_map f r ≡ option_map g o → is_some r ≡ false → o ≡ None
 is_not_found f g None None e t = refl
-is_not_found f g None (Some y) e t = absurd (some_none (g y) (sym e))
+is_not_found f g None (Some y) e t = absurd (none-some (g y) e)
 is_not_found f g (Some x) o e t = absurd (both_ways t)
   where
     both_ways : true ≡ false → ⊥
@@ -100,8 +96,8 @@ unfolding next_ask
 due_item c peer item e = by (find (may_be_asked c) (peers_of c)) (find is_unasked c.missing) refl e
   where
     by : (p : Option ℕ) (o : Option Wanted) → find is_unasked c.missing ≡ o → ask_for p o ≡ Some (peer, item) → (w : Wanted) × (find is_unasked c.missing ≡ Some w) × (w.item ≡ item)
-    by None o k d = absurd (some_none (peer, item) (sym d))
-    by (Some p) None k d = absurd (some_none (peer, item) (sym d))
+    by None o k d = absurd (none-some (peer, item) d)
+    by (Some p) None k d = absurd (none-some (peer, item) d)
     by (Some p) (Some w) k d = (w, k, ap (λ (o : Option (ℕ × Item)). option_map_or (λ x. x.1) o w.item) d)
 
 pub sent_tried_is : (ws now : List Wanted) (is : List Item) (strikes : List ℕ) (turn peer : ℕ) (item : Item) (v : Wanted) → find is_unasked ws ≡ Some v
@@ -111,7 +107,7 @@ unfolding core_after_send
 sent_tried_is ws now is strikes turn peer item v f due good n =
     let d = due_item (core_at ws is strikes turn) peer item due in
     let first : find is_unasked (missing_of ws is) ≡ Some v = find_parts ws is ∙ ap (λ (o : Option Wanted). option_or o (find is_unasked (map unasked_item is))) f in
-    let same : v ≡ d.0 = same_some v d.0 (sym first ∙ d.1) in
+    let same : v ≡ d.0 = same_Some v d.0 (sym first ∙ d.1) in
     same_core (missing_of now is) (map (with_ask_now peer item turn) (missing_of ws is)) strikes strikes turn turn
     (ap (λ (vs : List Wanted). missing_of vs is) n ∙ sym (sent_tried peer item turn ws is v f (ap (λ (w : Wanted). w.item) same ∙ d.2) (good.once item))) refl refl
 
@@ -166,7 +162,7 @@ pub first_of_tried : (ws : List Wanted) (is : List Item) (i : Item) → Some i �
 first_of_tried ws is i e = by (find is_unasked ws) refl e
   where
     by : (o : Option Wanted) → find is_unasked ws ≡ o → Some i ≡ item_in o → Some i ≡ item_in (find is_unasked (missing_of ws is))
-    by None f k = absurd (some_none i k)
+    by None f k = absurd (none-some i (sym k))
     by (Some w) f k = k ∙ sym (ap (λ (o : Option Wanted). item_in o) (find_parts ws is ∙ ap (λ (o : Option Wanted). option_or o (find is_unasked (map unasked_item is))) f))
 
 pub first_of_fresh : (ws : List Wanted) (is : List Item) → None ≡ option_map (λ w. w.item) (find is_unasked ws)
@@ -175,7 +171,7 @@ first_of_fresh ws is e = by (find is_unasked ws) refl e
   where
     by : (o : Option Wanted) → find is_unasked ws ≡ o → None ≡ item_in o → item_in (find is_unasked (map unasked_item is)) ≡ item_in (find is_unasked (missing_of ws is))
     by None f k = sym (ap (λ (o : Option Wanted). item_in o) (find_parts ws is ∙ ap (λ (o : Option Wanted). option_or o (find is_unasked (map unasked_item is))) f))
-    by (Some w) f k = absurd (some_none w.item (sym k))
+    by (Some w) f k = absurd (none-some w.item k)
 
 pub seen_item : {X : Type 0} (f : X → Item) (r : Option X) (o : Option Wanted) → option_map (λ x. unasked_item (f x)) r ≡ o → option_map f r ≡ option_map (λ w. w.item) o
 seen_item f None o e = ap (λ (p : Option Wanted). item_in p) e

@@ -1,14 +1,14 @@
 -- Items by their numbers.
 use Rattle.std.proofs.Common.{◌≡◌, ℕ, ◌==◌, ◌||◌, not, Bool, false, List, [], ◌∷◌, map, filter, find, Some, None, refl, sym, ap, ◌∙◌}
 use Rattle.std.specs.List.{list_any}
-use Rattle.slot_links.specs.Lists.{first_of_list}
+use Rattle.std.proofs.lemmas.List.Elements.{filter_agree}
 use Rattle.sync_spec.specs.Messages.{Item}
 use Rattle.sync_spec.specs.Core.{same_item, unasked_item, is_unasked}
 use Rattle.sync_core.specs.declared.fresh.Kind.{Kind}
 use Rattle.sync_core.specs.declared.fresh.Kind.TheVariants.{Pieces, Chunks}
 use Rattle.sync_core.specs.Fresh.{item_at}
 use Rattle.sync_core.proofs.Mapping.{any_view, filter_view}
-use Rattle.sync_core.proofs.Numbers.{filter_alike, filter_absent}
+use Rattle.sync_core.proofs.Numbers.{filter_absent}
 
 same_number : (k : Kind) (j n : ℕ) → same_item (item_at k j) (item_at k n) ≡ (j == n)
 same_number Pieces j n = refl
@@ -37,22 +37,8 @@ items_moved k l xs ys e f = ap (λ (x : Kind). map (item_at x) ys) e ∙ ap (λ 
 
 pub number_taken : (k : Kind) (n : ℕ) (item : Item) (xs : List ℕ) → item ≡ item_at k n → map (item_at k) (filter (λ j. not (j == n)) xs) ≡ filter (λ i. not (same_item i item)) (map (item_at k) xs)
 number_taken k n item xs e =
-    ap (λ (ys : List ℕ). map (item_at k) ys) (sym (filter_alike (λ j. not (same_item (item_at k j) item)) (λ j. not (j == n)) (λ j. ap not (ap (λ (i : Item). same_item (item_at k j) i) e ∙ same_number k j n)) xs))
+    ap (λ (ys : List ℕ). map (item_at k) ys) (sym (filter_agree (λ j. not (same_item (item_at k j) item)) (λ j. not (j == n)) (λ j. ap not (ap (λ (i : Item). same_item (item_at k j) i) e ∙ same_number k j n)) xs))
     ∙ sym (filter_view (item_at k) (λ i. not (same_item i item)) xs)
 
 pub none_taken : (k : Kind) (item : Item) (xs : List ℕ) → ((j : ℕ) → same_item (item_at k j) item ≡ false) → map (item_at k) xs ≡ filter (λ i. not (same_item i item)) (map (item_at k) xs)
 none_taken k item xs h = sym (filter_absent (λ i. same_item i item) (map (item_at k) xs) (has_no_number k item xs h))
-
-some_none : {X : Type 0} (x : X) → Some x ≡ None → ⊥
-some_none x e = cc
-
-same_some : {X : Type 0} (x y : X) → Some x ≡ Some y → x ≡ y
-same_some x y e = cc
-
-pub first_item : (k : Kind) (n : ℕ) (item : Item) (xs : List ℕ) → Some n ≡ first_of_list xs → item ≡ item_at k n → Some (unasked_item item) ≡ find is_unasked (map unasked_item (map (item_at k) xs))
-first_item k n item [] e f = absurd (some_none n e)
-first_item k n item (x ∷ xs) e f = ap (λ (i : Item). Some (unasked_item i)) (f ∙ ap (item_at k) (same_some n x e))
-
-pub no_first_item : (k : Kind) (xs : List ℕ) → None ≡ first_of_list xs → None ≡ find is_unasked (map unasked_item (map (item_at k) xs))
-no_first_item k [] e = refl
-no_first_item k (x ∷ xs) e = absurd (some_none x (sym e))

@@ -13,9 +13,6 @@ use Rattle.sync_core.specs.Views.{HoldsCore}
 fewer_kept : {X : Type 0} (p : X → Bool) (xs : List X) → length (filter p xs) ≤ length xs
 fewer_kept p xs = let a = length-filter p xs in let b = count_by-le-length p xs in omega (arith, a, b)
 
-pub kept_start : (peers room : ℕ) → peers ≤ MAX_PEERS → MAX_PEERS * MAX_ASKS ≤ room → HoldsCore (core_at_start peers) room
-kept_start peers room few h = record { good = begun_good peers few; few = omega arith; enough = h }
-
 pub kept_pieces : (c : Core) (room n : ℕ) → n < 2 ^ 32 → HoldsCore c room → HoldsCore (with_items c (all_pieces n)) room
 kept_pieces c room n below k =
     let l = length-map-range_with_len (λ i. unasked_item (piece i)) 0 n in

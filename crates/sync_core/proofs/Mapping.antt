@@ -28,28 +28,10 @@ set_step {Y = Y} w f (suc i) (n ∷ ns) (b ∷ bs) x d below h e =
     ap (λ (y : Y). y ∷ map w (slice_set ns i x)) (head_of (w n) (f b) (map w ns) (map f (take i bs) ++ drop i bs) h)
     ∙ ap (λ (ys : List Y). f b ∷ ys) (set_step w f i ns bs x d (omega (arith, below)) (tail_of (w n) (f b) (map w ns) (map f (take i bs) ++ drop i bs) h) e)
 
-all_done : {Y : Type 0} (f : Y → Y) (n : ℕ) (bs : List Y) → length bs ≤ n → map f (take n bs) ++ drop n bs ≡ map f bs
-all_done f zero [] h = refl
-all_done f (suc n) [] h = refl
-all_done f zero (b ∷ bs) h = absurd (omega (arith, h))
-all_done {Y} f (suc n) (b ∷ bs) h = ap (λ (ys : List Y). f b ∷ ys) (all_done f n bs (omega (arith, h)))
-
-length_map : {X Y : Type 0} (w : X → Y) (xs : List X) → length (map w xs) ≡ length xs
-length_map w [] = refl
-length_map w (x ∷ xs) = ap (λ n. suc n) (length_map w xs)
-
-pub changed_none : {X Y : Type 0} (w : X → Y) (f : Y → Y) (xs : List X) → Changed w f 0 xs xs
-changed_none w f xs = record { is = refl }
-
 pub changed_more : {X Y : Type 0} (w : X → Y) (f : Y → Y) (i j : ℕ) (now before : List X) (x d : X) → j ≡ i + 1 → i < length now → Changed w f i now before → w x ≡ f (w (get_or now i d)) → Changed w f j (slice_set now i x) before
 changed_more w f i j now before x d k below h e =
     let s : j ≡ suc i = omega (arith, k) in
     record { is = set_step w f i now (map w before) x d below h.is e ∙ ap (λ n. map f (take n (map w before)) ++ drop n (map w before)) (sym s) }
-
-pub changed_all : {X Y : Type 0} (w : X → Y) (f : Y → Y) (n : ℕ) (now before : List X) → length before ≤ n → Changed w f n now before → map w now ≡ map f (map w before)
-changed_all w f n now before h c =
-    let l : length (map w before) ≡ length before = length_map w before in
-    c.is ∙ all_done f n (map w before) (omega (arith, l, h))
 
 -- ---- tests through a view
 

@@ -2,6 +2,8 @@
 use Rattle.std.proofs.Common.{◌≡◌, inl, inr, ℕ, zero, suc, ◌+◌, ◌-◌, ◌<◌, ◌==◌, ◌||◌, not, cond, Bool, true, false, List, [], ◌∷◌, ◌++◌, length, map, filter, take, get_or, slice_index_or, slice_set, refl, sym, ap, ◌∙◌, subst, arith, if◌then◌else◌}
 use Rattle.std.specs.List.{list_any, range_with_len}
 use Rattle.std.proofs.lemmas.Bool.{eqb-true, eq-eqb}
+use Rattle.std.proofs.Math.Bool.{or-true}
+use Rattle.std.proofs.lemmas.List.Elements.{filter_agree}
 use Rattle.std.proofs.lemmas.List.Folds.{list_any_more}
 use Rattle.std.proofs.lemmas.List.FromFn.{length-range_with_len}
 use Rattle.slot_links.specs.Lists.{Lists, Has, IsApart, IsIn, IsUnlinked, without, lists_without, members_of}
@@ -15,10 +17,6 @@ use Rattle.sync_core.specs.Linked.{numbers_of, IsOneList, IsThere}
 both_ways : true ≡ false → ⊥
 both_ways e = cc
 
-or_true : (b : Bool) → (b || true) ≡ true
-or_true true = refl
-or_true false = refl
-
 pub eqb_swap : (a b : ℕ) → (a == b) ≡ (b == a)
 eqb_swap a b = by (a == b) refl (b == a) refl
   where
@@ -27,12 +25,6 @@ eqb_swap a b = by (a == b) refl (b == a) refl
     by true e false f = absurd (both_ways (sym (eq-eqb b a (sym (eqb-true a b e))) ∙ f))
     by false e true f = absurd (both_ways (sym (eq-eqb a b (sym (eqb-true b a f))) ∙ e))
     by false e false f = e ∙ sym f
-
--- a test that gives the same
-pub filter_alike : {X : Type 0} (p q : X → Bool) → ((x : X) → p x ≡ q x) → (xs : List X) → filter p xs ≡ filter q xs
-filter_alike p q h [] = refl
-filter_alike {X} p q h (x ∷ xs) =
-    ap (λ (ys : List X). cond (p x) (x ∷ ys) ys) (filter_alike p q h xs) ∙ ap (λ b. cond b (x ∷ filter q xs) (filter q xs)) (h x)
 
 -- nothing is taken out that isn't there
 pub filter_absent : {X : Type 0} (p : X → Bool) (xs : List X) → list_any p xs ≡ false → filter (λ x. not (p x)) xs ≡ xs
@@ -50,7 +42,7 @@ filter_absent {X} p (x ∷ xs) h = by (p x) refl (filter_absent p xs)
 pub has_any : (n : ℕ) (xs : List ℕ) → Has n xs → list_any (λ j. j == n) xs ≡ true
 has_any n [] has = absurd has
 has_any n (x ∷ xs) (inl e) = ap (λ b. b || list_any (λ j. j == n) xs) (eq-eqb x n (sym e))
-has_any n (x ∷ xs) (inr has) = ap (λ b. (x == n) || b) (has_any n xs has) ∙ or_true (x == n)
+has_any n (x ∷ xs) (inr has) = ap (λ b. (x == n) || b) (has_any n xs has) ∙ or-true (x == n)
 
 pub any_has : (n : ℕ) (xs : List ℕ) → list_any (λ j. j == n) xs ≡ true → Has n xs
 any_has n [] e = absurd (both_ways (sym e))
@@ -145,7 +137,7 @@ but_more : (had : List ℕ) (k count d : ℕ) → k < length had
     → filter (λ j. not (j == get_or had k d)) (filter (λ i. not (list_any (λ j. j == i) (take k had))) (range_with_len 0 count)) ≡ filter (λ i. not (list_any (λ j. j == i) (take (k + 1) had))) (range_with_len 0 count)
 but_more had k count d below =
     filter_twice (λ i. list_any (λ j. j == i) (take k had)) (λ i. i == get_or had k d) (range_with_len 0 count)
-    ∙ filter_alike (λ i. not (list_any (λ j. j == i) (take k had) || (i == get_or had k d))) (λ i. not (list_any (λ j. j == i) (take (k + 1) had))) (λ i. ap not (same i)) (range_with_len 0 count)
+    ∙ filter_agree (λ i. not (list_any (λ j. j == i) (take k had) || (i == get_or had k d))) (λ i. not (list_any (λ j. j == i) (take (k + 1) had))) (λ i. ap not (same i)) (range_with_len 0 count)
   where
     same : (i : ℕ) → (list_any (λ j. j == i) (take k had) || (i == get_or had k d)) ≡ list_any (λ j. j == i) (take (k + 1) had)
     same i = ap (λ b. list_any (λ j. j == i) (take k had) || b) (eqb_swap i (get_or had k d)) ∙ sym (list_any_more (λ j. j == i) had k d below)

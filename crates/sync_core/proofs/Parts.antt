@@ -6,9 +6,11 @@ use Rattle.std.proofs.lemmas.Bool.{eq-eqb}
 use Rattle.std.proofs.lemmas.List.{map-append, append-nil, append_assoc}
 use Rattle.std.proofs.lemmas.List.Elements.{filter-append}
 use Rattle.std.proofs.lemmas.List.Folds.{find-append, list_any-append}
-use Rattle.std.proofs.lemmas.List.Sums.{sum_by-append, sum_by-cons}
+use Rattle.std.proofs.lemmas.List.Sums.{sum_by-append}
+use Rattle.std.proofs.lemmas.Option.{none-some, same_Some}
 use Rattle.sync_spec.specs.Messages.{Item, meta, piece, chunk}
 use Rattle.sync_spec.specs.Core.{Wanted, same_item, has_item, unasked_item, without_ask, is_old, is_asked_of, asks_of, is_unasked, with_ask_now}
+use Rattle.sync_spec.proofs.Lasting.{count_cons}
 use Rattle.sync_core.specs.Views.{missing_of}
 use Rattle.sync_core.proofs.Mapping.{any_view, filter_view}
 use Rattle.sync_core.proofs.Numbers.{filter_absent}
@@ -41,9 +43,6 @@ old_parts turn ws is =
 
 pub count_parts : (p : Wanted → Bool) (xs ys : List Wanted) → count_by p (xs ++ ys) ≡ count_by p xs + count_by p ys
 count_parts p xs ys = sum_by-append (λ x. cond (p x) 1 0) xs ys
-
-count_cons : {X : Type 0} (p : X → Bool) (x : X) (xs : List X) → count_by p (x ∷ xs) ≡ cond (p x) 1 0 + count_by p xs
-count_cons p x xs = sum_by-cons (λ y. cond (p y) 1 0) x xs
 
 pub asks_parts : (ws : List Wanted) (is : List Item) (peer : ℕ) → asks_of (missing_of ws is) peer ≡ asks_of ws peer
 asks_parts ws is peer = let e = count_parts (is_asked_of peer) ws (all_fresh is) in let n = none is in omega (arith, e, n)
@@ -79,15 +78,9 @@ same_item_refl (chunk i) = eq-eqb i i refl
 abbrev one_if : Bool → ℕ
 one_if b = cond b 1 0
 
-some_none : {X : Type 0} (x : X) → Some x ≡ None → ⊥
-some_none x e = cc
-
-same_some : {X : Type 0} (x y : X) → Some x ≡ Some y → x ≡ y
-same_some x y e = cc
-
 -- what is found is counted
 found_counts : (p : Wanted → Bool) (item : Item) (ws : List Wanted) (w : Wanted) → find p ws ≡ Some w → w.item ≡ item → 1 ≤ count_by (is_of item) ws
-found_counts p item [] w e s = absurd (some_none w (sym e))
+found_counts p item [] w e s = absurd (none-some w e)
 found_counts p item (x ∷ xs) w e s = by (p x) refl (found_counts p item xs w)
   where
     here : x ≡ w → 1 ≤ count_by (is_of item) (x ∷ xs)
@@ -98,7 +91,7 @@ found_counts p item (x ∷ xs) w e s = by (p x) refl (found_counts p item xs w)
         omega (arith, c, o)
 
     by : (b : Bool) → p x ≡ b → (find p xs ≡ Some w → w.item ≡ item → 1 ≤ count_by (is_of item) xs) → 1 ≤ count_by (is_of item) (x ∷ xs)
-    by true k rest = here (same_some x w (sym (ap (λ b. cond b (Some x) (find p xs)) k) ∙ e))
+    by true k rest = here (same_Some x w (sym (ap (λ b. cond b (Some x) (find p xs)) k) ∙ e))
     by false k rest =
         let r = rest (sym (ap (λ b. cond b (Some x) (find p xs)) k) ∙ e) s in
         let c = count_cons (is_of item) x xs in
@@ -148,7 +141,7 @@ none_of item (i ∷ is) e = by (same_item i item) refl (none_of item is)
 -- or it is the first of those that were never asked for
 pub sent_fresh : (peer : ℕ) (item : Item) (turn : ℕ) (ws : List Wanted) (is : List Item) (w : Wanted) → find is_unasked (map unasked_item is) ≡ Some w → w.item ≡ item → count_by (λ v. same_item v.item item) (missing_of ws is) ≤ 1
     → map (with_ask_now peer item turn) (missing_of ws is) ≡ missing_of (ws ++ record { item = item; ask = Some (record { peer = peer; turn = turn }) } ∷ []) (filter (λ i. not (same_item i item)) is)
-sent_fresh peer item turn ws [] w f s once = absurd (some_none w (sym f))
+sent_fresh peer item turn ws [] w f s once = absurd (none-some w f)
 sent_fresh peer item turn ws (i ∷ is) w f s once =
     map-append (with_ask_now peer item turn) ws (unasked_item i ∷ all_fresh is)
     ∙ ap (λ (vs : List Wanted). vs ++ with_ask_now peer item turn (unasked_item i) ∷ map (with_ask_now peer item turn) (all_fresh is)) (none_asked peer item turn ws before)
@@ -161,7 +154,7 @@ sent_fresh peer item turn ws (i ∷ is) w f s once =
     asked = record { item = item; ask = Some (record { peer = peer; turn = turn }) }
 
     is_first : i ≡ item
-    is_first = ap (λ (v : Wanted). v.item) (same_some (unasked_item i) w f) ∙ s
+    is_first = ap (λ (v : Wanted). v.item) (same_Some (unasked_item i) w f) ∙ s
 
     same : same_item i item ≡ true
     same = subst (λ (j : Item). same_item i j ≡ true) is_first (same_item_refl i)

@@ -6,9 +6,6 @@ use Rattle.std.specs.List.{range_with_len}
 pub record Passed (p : ℕ → Bool) (i n : ℕ) : Type 0 where
   pub is : find p (range_with_len 0 n) ≡ find p (range_with_len i (n - i))
 
-pub passed_none : (p : ℕ → Bool) (n : ℕ) → Passed p 0 n
-passed_none p n = record { is = ap (λ m. find p (range_with_len 0 m)) (let e : n ≡ n - 0 = omega arith in e) }
-
 pub passed_more : (p : ℕ → Bool) (i n : ℕ) → i < n → p i ≡ false → Passed p i n → Passed p (i + 1) n
 passed_more p i n below e h =
     let k : n - i ≡ suc (n - (i + 1)) = omega (arith, below) in
@@ -20,7 +17,3 @@ pub passed_here : (p : ℕ → Bool) (i n : ℕ) → i < n → p i ≡ true → 
 passed_here p i n below e h =
     let k : n - i ≡ suc (n - (i + 1)) = omega (arith, below) in
     sym (h.is ∙ ap (λ m. find p (range_with_len i m)) k ∙ ap (λ b. cond b (Some i) (find p (range_with_len (i + 1) (n - (i + 1))))) e)
-
-pub passed_all : (p : ℕ → Bool) (i n : ℕ) → n ≤ i → Passed p i n → None ≡ find p (range_with_len 0 n)
-passed_all p i n high h =
-    let k : n - i ≡ 0 = omega (arith, high) in sym (h.is ∙ ap (λ m. find p (range_with_len i m)) k)

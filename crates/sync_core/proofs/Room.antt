@@ -4,12 +4,13 @@ use Rattle.std.specs.List.{AllByRecursion}
 use Rattle.std.specs.Option.{option_map_or}
 use Rattle.std.proofs.lemmas.Bool.{eq-eqb, ltb-true, ltb-false}
 use Rattle.std.proofs.lemmas.List.{length-append}
-use Rattle.std.proofs.lemmas.List.Sums.{length-filter, sum_by-cons}
+use Rattle.std.proofs.lemmas.List.Sums.{length-filter}
 use Rattle.std.proofs.lemmas.List.Filters.{length-filter_both}
 use Rattle.format_spec.proofs.Lists.{all_parts, all_push}
 use Rattle.format_spec.specs.declared.limits.TheConstants.{MAX_ASKS, MAX_PEERS}
 use Rattle.sync_spec.specs.Messages.{Item}
 use Rattle.sync_spec.specs.Core.{Flight, Wanted, is_asked_of, asks_of, is_unasked, unasked_item}
+use Rattle.sync_spec.proofs.Lasting.{count_cons}
 use Rattle.sync_core.specs.Views.{missing_of}
 use Rattle.sync_core.proofs.Parts.{asks_parts}
 
@@ -33,9 +34,6 @@ below_less p n below e = by (nat_lt p n) refl
         let high = ltb-false p n k in
         let same : p ≡ n = omega (arith, high, below) in
         absurd (both_ways (sym (eq-eqb p n same) ∙ e))
-
-count_cons : (p : Wanted → Bool) (w : Wanted) (ws : List Wanted) → count_by p (w ∷ ws) ≡ cond (p w) 1 0 + count_by p ws
-count_cons p w ws = sum_by-cons (λ v. cond (p v) 1 0) w ws
 
 fewer : (p q : Wanted → Bool) (ws : List Wanted) → count_by p (filter q ws) ≤ count_by p ws
 fewer p q [] = omega arith
