@@ -96,7 +96,7 @@ abbrev pub kept_of : {E : Type 0} → Result (Option Root) E → Option Root
 kept_of (Ok kept) = kept
 kept_of (Err error) = None
 
--- the key of the kept tree fits into 32 bits and isn't the last one there
+-- the key of the kept tree is below the mark for no child
 abbrev pub IsSmall : Option Root → Type 0
 IsSmall None = ⊤
 IsSmall (Some root) = root.node + 1 < 2 ^ 32

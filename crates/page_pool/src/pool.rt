@@ -47,7 +47,8 @@ impl PagePool {
         }
     }
 
-    /// Makes room for so many pages, so that putting them needs no memory.
+    /// Makes room for so many pages, so that putting them needs no memory. NoMemory where memory ran out, or the pool would
+    /// have 2^32 slots, so that no slot has the number `NO_SLOT`; then nothing changes.
     pub fn reserve(&mut self, alloc: Global, n: u32) -> Result<(), NoMemory>
         ensures ok { OnOk result (self.new ≡ with_room self.old (n - self.old.spare)) }
         ensures err { OnErr result (self.new ≡ self.old) }
