@@ -1,10 +1,9 @@
 -- Arrays with a mark where there is nothing.
-use Rattle.std.proofs.Common.{◌≡◌, inl, inr, ℕ, zero, suc, ◌+◌, ◌<◌, List, [], ◌∷◌, length, get_or, set, eqb, false, cond, Option, Some, None, refl, sym, ap, ◌∙◌, arith, length-set}
+use Rattle.std.proofs.Common.{◌≡◌, inl, inr, ℕ, zero, suc, ◌+◌, ◌<◌, List, [], ◌∷◌, length, get_or, set, eqb, Option, Some, None, refl, sym, ap, ◌∙◌, arith, length-set}
 use Rattle.std.proofs.lemmas.Bool.{cases_eq, cases_Bool, eqb-true}
 use Rattle.std.proofs.lemmas.List.{get_or-set_same, get_or-set_other}
 use Rattle.page_pool.specs.Pool.{slot_of}
 use Rattle.page_delta.specs.Arrays.{entry_with, entries_of}
-use Rattle.page_delta.specs.declared.entry.Entry.{Entry}
 
 -- a number below the mark
 pub slot_of-below : (number : ℕ) → number < 4294967295 → slot_of number ≡ Some number

@@ -1,5 +1,5 @@
 -- A node that is copied, and how large counts are.
-use Rattle.std.proofs.Common.{◌≡◌, ◌≢◌, ℕ, zero, suc, ◌+◌, ◌/◌, ◌%◌, ◌^◌, ◌<◌, ◌≤◌, List, get_or, Option, Some, None, IsSome, refl, sym, ap, subst, ◌∙◌, arith}
+use Rattle.std.proofs.Common.{◌≡◌, ℕ, zero, suc, ◌+◌, ◌/◌, ◌%◌, ◌^◌, ◌<◌, ◌≤◌, List, get_or, Option, Some, None, IsSome, refl, sym, ap, subst, ◌∙◌, arith}
 use Rattle.page_pool.specs.Pool.{Pool, count_at, IsLive}
 use Rattle.page_delta.specs.Delta.{uses}
 use Rattle.page_delta.specs.Nodes.{node_at, child_in, entry_in, count_in, level_in, recount, node_with_count, once, names, width, look}

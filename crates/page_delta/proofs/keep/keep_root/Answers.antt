@@ -1,4 +1,4 @@
-use Rattle.std.proofs.Common.{◌≡◌, ◌∙◌, List, Option, Some, None, refl, sym, ap, subst, arith}
+use Rattle.std.proofs.Common.{◌∙◌, List, Option, Some, None, refl, sym, ap, subst, arith}
 use Rattle.page_delta.specs.Roots.{root_at, AreSound}
 use Rattle.page_delta.specs.declared.roots.Root.{Root}
 use Rattle.page_delta.proofs.RootCopies.{stands-kept}

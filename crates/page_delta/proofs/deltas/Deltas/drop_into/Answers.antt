@@ -1,5 +1,3 @@
-use Rattle.std.proofs.Common.{sym, subst}
-use Rattle.page_delta.specs.Delta.{Holds}
 use Rattle.page_delta.proofs.Seen.{held-viewed, seen-held, all-dead, unused}
 use Rattle.page_delta.proofs.Reached.{no-nodes}
 use Rattle.page_delta.proofs.Calls.{drops}

@@ -1,5 +1,3 @@
-use Rattle.std.proofs.Common.{sym, subst}
-use Rattle.page_delta.specs.Delta.{Holds}
 use Rattle.page_delta.proofs.Seen.{held-viewed, seen-held}
 use Rattle.page_delta.proofs.KeepCalls.{keeps, undone}
 use Rattle.page_delta.proofs.deltas.Deltas.keep_after.Goals as goal

@@ -1,4 +1,4 @@
-use Rattle.std.proofs.Common.{◌≡◌, List, Option, length, None, ap, sym, ◌∙◌, arith}
+use Rattle.std.proofs.Common.{List, Option, length, None, ap, sym, ◌∙◌, arith}
 use Rattle.std.proofs.lemmas.List.{ext_get_or}
 use Rattle.page_delta.specs.declared.entry.Entry.{Entry}
 use Rattle.page_delta.proofs.Arrays.{entries-wide, all-step}
