@@ -18,3 +18,4 @@ pub mod Strays
 pub mod Swept
 pub mod Newest
 pub mod Once
+pub mod OnlyReading

@@ -18,7 +18,7 @@ use Rattle.height_store.specs.Errors.{IsBadFile, IsBadHeight, disk_error}
 use Rattle.height_store.specs.Kept.{IsReadable}
 use Rattle.height_store.specs.Store.{Store, StoredHeight, IsHeight, height_at, is_named, is_newest}
 
--- `HeightStore::open` of a disk with these files on entry
+-- `HeightStore::open` and `HeightStore::open_read` of a disk with these files on entry
 pub record OpensAs (files : Files) (result : Result Store StoreError) : Type 0 where
   pub good : IfOk result (λ store. AllByRecursion IsHeight store.heights)
   pub found : IfOk result (λ store. IsReadable store.heights files)

@@ -11,6 +11,8 @@ use Rattle.store_spec.specs.Mark.{Mark, MarkMemory, IsMarkText}
 use Rattle.disk_model.specs.declared.name.Kind.TheVariants as kind
 use Rattle.disk_model.specs.declared.name.Name.TheVariants as name
 use Rattle.disk_model.specs.Files.{Files, IsListing}
+use Rattle.disk_model.specs.View.{DiskView}
+use Rattle.disk_model.specs.OnlyReads.{OnlyReads}
 use Rattle.page_file.specs.Files.{HasPages}
 
 -- the mark of this height is this one, of a state with these parts
@@ -30,6 +32,10 @@ mark_bytes (Some text) = if nat_le (length text) MAX_MARK then length text else 
 -- of the marks of these heights
 abbrev pub marks_bytes : Files → List ℕ → ℕ
 marks_bytes files heights = sum_by (λ height. mark_bytes (files (name.Mark height))) heights
+
+-- nothing is done but to read of the marks of these heights
+abbrev pub LooksAtMarks : List ℕ → DiskView → DiskView → Type 0
+LooksAtMarks heights old new = OnlyReads (marks_bytes old.state.files heights) old new
 
 -- the mark of this height isn't a valid mark, or there are as many before it as may be; all before it are good
 pub record IsFirstBadMark (files : Files) (height : ℕ) : Type 0 where

@@ -61,7 +61,7 @@ pub fn bad_disks_do_not_open()
 {}
 
 /// What the calls of a store say of their answers fixes these, but for faults and want of memory: the store that is opened over
-/// the same files, or why it isn't; the store after a height is published; the answer of a purge; the number that comes next;
+/// the same files, by `open` or by `open_read`, or why it isn't; the store after a height is published; the answer of a purge; the number that comes next;
 /// the bytes of a page of a height, and of a range of a memory.
 pub fn store_calls_have_one_answer()
     ensures opens { (files : Files) (one other : Result Store StoreError)

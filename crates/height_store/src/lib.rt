@@ -2,6 +2,7 @@
 #![tactic(auto)]
 
 mod error;
+mod finding;
 mod laws;
 mod limits;
 mod marks;

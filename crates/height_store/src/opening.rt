@@ -1,6 +1,6 @@
 //! Opening a disk.
 
-ghost use Rattle.std.specs.Prelude.{◌≡◌, ◌≤◌, ◌+◌, ℕ, List, None, is_some, nat_eq, true, IsTrue, OnOk, OnErr, IfOk, IfErr, IsErrAnd, IsErrOf};
+ghost use Rattle.std.specs.Prelude.{◌≡◌, ◌≤◌, ◌+◌, ℕ, List, None, is_some, nat_eq, true, IsTrue, OnOk, IfOk, IsErrAnd, IsErrOf};
 ghost use Rattle.std.specs.List.{list_any, AllByRecursion};
 ghost use Rattle.std.specs.List.Sorted.{IsStrictlyIncreasing};
 ghost use Rattle.store_spec.specs.Image.{Published, StandsFor, Opens};
@@ -15,19 +15,16 @@ ghost use Rattle.disk_model.specs.View.{EachImage, LeavesOnly};
 ghost use Rattle.disk_model.specs.Writing.{Writes};
 ghost use Rattle.height_store.specs.Bad.{IsFirstBadMark, IsFirstBadPage, marks_bytes};
 ghost use Rattle.height_store.specs.Errors.{IsBadFile, disk_error};
-ghost use Rattle.height_store.specs.Found.{IsFound, is_stray};
+ghost use Rattle.height_store.specs.Found.{is_stray};
 ghost use Rattle.height_store.specs.Kept.{IsReadable, MatchesFiles, KeepsHeights, StandsForSome, StandsAsBefore};
 ghost use Rattle.height_store.specs.Opened.{ReadsAtMost};
-ghost use Rattle.height_store.specs.Store.{IsHeight, numbers_of, is_named, is_needed};
+ghost use Rattle.height_store.specs.Store.{IsHeight, is_named, is_needed};
 
 use crate::error::StoreError;
-use crate::marks::read_marks;
-use crate::pages::{heights_of, open_pages};
+use crate::finding::read_store;
 use crate::store::HeightStore;
 use crate::sweeping::sweep;
-use byte_codec::NoMemory;
 use disk_model::{Disk, DiskError, Kind};
-use page_file::PageFile;
 use std::alloc::Global;
 
 impl HeightStore {
@@ -103,56 +100,6 @@ fn list_all<D: Disk>(alloc: Global, disk: &mut D) -> Result<Lists, DiskError>
         drafts: disk.list(alloc, Kind::Draft)?,
         stages: disk.list(alloc, Kind::Stage)?,
     })
-}
-
-// Reads the marks of these heights, which are all that the disk has, and opens the page files that they name. No number was given yet.
-fn read_store<D: Disk>(
-    alloc: Global,
-    disk: &mut D,
-    heights: &[u64],
-) -> Result<HeightStore, StoreError>
-    requires listed { IsTrue D.tells → IsListing kind.Mark (D.view disk.old).state.files heights.now }
-
-    ensures found { IsTrue D.tells → IfOk result (λ store. IsFound store (D.view disk.old).state.files) }
-    ensures good { IfOk result (λ store. AllByRecursion IsHeight store.heights) }
-    ensures bad_mark { IsTrue D.tells → (height : ℕ) → IsErrOf result (StoreError.BadMark height) → IsFirstBadMark (D.view disk.old).state.files height }
-    ensures bad_page { IsTrue D.tells → (number : ℕ) → IsErrOf result (StoreError.BadPage number) → IsFirstBadPage (D.view disk.old).state.files number }
-    ensures named { IfOk result (λ store. (n : ℕ) → list_any (nat_eq n) store.named ≡ is_named store.heights n) }
-    ensures next { IfOk result (λ store. (store.numbers_given ≡ 0) × (store.least_free ≡ 0)) }
-    ensures opens { IsTrue D.tells → OnOk result (Opens (D.view disk.old).state.files) }
-    ensures read { IsTrue D.tells → IfOk result (λ store. ReadsAtMost (D.view disk.old).state.files store (D.view disk.old).bytes_read (D.view disk.new).bytes_read) }
-    ensures bad_mark_reads { IsTrue D.tells → (height : ℕ) → IsErrOf result (StoreError.BadMark height) → OnlyReads (marks_bytes (D.view disk.old).state.files heights.now) (D.view disk.old) (D.view disk.new) }
-    ensures only_reads { IsTrue D.tells → (most : ℕ) × OnlyReads most (D.view disk.old) (D.view disk.new) }
-    ensures cause { FailsFor D.Disk disk_error IsBadFile disk.old disk.new result }
-{
-    check_order(heights)?;
-    let marks = read_marks(alloc, disk, heights)?;
-    let files = open_pages(alloc, disk, &marks)?;
-    let named = numbers(alloc, &files)?;
-    let heights = heights_of(alloc, marks, &files)?;
-    Ok(HeightStore::new(heights, named))
-}
-
-// The numbers of page files.
-fn numbers(alloc: Global, files: &[PageFile]) -> Result<Vec<u64>, NoMemory>
-    ensures { IfOk result (λ numbers. numbers.items ≡ numbers_of files.now) }
-{
-    let numbers = files.iter().map(|file| file.number()).collect(alloc)?;
-    Ok(numbers)
-}
-
-// BadMark for the first height that isn't above the one before it: no disk that tells its files lists one.
-fn check_order(heights: &[u64]) -> Result<(), StoreError>
-    ensures ascends { OnOk result (IsStrictlyIncreasing heights.now) }
-    ensures only { OnErr result (IsStrictlyIncreasing heights.now → ⊥) }
-    ensures bad_mark { IfErr result (λ e. (height : ℕ) × (e ≡ StoreError.BadMark height)) }
-{
-    for i in 1..heights.len() {
-        if heights[i] <= heights[i - 1] {
-            return Err(StoreError::BadMark(heights[i]));
-        }
-    }
-    Ok(())
 }
 
 // Removes all files but the marks and the page files of these numbers, which ascend. The lists have all files that there are.

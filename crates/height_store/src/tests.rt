@@ -66,6 +66,27 @@ fn a_store_is_opened(rt: HostRuntime) -> Result<(), Fail> {
 }
 
 #[test]
+fn a_disk_is_opened_as_it_is(rt: HostRuntime) -> Result<(), Fail> {
+    let alloc = rt.alloc();
+    let mut disk = disk_of(alloc, 1, 0, true)?;
+    let store = HeightStore::open_read(alloc, &mut disk)?;
+    assert_eq!(rt; store.count(), 1);
+    assert_eq!(rt; disk.bytes_read(), 200 + 44);
+    for name in [Name::Page(1), Name::Draft(1), Name::Stage(7)] {
+        assert_eq!(rt; disk.size(alloc, name)?, Some(0));
+    }
+    let mut cut = disk_of(alloc, 1, 1, true)?;
+    assert!(rt;
+        HeightStore::open_read(alloc, &mut cut).is_err_and(|error| error == StoreError::BadMark(1))
+    );
+    let mut bare = disk_of(alloc, 1, 0, false)?;
+    assert!(rt;
+        HeightStore::open_read(alloc, &mut bare).is_err_and(|error| error == StoreError::BadPage(0))
+    );
+    Ok(())
+}
+
+#[test]
 fn bad_files_are_named(rt: HostRuntime) -> Result<(), Fail> {
     let alloc = rt.alloc();
     let mut cut = disk_of(alloc, 1, 1, true)?;

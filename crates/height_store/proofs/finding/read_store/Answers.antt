@@ -15,7 +15,7 @@ use Rattle.height_store.specs.Opened.{ReadsAtMost}
 use Rattle.height_store.specs.Store.{Store, numbers_of, is_named}
 use Rattle.height_store.specs.Standing.{marks_open}
 use Rattle.height_store.proofs.HeightsFound.{read_of, among_by, same_heights, named_by, found_by, read_by}
-use Rattle.height_store.proofs.opening.read_store.Goals as goal
+use Rattle.height_store.proofs.finding.read_store.Goals as goal
 
 pub returns-in_err-files-clause-only_reads : goal.returns-in_err-files-clause-only_reads
 returns-in_err-files-clause-only_reads g c = λ told.
