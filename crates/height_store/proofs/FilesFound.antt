@@ -4,6 +4,7 @@ use Rattle.std.specs.Prelude.{◌⊎◌, ⊤, OnOk, IfErr, IsErrAnd, IsErrOf}
 use Rattle.std.specs.List.{list_any, AllByRecursion, All}
 use Rattle.std.specs.List.Sorted.{IsStrictlyIncreasing, IsBinarySearchResult, IsSearchInRange}
 use Rattle.std.specs.Ordering.{nat_cmp, ordering_index}
+use Rattle.std.proofs.Math.Bool.{or-true}
 use Rattle.std.proofs.lemmas.Bool.{cases_lt}
 use Rattle.std.proofs.lemmas.Bool.Decides.{eqb_tells}
 use Rattle.std.proofs.lemmas.List.{get_or-map, get_or_default, get_or_push, get_or_append_left, length_push, length-map, map-append}
@@ -115,10 +116,6 @@ any_below (r ∷ rows) n m all some = ⊎_elim
     (λ h. any_below rows n m all.1 (sym (ap (λ (b : Bool). b || list_any (λ q. nat_eq m q.0) rows) h.0) ∙ some))
     (eqb_tells m r.0)
 
-or_true : (b : Bool) → (b || true) ≡ true
-or_true true = refl
-or_true false = refl
-
 or_none : (a b c : Bool) → c ≡ false → a ≡ b → a ≡ (b || (c || false))
 or_none a true c none same = same
 or_none a false c none same = same ∙ sym (ap (λ (t : Bool). t || false) none)
@@ -142,7 +139,7 @@ opened_more old new rows n p below opened (inl h) = subst (λ (fs : List Numbere
   ascends = opened.ascends;
   named = λ m. ⊎_elim
       (λ e. subst (λ (k : ℕ). list_any (nat_eq k) (numbers_of old) ≡ true) (sym e.1) (found_any old n h.0 h.1)
-      ∙ sym (list_any-append (λ r. nat_eq m r.0) rows ((n, p) ∷ []) ∙ ap (λ (b : Bool). list_any (λ r. nat_eq m r.0) rows || (b || false)) e.0 ∙ or_true _))
+      ∙ sym (list_any-append (λ r. nat_eq m r.0) rows ((n, p) ∷ []) ∙ ap (λ (b : Bool). list_any (λ r. nat_eq m r.0) rows || (b || false)) e.0 ∙ or-true _))
       (λ e. or_none _ _ _ e.0 (opened.named m) ∙ sym (list_any-append (λ r. nat_eq m r.0) rows ((n, p) ∷ [])))
       (eqb_tells m n);
   fits = all_push (λ naming. AllByRecursion (λ file. file.number ≡ naming.0 → file.index.memory ≤ naming.1) old) rows (n, p) opened.fits

@@ -3,6 +3,7 @@ use Rattle.std.proofs.Common.{◌≡◌, ℕ, zero, suc, ◌+◌, ◌-◌, ◌�
 use Rattle.std.specs.List.{list_any, AllPairs}
 use Rattle.std.specs.List.Sorted.{IsStrictlyIncreasing}
 use Rattle.std.specs.Prelude.{count_by, cond, nat_lt}
+use Rattle.std.proofs.Math.Bool.{or-true}
 use Rattle.std.proofs.lemmas.Bool.{cases_Bool, cases_lt, false≢true}
 use Rattle.std.proofs.lemmas.Map.Views.{exact_unsigned_eq}
 use Rattle.std.proofs.lemmas.Bool.Decides.{nat_tests}
@@ -49,7 +50,7 @@ pub with_smaller : (xs : List ℕ) (b from n : ℕ) → b ≤ length xs → ((k 
 with_smaller xs b from n le below next = record {
   not_before = next.not_before;
   free = split n ∙ rw (is_none n (take b xs) (λ k d lt at. absurd (omega (arith, at, next.not_before, below k d (in_front k lt), sym (get_or-take b xs k d (in_front k lt)))))) next.free;
-  least = λ k from_le lt. split k ∙ rw (next.least k from_le lt) (or_true (list_any (nat_eq k) (take b xs)));
+  least = λ k from_le lt. split k ∙ rw (next.least k from_le lt) (or-true (list_any (nat_eq k) (take b xs)));
 }
   where
     in_front : (k : ℕ) → k < length (take b xs) → k < b
@@ -57,10 +58,6 @@ with_smaller xs b from n le below next = record {
 
     split : (k : ℕ) → list_any (nat_eq k) xs ≡ (list_any (nat_eq k) (take b xs) || list_any (nat_eq k) (drop b xs))
     split k = ap (list_any (nat_eq k)) (sym (take-append-drop b xs)) ∙ list_any-append (nat_eq k) (take b xs) (drop b xs)
-
-    or_true : (c : Bool) → (c || true) ≡ true
-    or_true true = refl
-    or_true false = refl
 
 -- what ascends from one to the next ascends behind a place
 pub ascends_behind : (xs : List ℕ) (b : ℕ) → IsStrictlyIncreasing xs → AllPairs (λ m n. m < n) (drop b xs)

@@ -26,7 +26,8 @@ use Rattle.layer_stack.specs.Stacks.{AreLayers}
 use Rattle.height_store.specs.Store.{StoredHeight, IsHeight, FitsPages}
 use Rattle.height_store.specs.Kept.{ShowsHeight}
 use Rattle.height_store.specs.KnownLaws.{bytes_made}
-use Rattle.height_store.specs.Memories.{memory_long, layers_whole}
+use Rattle.layer_stack.specs.Whole.{layers_whole}
+use Rattle.page_spec.specs.Whole.{length-memory_from}
 
 -- ---- page files, layers and bytes of one memory
 
@@ -119,7 +120,7 @@ there_is h file pages there = by (slice_get (memories_in (part_of h.system)) fil
 -- all bytes of a memory
 pub whole_memory : (files : Files) (stack : List NumberedFile) (own : List Layer) (most pages count : ℕ) → AreLayers files stack own → most ≡ pages → count ≡ pages → take (most * PAGE_SIZE) (memory_from count own) ≡ memory_from pages own
 whole_memory files stack own most pages count are most_is is =
-    let long = memory_long count own (layers_whole files stack own are) in
+    let long = length-memory_from count own (layers_whole files stack own are) in
     take_all (most * PAGE_SIZE) (memory_from count own) (omega (arith, long, most_is, is)) ∙ ap (λ (n : ℕ). memory_from n own) is
 
 -- ---- pages of all memories, one by one

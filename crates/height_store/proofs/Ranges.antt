@@ -10,7 +10,7 @@ use Rattle.state_spec.specs.Files.{memories_in}
 use Rattle.sys_state.specs.System.{part_of}
 use Rattle.page_spec.specs.Layers.{Layer, page_from, memory_from}
 use Rattle.height_store.specs.Store.{StoredHeight, height_at}
-use Rattle.height_store.specs.Memories.{IsWhole, layers_page_long}
+use Rattle.page_spec.specs.Whole.{IsWhole, length-newest_page}
 
 -- ---- a page of a memory
 
@@ -30,7 +30,7 @@ none_before n = omega arith
 pub page_of_memory : (count page : ℕ) (layers : List Layer) → AllByRecursion IsWhole layers → page < count → page_from (reverse layers) page ≡ take PAGE_SIZE (drop (page * PAGE_SIZE) (memory_from count layers))
 unfolding memory_from
 page_of_memory count page layers whole lt =
-    sym (pages_at (page_from (reverse layers)) (range_with_len 0 count) page 0 (λ p. layers_page_long layers p whole) (omega (arith, lt, length-range_with_len 0 count))
+    sym (pages_at (page_from (reverse layers)) (range_with_len 0 count) page 0 (λ p. length-newest_page layers p whole) (omega (arith, lt, length-range_with_len 0 count))
     ∙ ap (page_from (reverse layers)) (get_or-range_with_len 0 count page 0 lt ∙ none_before page))
 
 -- ---- a range

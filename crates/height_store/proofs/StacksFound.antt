@@ -35,7 +35,8 @@ module _ (files : List NumberedFile) where
       (named_layers m.layers f.1 parts.0, named_memories ms fs fit.1 parts.1)
 
   -- every number that a mark's memories name is that of a file
-  pub are_named : (m : Mark) (s : SystemPart) (mems : List MarkMemory) → IsMark m s → mems ≡ m.memories → AllByRecursion (λ naming. list_any (nat_eq naming.0) (numbers_of files) ≡ true) (mark_namings (m, s)) → AllByRecursion (λ m. AllByRecursion (λ number. list_any (nat_eq number) (numbers_of files) ≡ true) m.layers) mems
+  pub are_named : (m : Mark) (s : SystemPart) (mems : List MarkMemory) → IsMark m s → mems ≡ m.memories → AllByRecursion (λ naming. list_any (nat_eq naming.0) (numbers_of files) ≡ true) (mark_namings (m, s))
+      → AllByRecursion (λ m. AllByRecursion (λ number. list_any (nat_eq number) (numbers_of files) ≡ true) m.layers) mems
   are_named m s mems good is all = subst (AllByRecursion (λ (m : MarkMemory). AllByRecursion IsNamed m.layers)) (sym is) (named_memories m.memories (memories_in s) good.memories_fit all)
 
   fits_layers : (stack : List NumberedFile) (pages : ℕ) → AllByRecursion (Contains files) stack → AllByRecursion Fits (map (λ n. (n, pages)) (numbers_of stack)) → AllByRecursion (λ file. file.index.memory ≤ pages) stack
@@ -49,7 +50,8 @@ module _ (files : List NumberedFile) where
   tail_same : (x y : List ℕ) (xs ys : List (List ℕ)) → x ∷ xs ≡ y ∷ ys → xs ≡ ys
   tail_same x y xs ys e = cc
 
-  fits_memories : (stacks : List (List NumberedFile)) (ms : List MarkMemory) (fs : List (Bytes × ℕ)) → AllZip FitsMemory ms fs → map numbers_of stacks ≡ map (λ m. m.layers) ms → AllByRecursion (AllByRecursion (Contains files)) stacks → AllByRecursion Fits (flat_map memory_namings (zip ms fs)) → AllZip FitsPages stacks fs
+  fits_memories : (stacks : List (List NumberedFile)) (ms : List MarkMemory) (fs : List (Bytes × ℕ)) → AllZip FitsMemory ms fs → map numbers_of stacks ≡ map (λ m. m.layers) ms
+      → AllByRecursion (AllByRecursion (Contains files)) stacks → AllByRecursion Fits (flat_map memory_namings (zip ms fs)) → AllZip FitsPages stacks fs
   fits_memories [] [] [] fit same among fits = tt
   fits_memories [] [] (f ∷ fs) fit same among fits = absurd fit
   fits_memories [] (m ∷ ms) fs fit same among fits = absurd (cc)
@@ -63,7 +65,8 @@ module _ (files : List NumberedFile) where
       )
 
   -- what was found for the memories of a mark fits it
-  pub fits_mark : (m : Mark) (s : SystemPart) (mems : List MarkMemory) (stacks : List (List NumberedFile)) → IsMark m s → mems ≡ m.memories → map numbers_of stacks ≡ map (λ mem. mem.layers) mems → AllByRecursion (AllByRecursion (Contains files)) stacks → FitNamings files (mark_namings (m, s)) → FitsMark m s stacks
+  pub fits_mark : (m : Mark) (s : SystemPart) (mems : List MarkMemory) (stacks : List (List NumberedFile)) → IsMark m s → mems ≡ m.memories
+      → map numbers_of stacks ≡ map (λ mem. mem.layers) mems → AllByRecursion (AllByRecursion (Contains files)) stacks → FitNamings files (mark_namings (m, s)) → FitsMark m s stacks
   fits_mark m s mems stacks good is same among fits =
       let numbers = same ∙ ap (map (λ (m : MarkMemory). m.layers)) is in
       record { mark = good; numbers = numbers; fits = fits_memories stacks m.memories (memories_in s) good.memories_fit numbers among fits }
@@ -95,7 +98,8 @@ namings_at P (m ∷ ms) (suc i) d lt all = namings_at P ms i d (omega arith) (al
 abbrev mark_of : StoredHeight → ReadMark
 mark_of h = record { mark = h.mark; system = h.system }
 
-pub marks_more : (hs now : List StoredHeight) (h : StoredHeight) (ms : List ReadMark) (m : ReadMark) → now ≡ hs ++ h ∷ [] → record { mark = h.mark; system = h.system } ≡ m → map (λ h. record { mark = h.mark; system = h.system }) hs ≡ ms → map (λ h. record { mark = h.mark; system = h.system }) now ≡ ms ++ m ∷ []
+pub marks_more : (hs now : List StoredHeight) (h : StoredHeight) (ms : List ReadMark) (m : ReadMark) → now ≡ hs ++ h ∷ [] → record { mark = h.mark; system = h.system } ≡ m
+    → map (λ h. record { mark = h.mark; system = h.system }) hs ≡ ms → map (λ h. record { mark = h.mark; system = h.system }) now ≡ ms ++ m ∷ []
 marks_more hs now h ms m is at was = ap (map mark_of) is ∙ map-append mark_of hs (h ∷ []) ∙ ap (λ (l : List ReadMark). l ++ mark_of h ∷ []) was ∙ ap (λ (r : ReadMark). ms ++ r ∷ []) at
 
 pub heights_more : (hs now : List StoredHeight) (h : StoredHeight) → now ≡ hs ++ h ∷ [] → AllByRecursion IsHeight hs → IsHeight h → AllByRecursion IsHeight now

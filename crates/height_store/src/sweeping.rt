@@ -23,7 +23,8 @@ pub(crate) fn sweep<D: Disk>(
     requires ascend { IsTrue D.tells → IsStrictlyIncreasing numbers.now }
     requires keep_ascend { IsStrictlyIncreasing keep.now }
 
-    ensures gone { IsTrue D.tells → OnOk result ((n : ℕ) → list_any (nat_eq n) numbers.now ≡ true → list_any (nat_eq n) keep.now ≡ false → (D.view disk.new).state.files (name_of kind n) ≡ None) }
+    ensures gone { IsTrue D.tells → OnOk result ((n : ℕ) → list_any (nat_eq n) numbers.now ≡ true → list_any (nat_eq n) keep.now ≡ false
+        → (D.view disk.new).state.files (name_of kind n) ≡ None) }
     ensures writes { Writes D.Disk (is_swept kind numbers.now keep.now) 0 disk.old disk.new result }
 {
     for number in numbers {

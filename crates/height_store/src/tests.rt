@@ -2,6 +2,7 @@ use super::*;
 use disk_model::{Disk, MemDisk, Name};
 use hex::decode_to_slice;
 use std::alloc::Global;
+use std::process::Abort;
 use std::test::Fail;
 
 // The mark of a canister with one page, as height 1 with page file 0, and what that file begins with: values of a program in
@@ -43,26 +44,64 @@ fn disk_of(alloc: Global, height: u64, cut: usize, whole: bool) -> Result<MemDis
 fn a_store_is_opened(rt: HostRuntime) -> Result<(), Fail> {
     let alloc = rt.alloc();
     let mut disk = disk_of(alloc, 1, 0, true)?;
-    let mut store = HeightStore::open(alloc, &mut disk)?;
+    let store = HeightStore::open(alloc, &mut disk)?;
     assert_eq!(rt; disk.bytes_read(), 200 + 44);
+    check_height(&rt, &store);
+    assert!(rt; store.mark(2).is_none());
+    assert!(rt; store.sys(2).is_none());
+    assert!(rt; store.stack(1, 2).is_none());
+    Ok(())
+}
+
+// Height 1 alone is there.
+fn check_height(rt: &impl Abort, store: &HeightStore) {
     assert_eq!(rt; store.count(), 1);
     assert!(rt; store.mark(1).is_some_and(|mark| mark.height == 1));
     assert!(rt; store.sys(1).is_some_and(|sys| sys.canisters() == 1));
     assert!(rt; store.stack(1, 0).is_some_and(|stack| stack.count() == 1));
-    assert!(rt; store.mark(2).is_none() && store.sys(2).is_none() && store.stack(1, 2).is_none());
+}
+
+#[test]
+fn numbers_are_given_once(rt: HostRuntime) -> Result<(), Fail> {
+    let alloc = rt.alloc();
+    let mut disk = disk_of(alloc, 1, 0, true)?;
+    let mut store = HeightStore::open(alloc, &mut disk)?;
     assert_eq!(rt; store.next_number(), 1);
     assert_eq!(rt; store.next_number(), 2);
+    Ok(())
+}
+
+#[test]
+fn files_that_no_mark_names_are_removed(rt: HostRuntime) -> Result<(), Fail> {
+    let alloc = rt.alloc();
+    let mut disk = disk_of(alloc, 1, 0, true)?;
+    HeightStore::open(alloc, &mut disk)?;
     for name in [Name::Page(1), Name::Draft(1), Name::Stage(7)] {
         assert_eq!(rt; disk.size(alloc, name)?, None);
     }
-    let mut store = HeightStore::open(alloc, &mut disk)?;
-    assert_eq!(rt;
-        store.purge(alloc, 1, &mut disk),
-        Err(StoreError::LastHeight)
-    );
-    let mut store = HeightStore::open(alloc, &mut disk)?;
-    assert_eq!(rt; store.purge(alloc, 2, &mut disk), Err(StoreError::NoHeight));
     Ok(())
+}
+
+// What a purge of this height is answered.
+fn purged(alloc: Global, height: u64) -> Result<Option<StoreError>, Fail>
+    requires from_one { 1 ≤ height }
+{
+    let mut disk = disk_of(alloc, 1, 0, true)?;
+    let mut store = HeightStore::open(alloc, &mut disk)?;
+    Ok(store.purge(alloc, height, &mut disk).err())
+}
+
+#[test]
+fn the_last_height_stays(rt: HostRuntime) -> Result<(), Fail> {
+    let alloc = rt.alloc();
+    assert!(rt; purged(alloc, 1)? == Some(StoreError::LastHeight));
+    assert!(rt; purged(alloc, 2)? == Some(StoreError::NoHeight));
+    Ok(())
+}
+
+// What a store of this disk is refused with.
+fn refusal_of(alloc: Global, disk: &mut MemDisk) -> Option<StoreError> {
+    HeightStore::open(alloc, disk).err()
 }
 
 #[test]
@@ -90,22 +129,20 @@ fn a_disk_is_opened_as_it_is(rt: HostRuntime) -> Result<(), Fail> {
 fn bad_files_are_named(rt: HostRuntime) -> Result<(), Fail> {
     let alloc = rt.alloc();
     let mut cut = disk_of(alloc, 1, 1, true)?;
-    assert!(rt;
-        HeightStore::open(alloc, &mut cut).is_err_and(|error| error == StoreError::BadMark(1))
-    );
+    assert!(rt; refusal_of(alloc, &mut cut) == Some(StoreError::BadMark(1)));
     assert_eq!(rt; cut.size(alloc, Name::Draft(1))?, Some(0));
     let mut moved = disk_of(alloc, 3, 0, true)?;
-    assert!(rt;
-        HeightStore::open(alloc, &mut moved).is_err_and(|error| error == StoreError::BadMark(3))
-    );
+    assert!(rt; refusal_of(alloc, &mut moved) == Some(StoreError::BadMark(3)));
     let mut bare = disk_of(alloc, 1, 0, false)?;
-    assert!(rt;
-        HeightStore::open(alloc, &mut bare).is_err_and(|error| error == StoreError::BadPage(0))
-    );
+    assert!(rt; refusal_of(alloc, &mut bare) == Some(StoreError::BadPage(0)));
+    Ok(())
+}
+
+#[test]
+fn a_disk_that_fails_is_a_fault(rt: HostRuntime) -> Result<(), Fail> {
+    let alloc = rt.alloc();
     let mut faulty = MemDisk::new(alloc, Vec::from_slice(alloc, &[3])?, None);
-    assert!(rt;
-        HeightStore::open(alloc, &mut faulty).is_err_and(|error| error == StoreError::Fault)
-    );
+    assert!(rt; refusal_of(alloc, &mut faulty) == Some(StoreError::Fault));
     assert_eq!(rt; faulty.calls(), 4);
     Ok(())
 }

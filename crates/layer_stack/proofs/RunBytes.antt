@@ -31,11 +31,6 @@ run_more stack i place k pages below run new =
     subst (IsRun stack i place) (sym (take_more pages k 0 below))
     (run_behind stack i place (slice_index pages k) (take k pages) run (subst (λ (n : ℕ). IsNewest stack (slice_index pages k) i (place + n)) long new))
 
--- the first page alone
-pub run_first : (stack : List NumberedFile) (i place : ℕ) (pages : List ℕ) → 0 < length pages → IsNewest stack (slice_index pages 0) i place → IsRun stack i place (take 1 pages)
-run_first stack i place pages some new =
-    let e : place ≡ place + 0 = omega arith in run_more stack i place 0 pages some tt (subst (IsNewest stack (slice_index pages 0) i) e new)
-
 module _ (stack : List NumberedFile) (i : ℕ) (items : List NumberedFile) (f : NumberedFile) (seen : items ≡ stack) (at : f ≡ slice_index_or items i f) where
   file_at : (page place : ℕ) → (is : IsNewest stack page i place) → f ≡ is.file
   file_at page place is = newest_at page stack i place is items f seen at

@@ -92,9 +92,6 @@ module _ {X : Type 0} (all : List X) (from : ℕ) (within : from ≤ length all)
       ∙ drop-drop 1 (from + i) all ∙ ap (λ (n : ℕ). drop n all) f in
       is ∙ ap (λ (l : List X). l ++ drop (from + 1) old) front ∙ ap (λ (l : List X). take from all ++ l) back
 
-  pub still_long : (i : ℕ) (old : List X) → old ≡ take from all ++ drop (from + i) all → from + i < length all → from < length old
-  still_long i old was lt = omega (arith, ap length was ∙ length-append (take from all) (drop (from + i) all), taken, length-drop (from + i) all, lt)
-
   pub in_place : (count i : ℕ) (file : X) (old : List X) → i + 1 ≡ count → from + count ≤ length all → old ≡ take from all ++ drop (from + i) all → set old from file ≡ list_with from count file all
   in_place count i file old last le was =
       let e : from + i + 1 ≡ from + count = omega (arith, last) in

@@ -10,7 +10,8 @@ ghost use Rattle.layer_stack.specs.Stacks.{IsLayer, AreLayers, ReadsAs, PagesRea
 
 /// Layers depend only on the page files that the stack names.
 pub fn files_that_agree_have_the_same_layers()
-    ensures { (f g : Files) (stack : List NumberedFile) (layers : List Layer) → AllByRecursion (λ file. g (Page file.number) ≡ f (Page file.number)) stack → AreLayers f stack layers → AreLayers g stack layers }
+    ensures { (f g : Files) (stack : List NumberedFile) (layers : List Layer) → AllByRecursion (λ file. g (Page file.number) ≡ f (Page file.number)) stack
+        → AreLayers f stack layers → AreLayers g stack layers }
 {}
 
 /// Page files have layers exactly where each is there as it is known.

@@ -117,7 +117,8 @@ module _ (held now : StateView) (m : Machine) (k : KeepsState held (live_of m)) 
       record {
         version = k.version;
         sorted = sorted_put bytes_cmp ids_total id new cs k.sorted;
-        system = done.now ∙ ap (λ (r : CanisterRecord). calls.with_canister held.system id r) changed ∙ ap (λ (s : System). calls.with_canister s id (record_of new)) k.system ∙ ap (λ (rs : List (Bytes × CanisterRecord)). record (kept_of m.live) { canisters = rs }) (sym (put_images record_of id new cs));
+        system = done.now ∙ ap (λ (r : CanisterRecord). calls.with_canister held.system id r) changed ∙ ap (λ (s : System). calls.with_canister s id (record_of new)) k.system
+            ∙ ap (λ (rs : List (Bytes × CanisterRecord)). record (kept_of m.live) { canisters = rs }) (sym (put_images record_of id new cs));
         memories = memories split.front split.back count bytes ∙ sym (in_turn-append heap_bytes stable_bytes split.front ((id, new) ∷ split.back)) ∙ sym (ap bytes_in (split.put_is new));
         height = beside.height ∙ k.height;
       }

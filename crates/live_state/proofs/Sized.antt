@@ -99,7 +99,8 @@ module _ {V : Type 0} (bytes : V → Bytes) (vs : List V) (old new : System) (id
       → Alters why result (calls.Changes old new id (calls.with_more_pages mem more) × (bytes v ≡ bytes (get_or vs (index_of n mem) d) ++ zeros (more * PAGE_SIZE))) ((new ≡ old) × (bytes v ≡ bytes (get_or vs (index_of n mem) d)))
       → HaveSizes new.canisters (map bytes (set vs (index_of n mem) v))
   after_grow why result more a =
-      alters_keeps why result (calls.Changes old new id (calls.with_more_pages mem more) × (bytes v ≡ bytes (get_or vs (index_of n mem) d) ++ zeros (more * PAGE_SIZE))) ((new ≡ old) × (bytes v ≡ bytes (get_or vs (index_of n mem) d))) (HaveSizes new.canisters (map bytes (set vs (index_of n mem) v))) a
+      alters_keeps why result (calls.Changes old new id (calls.with_more_pages mem more) × (bytes v ≡ bytes (get_or vs (index_of n mem) d) ++ zeros (more * PAGE_SIZE)))
+      ((new ≡ old) × (bytes v ≡ bytes (get_or vs (index_of n mem) d))) (HaveSizes new.canisters (map bytes (set vs (index_of n mem) v))) a
       (λ g. sized_change old new id n mem more (map bytes vs) (map bytes (set vs (index_of n mem) v)) (bytes v) h g.0 s.place
       (λ c f. ap length g.1 ∙ length-append (bytes (get_or vs (index_of n mem) d)) (zeros (more * PAGE_SIZE)) ∙ omega (arith, (vector_size bytes vs old id n mem d c h s f).1, length-replicate {A = ℕ})) (set_bytes bytes vs (index_of n mem) v))
       (λ g. sized_same old new (map bytes vs) (map bytes (set vs (index_of n mem) v)) h g.0 (set_same bytes vs (index_of n mem) v d g.1))
@@ -108,7 +109,8 @@ module _ {V : Type 0} (bytes : V → Bytes) (vs : List V) (old new : System) (id
       → Alters why result (calls.Changes old new id (calls.with_more_pages mem (pages_more p at (length w))) × (bytes v ≡ bytes_after_write (bytes (get_or vs (index_of n mem) d)) at w)) ((new ≡ old) × (bytes v ≡ bytes (get_or vs (index_of n mem) d)))
       → HaveSizes new.canisters (map bytes (set vs (index_of n mem) v))
   after_write why result p at w pages a =
-      alters_keeps why result (calls.Changes old new id (calls.with_more_pages mem (pages_more p at (length w))) × (bytes v ≡ bytes_after_write (bytes (get_or vs (index_of n mem) d)) at w)) ((new ≡ old) × (bytes v ≡ bytes (get_or vs (index_of n mem) d))) (HaveSizes new.canisters (map bytes (set vs (index_of n mem) v))) a
+      alters_keeps why result (calls.Changes old new id (calls.with_more_pages mem (pages_more p at (length w))) × (bytes v ≡ bytes_after_write (bytes (get_or vs (index_of n mem) d)) at w))
+      ((new ≡ old) × (bytes v ≡ bytes (get_or vs (index_of n mem) d))) (HaveSizes new.canisters (map bytes (set vs (index_of n mem) v))) a
       (λ g. sized_change old new id n mem (pages_more p at (length w)) (map bytes vs) (map bytes (set vs (index_of n mem) v)) (bytes v) h g.0 s.place
       (λ c f. let same : calls.pages_of mem c ≡ p = omega (arith, (vector_size bytes vs old id n mem d c h s f).1, pages) in
       ap length g.1 ∙ length_written (bytes (get_or vs (index_of n mem) d)) p at w (sym pages) ∙ ap (λ (q : ℕ). (q + pages_more p at (length w)) * PAGE_SIZE) (sym same)) (set_bytes bytes vs (index_of n mem) v))
@@ -145,10 +147,12 @@ module _ {V : Type 0} (bytes : V → Bytes) (vs : List V) (old new : System) (id
 
     pub steps_grow : (why : Option SysError) (result : Result Reply NoMemory) (more : ℕ)
         → Alters why result (calls.Changes old new id (calls.with_more_pages mem more) × (bytes v ≡ bytes d ++ zeros (more * PAGE_SIZE))) ((new ≡ old) × (bytes v ≡ bytes d))
-        → Alters why result (calls.Changes old new id (calls.with_more_pages mem more) × (map bytes (set vs i v) ≡ set (map bytes vs) (index_of (place_of bytes_cmp id old.canisters) mem) (bytes v)) × (bytes v ≡ get_or (map bytes vs) (index_of (place_of bytes_cmp id old.canisters) mem) [] ++ zeros (more * PAGE_SIZE))) ((new ≡ old) × (map bytes (set vs i v) ≡ map bytes vs))
+        → Alters why result (calls.Changes old new id (calls.with_more_pages mem more) × (map bytes (set vs i v) ≡ set (map bytes vs) (index_of (place_of bytes_cmp id old.canisters) mem) (bytes v))
+        × (bytes v ≡ get_or (map bytes vs) (index_of (place_of bytes_cmp id old.canisters) mem) [] ++ zeros (more * PAGE_SIZE))) ((new ≡ old) × (map bytes (set vs i v) ≡ map bytes vs))
     steps_grow why result more a =
         alters_map why result (calls.Changes old new id (calls.with_more_pages mem more) × (bytes v ≡ bytes d ++ zeros (more * PAGE_SIZE))) ((new ≡ old) × (bytes v ≡ bytes d))
-        (calls.Changes old new id (calls.with_more_pages mem more) × (map bytes (set vs i v) ≡ set (map bytes vs) (index_of (place_of bytes_cmp id old.canisters) mem) (bytes v)) × (bytes v ≡ get_or (map bytes vs) (index_of (place_of bytes_cmp id old.canisters) mem) [] ++ zeros (more * PAGE_SIZE))) ((new ≡ old) × (map bytes (set vs i v) ≡ map bytes vs)) a
+        (calls.Changes old new id (calls.with_more_pages mem more) × (map bytes (set vs i v) ≡ set (map bytes vs) (index_of (place_of bytes_cmp id old.canisters) mem) (bytes v))
+        × (bytes v ≡ get_or (map bytes vs) (index_of (place_of bytes_cmp id old.canisters) mem) [] ++ zeros (more * PAGE_SIZE))) ((new ≡ old) × (map bytes (set vs i v) ≡ map bytes vs)) a
         (λ g. (g.0, is_set, g.1 ∙ ap (λ (b : Bytes). b ++ zeros (more * PAGE_SIZE)) was)) (λ g. (g.0, is_same g.1))
 
     pub keeps_write : (why : Option SysError) (result : Result Reply NoMemory) (p at : ℕ) (w : Bytes) → p * PAGE_SIZE ≡ length (bytes d)
@@ -162,10 +166,12 @@ module _ {V : Type 0} (bytes : V → Bytes) (vs : List V) (old new : System) (id
 
     pub steps_write : (why : Option SysError) (result : Result Reply NoMemory) (p at : ℕ) (w : Bytes)
         → Alters why result (calls.Changes old new id (calls.with_more_pages mem (pages_more p at (length w))) × (bytes v ≡ bytes_after_write (bytes d) at w)) ((new ≡ old) × (bytes v ≡ bytes d))
-        → Alters why result (calls.Changes old new id (calls.with_more_pages mem (pages_more p at (length w))) × (map bytes (set vs i v) ≡ set (map bytes vs) (index_of (place_of bytes_cmp id old.canisters) mem) (bytes v)) × (bytes v ≡ bytes_after_write (get_or (map bytes vs) (index_of (place_of bytes_cmp id old.canisters) mem) []) at w)) ((new ≡ old) × (map bytes (set vs i v) ≡ map bytes vs))
+        → Alters why result (calls.Changes old new id (calls.with_more_pages mem (pages_more p at (length w))) × (map bytes (set vs i v) ≡ set (map bytes vs) (index_of (place_of bytes_cmp id old.canisters) mem) (bytes v))
+        × (bytes v ≡ bytes_after_write (get_or (map bytes vs) (index_of (place_of bytes_cmp id old.canisters) mem) []) at w)) ((new ≡ old) × (map bytes (set vs i v) ≡ map bytes vs))
     steps_write why result p at w a =
         alters_map why result (calls.Changes old new id (calls.with_more_pages mem (pages_more p at (length w))) × (bytes v ≡ bytes_after_write (bytes d) at w)) ((new ≡ old) × (bytes v ≡ bytes d))
-        (calls.Changes old new id (calls.with_more_pages mem (pages_more p at (length w))) × (map bytes (set vs i v) ≡ set (map bytes vs) (index_of (place_of bytes_cmp id old.canisters) mem) (bytes v)) × (bytes v ≡ bytes_after_write (get_or (map bytes vs) (index_of (place_of bytes_cmp id old.canisters) mem) []) at w)) ((new ≡ old) × (map bytes (set vs i v) ≡ map bytes vs)) a
+        (calls.Changes old new id (calls.with_more_pages mem (pages_more p at (length w))) × (map bytes (set vs i v) ≡ set (map bytes vs) (index_of (place_of bytes_cmp id old.canisters) mem) (bytes v))
+        × (bytes v ≡ bytes_after_write (get_or (map bytes vs) (index_of (place_of bytes_cmp id old.canisters) mem) []) at w)) ((new ≡ old) × (map bytes (set vs i v) ≡ map bytes vs)) a
         (λ g. (g.0, is_set, g.1 ∙ ap (λ (b : Bytes). bytes_after_write b at w) was)) (λ g. (g.0, is_same g.1))
 
     place_there : index_of (place_of bytes_cmp id old.canisters) mem < length (map bytes vs)

@@ -14,7 +14,7 @@ use Rattle.sys_state.specs.declared.mem.Mem.{Mem}
 abbrev pub pages_more : ℕ → ℕ → ℕ → ℕ
 pages_more pages at n = if n == 0 then 0 else max pages (pages_for (at + n)) - pages
 
--- the bytes once w is bytes_after_write, of a memory that grows to hold it
+-- the bytes once w is written, of a memory that grows to hold it
 abbrev pub bytes_after_write : Bytes → ℕ → Bytes → Bytes
 bytes_after_write memory at w =
     if length w == 0 then memory

@@ -1,20 +1,19 @@
 -- The heights that files of bytes open at are heights at which a machine may begin.
 use Rattle.std.proofs.Common.{◌≡◌, ℕ, zero, suc, ◌+◌, ◌*◌, ◌/◌, ◌<◌, ◌==◌, List, [], ◌∷◌, map, reverse, length, drop, zip, position, slice_index, Option, Some, None, option_map, unwrap_or, refl, sym, ap, subst, arith, add-one, length-append, length-take, length-drop}
-use Rattle.std.specs.List.{AllByRecursion, AllZip, flat_map, range_with_len}
+use Rattle.std.specs.List.{AllByRecursion, AllZip}
 use Rattle.std.specs.List.Sorted.{IsStrictlyIncreasing}
-use Rattle.std.proofs.lemmas.List.{length-replicate}
-use Rattle.std.proofs.lemmas.List.Quantifiers.{position-Some}
-use Rattle.format_spec.specs.Bytes.{Bytes, IsBytes, page_at}
+use Rattle.format_spec.specs.Bytes.{Bytes, IsBytes}
 use Rattle.format_spec.specs.declared.limits.TheConstants.{PAGE_SIZE}
-use Rattle.format_spec.proofs.Lists.{all_reversed, all_weaker}
+use Rattle.format_spec.proofs.Lists.{all_weaker}
 use Rattle.state_spec.specs.State.{CanisterPart, IsByteCanister, IsMemory, IsState, IsSystem, SystemPart, canisters_from, state_from, system_of}
 use Rattle.state_spec.specs.SystemText.{system_text}
-use Rattle.state_spec.specs.Files.{heap_name, stable_name}
+use Rattle.state_spec.specs.Files.{memory_pages}
 use Rattle.disk_model.specs.declared.name.Name.TheVariants as name
 use Rattle.disk_model.specs.Files.{Files}
 use Rattle.disk_model.specs.OfBytes.{AreOfBytes}
 use Rattle.store_spec.specs.Image.{Published, IsLayerOf, AreLayersOf, GivesHeight, OpensAt, GivesTrueHeight, StandsFor, heights_of, memories_from}
-use Rattle.page_spec.specs.Layers.{Layer, or_else, page_from, memory_from}
+use Rattle.page_spec.specs.Layers.{Layer, memory_from}
+use Rattle.page_spec.specs.Whole.{IsWhole, length-memory_from}
 use Rattle.store_spec.specs.Mark.{MarkMemory, FitsMemory}
 use Rattle.machine_spec.specs.Sound.{Ascend, AreHeights, MayBegin}
 use Rattle.machine_spec.proofs.Canisters.{Canisters}
@@ -39,30 +38,6 @@ ascend_of (x ∷ y ∷ ns) h =
     next : (k : ℕ) → slice_index (x ∷ y ∷ ns) (k + 1) < slice_index (x ∷ y ∷ ns) (k + 1 + 1) → slice_index (y ∷ ns) k < slice_index (y ∷ ns) (k + 1)
     next k lt = omega (arith, lt, index_next x (y ∷ ns) k, index_next x (y ∷ ns) (k + 1))
 
--- ---- the bytes of a memory
-
--- a layer that a page file has
-abbrev IsGood : Layer → Type 0
-IsGood l = length l.pages ≡ PAGE_SIZE * length l.index.numbers
-
-page_length : (ls : List Layer) (page : ℕ) → AllByRecursion IsGood ls → length (page_from ls page) ≡ PAGE_SIZE
-page_length [] page all = length-replicate {A = ℕ} PAGE_SIZE 0
-page_length (l ∷ ls) page all = by (position (λ p. p == page) l.index.numbers) refl (page_length ls page all.1)
-  where
-    by : (o : Option ℕ) → position (λ p. p == page) l.index.numbers ≡ o → length (page_from ls page) ≡ PAGE_SIZE → length (or_else (option_map (page_at l.pages) o) (page_from ls page)) ≡ PAGE_SIZE
-    by None e rest = rest
-    by (Some i) e rest =
-        let within : i < length l.index.numbers = (position-Some (λ (p : ℕ). p == page) l.index.numbers i 0 e).0 in
-        omega (arith, within, all.0, length-take PAGE_SIZE (drop (i * PAGE_SIZE) l.pages), length-drop (i * PAGE_SIZE) l.pages)
-
-pages_length : (ls : List Layer) → AllByRecursion IsGood ls → (a n : ℕ) → length (flat_map (page_from ls) (range_with_len a n)) ≡ n * PAGE_SIZE
-pages_length ls all a zero = refl
-pages_length ls all a (suc n) = omega (arith, length-append (page_from ls a) (flat_map (page_from ls) (range_with_len (a + 1) n)), page_length ls a all, pages_length ls all (a + 1) n)
-
-memory_length : (n : ℕ) (ls : List Layer) → AllByRecursion IsGood ls → length (memory_from n ls) ≡ n * PAGE_SIZE
-unfolding memory_from
-memory_length n ls all = pages_length (reverse ls) (all_reversed IsGood ls all) 0 n
-
 -- ---- the layers of a memory
 
 seconds : {X Y : Type 0} (R : X → Y → Type 0) (P : Y → Type 0) → ((x : X) (y : Y) → R x y → P y) → (xs : List X) (ys : List Y) → AllZip R xs ys → AllByRecursion P ys
@@ -82,7 +57,7 @@ record IsOf (pages : ℕ) (bytes : Bytes) : Type 0 where
 
 one_memory : (files : Files) → AreOfBytes files → (numbers : List ℕ) (n : ℕ) (ls : List Layer) → AllZip (IsLayerOf files n) numbers ls → IsOf n (memory_from n ls)
 one_memory files all numbers n ls there = record {
-  long = memory_length n ls (seconds (IsLayerOf files n) IsGood (λ _ l h. h.good.whole) numbers ls there);
+  long = length-memory_from n ls (seconds (IsLayerOf files n) IsWhole (λ _ l h. h.good.whole) numbers ls there);
   are = memory_bytes n ls (seconds (IsLayerOf files n) (λ l. IsBytes l.pages) (layer_bytes files all n) numbers ls there);
 }
 
@@ -91,11 +66,8 @@ one_memory files all numbers n ls there = record {
 abbrev Parts : Type 0
 Parts = List (Bytes × CanisterPart)
 
-abbrev parts_of : Parts → List (Bytes × ℕ)
-parts_of cs = flat_map (λ c. (heap_name c.0, c.1.heap) ∷ (stable_name c.0, c.1.stable) ∷ []) cs
-
 abbrev bytes_of : Parts → List (List Layer) → List Bytes
-bytes_of cs ls = map (λ e. memory_from e.0.1 e.1) (zip (parts_of cs) ls)
+bytes_of cs ls = map (λ e. memory_from e.0.1 e.1) (zip (memory_pages cs) ls)
 
 abbrev built_of : ℕ → Parts → List (List Layer) → Canisters
 built_of h cs ls = canisters_from h cs (bytes_of cs ls)
@@ -111,7 +83,7 @@ whole_pages n bytes is = record { whole_pages = omega (arith, is.long) }
 as_many : (n : ℕ) (bytes : Bytes) → IsOf n bytes → length bytes / PAGE_SIZE ≡ n
 as_many n bytes is = omega (arith, is.long)
 
-built : (files : Files) → AreOfBytes files → (h : ℕ) (cs : Parts) (ms : List MarkMemory) (ls : List (List Layer)) → AllByRecursion HasBytes cs → AllZip FitsMemory ms (parts_of cs) → AllZip (AreLayersOf files) (zip ms (parts_of cs)) ls
+built : (files : Files) → AreOfBytes files → (h : ℕ) (cs : Parts) (ms : List MarkMemory) (ls : List (List Layer)) → AllByRecursion HasBytes cs → AllZip FitsMemory ms (memory_pages cs) → AllZip (AreLayersOf files) (zip ms (memory_pages cs)) ls
     → Built h cs ls
 built files all h [] [] [] strings fits there = record { same = refl; whole = tt; bytes = tt }
 built files all h [] [] (l ∷ ls) strings fits there = absurd there
@@ -135,7 +107,7 @@ built files all h (c ∷ cs) (a ∷ b ∷ ms) (x ∷ y ∷ ls) strings fits ther
 -- ---- a height
 
 made_valid : (files : Files) → AreOfBytes files → (h version : ℕ) (s : SystemPart) (ms : List MarkMemory) (ls : List (List Layer)) → version ≡ 1 → IsSystem version s → IsBytes (system_text s)
-    → AllZip FitsMemory ms (parts_of s.canisters) → AllZip (AreLayersOf files) (zip ms (parts_of s.canisters)) ls → IsState (state_from version h s (memories_from s ls))
+    → AllZip FitsMemory ms (memory_pages s.canisters) → AllZip (AreLayersOf files) (zip ms (memory_pages s.canisters)) ls → IsState (state_from version h s (memories_from s ls))
 unfolding state_from system_of
 made_valid files all h version s ms ls is good text fits there =
     let strings = system_bytes s text in

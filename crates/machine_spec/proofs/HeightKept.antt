@@ -1,4 +1,4 @@
--- Soundness is all_filtered by the steps on heights, and by those that change nothing.
+-- Soundness is kept by the steps on heights, and by those that change nothing.
 use Rattle.std.proofs.Common.{◌≡◌, ℕ, ◌+◌, ◌<◌, ◌≤◌, ◌==◌, Bool, true, false, not, cond, List, [], ◌∷◌, ◌++◌, map, filter, length, Some, None, is_some, refl, sym, ap, subst, arith, nat_le, nat_lt, length-append}
 use Rattle.std.specs.List.{AllByRecursion, last_or}
 use Rattle.std.proofs.lemmas.Bool.{leb-false}

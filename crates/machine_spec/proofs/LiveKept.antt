@@ -16,7 +16,7 @@ use Rattle.script_text.specs.declared.reply.Refusal.{Refusal}
 use Rattle.script_text.specs.declared.reply.Refusal.TheVariants.{Exists, ManyCanisters, NoCanister, MemoryFull, StateFull}
 use Rattle.script_text.specs.declared.reply.Refusal.TheVariants.{Reserved, PathConflict, TreeFull, NoPath}
 use Rattle.machine_spec.specs.Machine.{Machine, Outcome, now_live, refused_if, unless, unless_none}
-use Rattle.machine_spec.specs.States.{NamedMemory, canister_memories, memories_of, canister_in, with_canister, without_canister, newborn, memory_of, with_memory, pages_with, state_pages}
+use Rattle.machine_spec.specs.States.{NamedMemory, named_memories, memories_of, canister_in, with_canister, without_canister, newborn, memory_of, with_memory, pages_with, state_pages}
 use Rattle.machine_spec.specs.LiveSteps.{canister_step, drop_step, grow_step, write_step, module_step, certify_step, time_step, put_step, del_step}
 use Rattle.machine_spec.specs.Sound.{IsSound, IsWholeState, IsWithin, IsBornBy}
 use Rattle.machine_spec.proofs.Canisters.{Canisters, of_found, with_one, without_one, with_other}
@@ -112,7 +112,7 @@ with_canisters m cs s good =
 -- a canister of the same memories
 same_memories : (m : Machine) (id : Bytes) (c d : Canister) → canister_in m.live id ≡ Some c → IsSound m
     → (IsGood (id, c) → IsGood (id, d)) → pages_in (part_of d) ≡ pages_in (part_of c)
-    → ((P : NamedMemory → Type 0) → AllByRecursion P (canister_memories (id, c)) → AllByRecursion P (canister_memories (id, d))) → IsSound (record m { live = with_canister m.live id d })
+    → ((P : NamedMemory → Type 0) → AllByRecursion P (named_memories ((id, c) ∷ [])) → AllByRecursion P (named_memories ((id, d) ∷ []))) → IsSound (record m { live = with_canister m.live id d })
 same_memories m id c d found s step size same =
     let good : AreGood m.live.canisters = canisters_of m.live s.live.valid in
     let all : (P : NamedMemory → Type 0) → AllByRecursion P (memories_of m.live) → AllByRecursion P (memories_of (with_canister m.live id d)) =

@@ -1,14 +1,16 @@
 -- The live state of a store that opens at a height.
 use Rattle.std.proofs.Common.{◌≡◌, ℕ, ◌≤◌, List, [], ◌∷◌, map, refl, sym, ap, ap₂, ◌∙◌, subst}
-use Rattle.std.specs.List.{AllByRecursion, flat_map}
+use Rattle.std.specs.List.{AllByRecursion}
 use Rattle.format_spec.specs.Bytes.{Bytes}
-use Rattle.state_spec.specs.State.{State, Canister, CanisterPart, HasPageRounds, IsState, SameState, part_of, canister_from, canisters_from, state_from, system_of, memory_bytes, without_history, canister_without_history}
+use Rattle.state_spec.specs.FileOrder.{in_turn}
+use Rattle.state_spec.specs.State.{State, heap_bytes, stable_bytes, Canister, CanisterPart, HasPageRounds, IsState, SameState, part_of, canister_from, canisters_from, state_from, system_of, memory_bytes, without_history, canister_without_history}
 use Rattle.store_spec.specs.Image.{Published, SamePublished, opened_state}
 use Rattle.machine_spec.specs.Sound.{IsWholeState, IsWithin, IsBornBy, MayBegin}
-use Rattle.machine_spec.proofs.Canisters.{Canisters, memories_in}
+use Rattle.machine_spec.specs.States.{named_memories}
+use Rattle.machine_spec.proofs.Canisters.{Canisters}
 use Rattle.machine_spec.proofs.Valid.{IsGood, Named, back_good, canisters_of, entries_of, over_good, time_of, valid_from}
 
-born_from : (h k : ℕ) → h ≤ k → (cs : List (Bytes × CanisterPart)) (ms : List Bytes) → AllByRecursion (IsBornBy k) (memories_in (canisters_from h cs ms))
+born_from : (h k : ℕ) → h ≤ k → (cs : List (Bytes × CanisterPart)) (ms : List Bytes) → AllByRecursion (IsBornBy k) (named_memories (canisters_from h cs ms))
 born_from h k le [] ms = tt
 born_from h k le (c ∷ cs) [] = tt
 born_from h k le (c ∷ cs) (heap ∷ []) = tt
@@ -21,7 +23,7 @@ opened_within p k le = born_from p.height k le (system_of p.state).canisters (me
 abbrev pub fresh : ℕ → Bytes × Canister → Bytes × Canister
 fresh h c = (c.0, canister_from h (part_of c.1) c.1.heap.bytes c.1.stable.bytes)
 
-pub each_fresh : (h : ℕ) (cs : Canisters) → canisters_from h (map (λ c. (c.0, part_of c.1)) cs) (flat_map (λ c. c.1.heap.bytes ∷ c.1.stable.bytes ∷ []) cs) ≡ map (fresh h) cs
+pub each_fresh : (h : ℕ) (cs : Canisters) → canisters_from h (map (λ c. (c.0, part_of c.1)) cs) (in_turn heap_bytes stable_bytes cs) ≡ map (fresh h) cs
 each_fresh h [] = refl
 each_fresh h (c ∷ cs) = ap (λ (l : Canisters). fresh h c ∷ l) (each_fresh h cs)
 
@@ -32,7 +34,7 @@ opened_is p = ap (λ (cs : Canisters). record p.state { canisters = cs }) (each_
 pub no_rounds : (bytes : Bytes) → HasPageRounds (record { bytes = bytes; rounds = [] })
 no_rounds bytes = record { rounds_ascend = refl; rounds_within = tt }
 
-fresh_rounds : (h : ℕ) (cs : Canisters) → AllByRecursion (λ n. HasPageRounds n.memory) (memories_in (map (fresh h) cs))
+fresh_rounds : (h : ℕ) (cs : Canisters) → AllByRecursion (λ n. HasPageRounds n.memory) (named_memories (map (fresh h) cs))
 fresh_rounds h [] = tt
 fresh_rounds h (c ∷ cs) = (no_rounds c.1.heap.bytes, (no_rounds c.1.stable.bytes, fresh_rounds h cs))
 

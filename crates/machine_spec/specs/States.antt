@@ -1,9 +1,9 @@
 -- Plain states, as the steps of the machine change them.
-use Rattle.std.specs.Prelude.{ℕ, ◌+◌, ◌==◌, max, if◌then◌else◌, List, [], ◌∷◌, Option, None}
-use Rattle.std.specs.List.{flat_map}
+use Rattle.std.specs.Prelude.{ℕ, ◌+◌, ◌==◌, max, if◌then◌else◌, List, [], Option, None}
 use Rattle.std.specs.FinMap.{find, put}
 use Rattle.format_spec.specs.Bytes.{Bytes, bytes_cmp}
 use Rattle.state_spec.specs.State.{State, Canister, Memory, pages_of, system_of, all_pages, without}
+use Rattle.state_spec.specs.FileOrder.{in_turn}
 use Rattle.state_spec.specs.Memory.{no_memory, pages_for}
 use Rattle.sys_state.specs.declared.mem.Mem.{Mem}
 use Rattle.sys_state.specs.declared.mem.Mem.TheVariants.{Heap, Stable}
@@ -49,11 +49,11 @@ pub record NamedMemory : Type 0 where
   pub birth : ℕ
   pub memory : Memory
 
-abbrev pub canister_memories : Bytes × Canister → List NamedMemory
-canister_memories c =
-    record { id = c.0; mem = Heap; birth = c.1.birth; memory = c.1.heap }
-    ∷ record { id = c.0; mem = Stable; birth = c.1.birth; memory = c.1.stable }
-    ∷ []
+abbrev pub named_memory : Mem → Bytes × Canister → NamedMemory
+named_memory mem c = record { id = c.0; mem = mem; birth = c.1.birth; memory = memory_of c.1 mem }
+
+abbrev pub named_memories : List (Bytes × Canister) → List NamedMemory
+named_memories cs = in_turn (named_memory Heap) (named_memory Stable) cs
 
 abbrev pub memories_of : State → List NamedMemory
-memories_of s = flat_map canister_memories s.canisters
+memories_of s = named_memories s.canisters

@@ -2,11 +2,11 @@ ghost use Rattle.std.specs.Prelude.{◌≡◌, ◌≤◌, ◌*◌, length, IfOk}
 ghost use Rattle.manifest.specs.Cases.{one_canister};
 ghost use Rattle.manifest.specs.Fits.{FitsText};
 
+use crate::reading_tests::{META, TEXT};
 use crate::{Manifest, from_scratch};
-use byte_codec::hex_text;
+use byte_codec::{Blob, hex_text};
 use format_spec::VERSION;
 use std::alloc::Global;
-use std::process::Abort;
 use std::test::Fail;
 use sys_state::{CanisterId, Mem, SysState};
 
@@ -45,94 +45,64 @@ fn heap_of(alloc: Global, pages: u32, at: usize, bytes: &[u8]) -> Result<Vec<u8>
     Ok(heap)
 }
 
+// The root hash of a state of one canister whose heap has these bytes at a place, in hexadecimal.
+fn root_of(alloc: Global, id: u8, pages: u32, at: usize, bytes: &[u8]) -> Result<Blob, Fail>
+    requires { pages ≤ 65536 }
+{
+    let id = CanisterId::new(&[id]).ok_or("no id")?;
+    let heap = heap_of(alloc, pages, at, bytes)?;
+    let root = manifest_of(alloc, id, pages, heap)?.meta(alloc)?.root();
+    Ok(hex_text(alloc, root.bytes())?)
+}
+
 // The roots are those of another program.
 #[test]
-fn roots_are_those_of_another_program(rt: HostRuntime) -> Result<(), Fail> {
+fn the_root_of_an_empty_state_is_that_of_another_program(rt: HostRuntime) -> Result<(), Fail> {
     let alloc = rt.alloc();
     let sys = SysState::new(alloc);
     let system = sys.encode(alloc)?;
-    let root = from_scratch(alloc, system.bytes(), &sys, &[])?
-        .meta(alloc)?
-        .root();
+    let manifest = from_scratch(alloc, system.bytes(), &sys, &[])?;
+    let root = hex_text(alloc, manifest.meta(alloc)?.root().bytes())?;
     let want = b"06e6561f63ff12d6fad51e601f225ec7dcc863c1fbc11cabdd9cbf97f7da3224";
-    assert_eq!(rt; hex_text(alloc, root.bytes())?.bytes(), want.as_slice());
-    for (id, pages, at, bytes, want) in [
-        (
-            0,
-            0,
-            0,
-            b"".as_slice(),
-            b"0fe16e5b4c20ab894f9762e89fcd208b783538fa7db16d52a5c38a024f5b564a",
-        ),
-        (
-            0,
-            1,
-            0,
-            b"\x01".as_slice(),
-            b"00d20df6c93dbc5257167f2f6dee380e2b050f12d93f87910c02adf4db8eb778",
-        ),
-        (
-            1,
-            1,
-            0,
-            b"\x02".as_slice(),
-            b"a74749e0ca0d9f8d98d620eebe0e280b477f36f789155dc2a28cdc9951464364",
-        ),
-        (
-            0,
-            256,
-            1_048_575,
-            b"\x07".as_slice(),
-            b"7d10f06f9027e2296168221607a557fe0d80b295493dc1e84550e7087f6da133",
-        ),
-        (
-            0,
-            257,
-            1_048_575,
-            b"\x01\x02".as_slice(),
-            b"9c04f8b20a393ec53721a45e250549295b3fe27cc416e553564e45d7a4e7ae70",
-        ),
-    ] {
-        let id = CanisterId::new(&[id]).expect(&rt, "an id");
-        assert!(rt; pages <= 65536);
-        let heap = heap_of(alloc, pages, at, bytes)?;
-        let root = manifest_of(alloc, id, pages, heap)?.meta(alloc)?.root();
-        assert_eq!(rt; hex_text(alloc, root.bytes())?.bytes(), want.as_slice());
-    }
+    assert_eq!(rt; root.bytes(), want.as_slice());
+    Ok(())
+}
+
+#[test]
+fn roots_of_few_pages_are_those_of_another_program(rt: HostRuntime) -> Result<(), Fail> {
+    let alloc = rt.alloc();
+    let none = root_of(alloc, 0, 0, 0, b"")?;
+    let want = b"0fe16e5b4c20ab894f9762e89fcd208b783538fa7db16d52a5c38a024f5b564a";
+    assert_eq!(rt; none.bytes(), want.as_slice());
+    let one = root_of(alloc, 0, 1, 0, b"\x01")?;
+    let want = b"00d20df6c93dbc5257167f2f6dee380e2b050f12d93f87910c02adf4db8eb778";
+    assert_eq!(rt; one.bytes(), want.as_slice());
+    let other = root_of(alloc, 1, 1, 0, b"\x02")?;
+    let want = b"a74749e0ca0d9f8d98d620eebe0e280b477f36f789155dc2a28cdc9951464364";
+    assert_eq!(rt; other.bytes(), want.as_slice());
+    Ok(())
+}
+
+#[test]
+fn roots_of_whole_chunks_are_those_of_another_program(rt: HostRuntime) -> Result<(), Fail> {
+    let alloc = rt.alloc();
+    let full = root_of(alloc, 0, 256, 1_048_575, b"\x07")?;
+    let want = b"7d10f06f9027e2296168221607a557fe0d80b295493dc1e84550e7087f6da133";
+    assert_eq!(rt; full.bytes(), want.as_slice());
+    let more = root_of(alloc, 0, 257, 1_048_575, b"\x01\x02")?;
+    let want = b"9c04f8b20a393ec53721a45e250549295b3fe27cc416e553564e45d7a4e7ae70";
+    assert_eq!(rt; more.bytes(), want.as_slice());
     Ok(())
 }
 
 #[test]
 fn a_canister_has_two_files_beside_the_system_text(rt: HostRuntime) -> Result<(), Fail> {
     let alloc = rt.alloc();
-    let id = CanisterId::new(b"\x00").expect(&rt, "an id");
+    let id = CanisterId::new(b"\x00").ok_or("no id")?;
     let manifest = manifest_of(alloc, id, 0, Vec::new(alloc))?;
-    assert_eq!(rt; manifest.version, 1);
-    assert_eq!(rt; manifest.files.len(), 3);
-    assert_eq!(rt;
-        manifest.files[0].name.bytes(),
-        b"canister/00/heap".as_slice()
-    );
-    assert_eq!(rt;
-        manifest.files[1].name.bytes(),
-        b"canister/00/stable".as_slice()
-    );
-    assert_eq!(rt; manifest.files[2].name.bytes(), b"system".as_slice());
-    assert_eq!(rt; manifest.files[2].size, 36);
-    assert_eq!(rt; manifest.chunks.len(), 1);
-    assert_eq!(rt; manifest.chunks[0].file, 2);
-    assert_eq!(rt; manifest.chunks[0].size, 36);
-    assert_eq!(rt; manifest.chunks[0].offset, 0);
-    assert_eq!(rt; manifest.encode(alloc)?.bytes().len(), 227);
-    let meta = manifest.meta(alloc)?;
-    assert_eq!(rt; meta.version, 1);
-    assert_eq!(rt; meta.pieces.len(), 1);
-    let text = meta.encode(alloc)?;
-    assert_eq!(rt; text.bytes().len(), 40);
-    assert_eq!(rt;
-        &text.bytes()[..8],
-        b"\x00\x00\x00\x01\x00\x00\x00\x01".as_slice()
-    );
-    assert_eq!(rt; &text.bytes()[8..], meta.pieces[0].bytes());
+    let text = hex_text(alloc, manifest.encode(alloc)?.bytes())?;
+    assert_eq!(rt; text.bytes(), TEXT);
+    let meta = hex_text(alloc, manifest.meta(alloc)?.encode(alloc)?.bytes())?;
+    assert_eq!(rt; meta.bytes(), META);
     Ok(())
 }

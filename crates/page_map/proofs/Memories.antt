@@ -7,7 +7,7 @@ use Rattle.format_spec.specs.Bytes.{Bytes}
 use Rattle.format_spec.specs.declared.limits.TheConstants.{PAGE_SIZE}
 use Rattle.state_spec.specs.State.{Memory}
 use Rattle.state_spec.specs.Memory.{grow, read, write, pages_between, with_bytes_at, zeros}
-use Rattle.state_spec.proofs.Edits.{extended_enough}
+use Rattle.state_spec.proofs.Edits.{extended_enough, overwritten_none}
 use Rattle.state_spec.proofs.Memories.{write_none, write_bytes, write_rounds, end_of}
 use Rattle.state_spec.proofs.Rounds.{stamped_find}
 use Rattle.page_spec.specs.Layers.{Layer, has_page}
@@ -23,7 +23,6 @@ use Rattle.page_map.specs.Plain.{plain}
 use Rattle.page_map.specs.Memories.{IsMemoryOf, if_above, round_above}
 use Rattle.page_map.specs.Laws.{memory_of_same}
 use Rattle.page_map.proofs.Lives.{agree}
-use Rattle.page_map.proofs.Whole.{overwritten_none}
 use Rattle.page_map.proofs.Written.{live_long}
 
 -- ---- rounds

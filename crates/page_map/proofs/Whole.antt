@@ -9,50 +9,21 @@ use Rattle.format_spec.specs.declared.limits.TheConstants.{PAGE_SIZE}
 use Rattle.state_spec.specs.Memory.{with_bytes_at}
 use Rattle.page_spec.specs.PageFile.{PageIndex}
 use Rattle.page_spec.specs.Layers.{Layer, page_from}
+use Rattle.page_spec.specs.Whole.{length-newest_page, length-pages}
 use Rattle.disk_model.specs.Files.{Files}
 use Rattle.page_file.specs.Files.{NumberedFile}
 use Rattle.layer_stack.specs.Stacks.{AreLayers}
+use Rattle.layer_stack.specs.Whole.{layers_whole}
 use Rattle.page_map.specs.Maps.{OwnPage}
 use Rattle.page_map.specs.Reads.{page_of, AreWhole}
 
 -- ---- pages are whole
 
-abbrev IsWhole : Layer → Type 0
-IsWhole l = length l.pages ≡ PAGE_SIZE * length l.index.numbers
-
-page_long : (pages : Bytes) (place count : ℕ) → length pages ≡ PAGE_SIZE * count → place < count → length (page_at pages place) ≡ PAGE_SIZE
-page_long pages place count whole within = omega (arith, whole, within, length-take PAGE_SIZE (drop (place * PAGE_SIZE) pages), length-drop (place * PAGE_SIZE) pages)
-
-page_from_long : (layers : List Layer) (page : ℕ) → AllByRecursion IsWhole layers → length (page_from layers page) ≡ PAGE_SIZE
-page_from_long [] page whole = length-replicate {A = ℕ} PAGE_SIZE 0
-page_from_long (l ∷ older) page whole = go (page_from_long older page whole.1) (position (λ p. p == page) l.index.numbers) refl
-  where
-    go : length (page_from older page) ≡ PAGE_SIZE → (at : Option ℕ) → position (λ p. p == page) l.index.numbers ≡ at → length (page_from (l ∷ older) page) ≡ PAGE_SIZE
-    go rest None e = rw e rest
-    go rest (Some place) e = rw e (page_long l.pages place (length l.index.numbers) whole.0 (position-Some (λ p. p == page) l.index.numbers place 0 e).0)
-
-all_append : {X : Type 0} (P : X → Type 0) (xs ys : List X) → AllByRecursion P xs → AllByRecursion P ys → AllByRecursion P (xs ++ ys)
-all_append P [] ys a b = b
-all_append P (x ∷ xs) ys a b = (a.0, all_append P xs ys a.1 b)
-
-all_reverse : {X : Type 0} (P : X → Type 0) (xs : List X) → AllByRecursion P xs → AllByRecursion P (reverse xs)
-all_reverse P [] all = tt
-all_reverse P (x ∷ xs) all = subst (AllByRecursion P) (sym (reverse-append (x ∷ []) xs)) (all_append P (reverse xs) (x ∷ []) (all_reverse P xs all.1) (all.0, tt))
-
-layers_whole : (files : Files) (stack : List NumberedFile) (layers : List Layer) → AreLayers files stack layers → AllByRecursion IsWhole layers
-layers_whole files [] [] there = tt
-layers_whole files [] (l ∷ layers) there = absurd there
-layers_whole files (file ∷ stack) [] there = absurd there
-layers_whole files (file ∷ stack) (l ∷ layers) there = (
-  there.0.there.good.whole ∙ ap (λ (i : PageIndex). PAGE_SIZE * length i.numbers) (sym there.0.index),
-  layers_whole files stack layers there.1,
-)
-
 pub page_of_long : (files : Files) (stack : List NumberedFile) (layers : List Layer) → AreLayers files stack layers → (own : ℕ → Option OwnPage) → AreWhole own → (page : ℕ) → length (page_of layers (own page) page) ≡ PAGE_SIZE
 page_of_long files stack layers are own whole page = go (own page) refl
   where
     go : (o : Option OwnPage) → own page ≡ o → length (page_of layers o page) ≡ PAGE_SIZE
-    go None e = page_from_long (reverse layers) page (all_reverse IsWhole layers (layers_whole files stack layers are))
+    go None e = length-newest_page layers page (layers_whole files stack layers are)
     go (Some o) e = whole page o e
 
 -- ---- pages side by side
@@ -100,11 +71,6 @@ inside a x b w start le =
     regroup : (a p w r b : Bytes) → ((a ++ p) ++ w) ++ (r ++ b) ≡ a ++ (((p ++ w) ++ r) ++ b)
     regroup a p w r b = simp append_assoc
 
-pub overwritten_none : (s : Bytes) (at : ℕ) → with_bytes_at s at [] ≡ s
-overwritten_none s at =
-    let e : at + 0 ≡ at = omega arith in
-    ap (λ (l : Bytes). l ++ drop (at + 0) s) (append-nil (take at s)) ∙ ap (λ (n : ℕ). take at s ++ drop n s) e ∙ take-append-drop at s
-
 pub overwritten_more : (s a c : Bytes) (at : ℕ) → at + length a ≤ length s → with_bytes_at (with_bytes_at s at a) (at + length a) c ≡ with_bytes_at s at (a ++ c)
 overwritten_more s a c at le =
     let k : ℕ = at + length a in
@@ -121,12 +87,8 @@ overwritten_more s a c at le =
     ∙ ap (λ (l : Bytes). l ++ drop (at + length (a ++ c)) s) (append_assoc (take at s) a c)
 
 module _ (f : ℕ → Bytes) (each : (page : ℕ) → length (f page) ≡ PAGE_SIZE) where
-  long_from : (n s : ℕ) → length (flat_map f (range_with_len s n)) ≡ n * PAGE_SIZE
-  long_from zero s = refl
-  long_from (suc n) s = let here = each s in let rest = long_from n (s + 1) in omega (arith, here, rest, length-append (f s) (flat_map f (range_with_len (s + 1) n)))
-
   pub pages_long : (n : ℕ) → length (flat_map f (range_with_len 0 n)) ≡ n * PAGE_SIZE
-  pages_long n = long_from n 0
+  pages_long n = length-pages f each 0 n
 
   -- bytes of one page
   pub page_bytes : (page count start m : ℕ) → page < count → start + m ≤ PAGE_SIZE → take m (drop (page * PAGE_SIZE + start) (flat_map f (range_with_len 0 count))) ≡ take m (drop start (f page))

@@ -1,10 +1,13 @@
 -- What a write, a growth or another stack makes of a map.
-use Rattle.std.proofs.Common.{◌≡◌, ◌≢◌, ◌⊎◌, inl, inr, ℕ, zero, suc, ◌+◌, ◌-◌, ◌*◌, ◌<◌, ◌≤◌, ◌==◌, nat_lt, Bool, true, false, not, cond, List, [], ◌∷◌, ◌++◌, length, reverse, replicate, take, drop, position, Option, Some, None, IsSome, is_some, Result, Ok, Err, IfOk, Vec, Global, refl, sym, ◌∙◌, ap, subst, arith}
+use Rattle.std.proofs.Common.{◌≡◌, ◌≢◌, ◌⊎◌, inl, inr, ℕ, zero, suc, ◌+◌, ◌-◌, ◌*◌, ◌<◌, ◌≤◌, ◌==◌, nat_lt, Bool, true, false, not, cond, List, [], ◌∷◌}
+use Rattle.std.proofs.Common.{◌++◌, length, reverse, replicate, take, drop, position, Option, Some, None, IsSome, is_some, Result, Ok, Err, IfOk, Vec, Global, refl, sym, ◌∙◌, ap, subst, arith}
 use Rattle.std.proofs.lemmas.Bool.{cases_eq, le-ltb}
 use Rattle.std.proofs.lemmas.List.{append-nil, drop_all, reverse-append, replicate-append-replicate}
+use Rattle.std.proofs.lemmas.Option.{same_Some}
 use Rattle.std.specs.List.{AllByRecursion, filter, flat_map, range_with_len, prefix_len}
 use Rattle.byte_codec.specs.declared.error.NoMemory.{NoMemory}
 use Rattle.format_spec.specs.Bytes.{Bytes}
+use Rattle.format_spec.proofs.Lists.{all_reversed}
 use Rattle.format_spec.specs.declared.limits.TheConstants.{PAGE_SIZE, MAX_MEMORY_PAGES}
 use Rattle.state_spec.specs.Memory.{with_bytes_at, zeros}
 use Rattle.page_spec.specs.Layers.{Layer, page_from, memory_from}
@@ -26,9 +29,6 @@ le_or_lt a b = go (b - a) refl
     go : (k : ℕ) → b - a ≡ k → (a ≤ b) ⊎ (b < a)
     go zero e = elim (cases_eq a b) [ inl is ↦ inl (omega arith) | inr ne ↦ inr (omega arith) ]
     go (suc k) e = inl (omega arith)
-
-some_same : {X : Type 0} (x y : X) → Some x ≡ Some y → x ≡ y
-some_same x y e = cc
 
 -- ---- bytes
 
@@ -96,7 +96,7 @@ module _ (old new : ℕ → Option OwnPage) (stamp first behind : ℕ) (w : Writ
 
   pub written_whole : AreWhole old → AreWhole new
   written_whole whole q o is = elim (at_page q) [
-    | inl there ↦ let d = w.done q there.0 there.1 in ap (λ (p : OwnPage). length p.bytes) (some_same o d.0 (sym is ∙ d.1)) ∙ d.3
+    | inl there ↦ let d = w.done q there.0 there.1 in ap (λ (p : OwnPage). length p.bytes) (same_Some o d.0 (sym is ∙ d.1)) ∙ d.3
     | inr same ↦ whole q o (sym same.1 ∙ is)
   ]
 
@@ -188,14 +188,6 @@ layers_end files end (file ∷ stack) [] are ends = absurd are
 layers_end files end (file ∷ stack) (l ∷ layers) are ends =
     (rw are.0.index ends.0, layers_end files end stack layers are.1 ends.1)
 
-all_append : {X : Type 0} (P : X → Type 0) (xs ys : List X) → AllByRecursion P xs → AllByRecursion P ys → AllByRecursion P (xs ++ ys)
-all_append P [] ys a b = b
-all_append P (x ∷ xs) ys a b = (a.0, all_append P xs ys a.1 b)
-
-all_reverse : {X : Type 0} (P : X → Type 0) (xs : List X) → AllByRecursion P xs → AllByRecursion P (reverse xs)
-all_reverse P [] all = tt
-all_reverse P (x ∷ xs) all = subst (AllByRecursion P) (sym (reverse-append (x ∷ []) xs)) (all_append P (reverse xs) (x ∷ []) (all_reverse P xs all.1) (all.0, tt))
-
 past_layers : (end q : ℕ) (layers : List Layer) → LayersEnd end layers → end ≤ q → page_from layers q ≡ replicate PAGE_SIZE 0
 past_layers end q [] ends le = refl
 past_layers end q (l ∷ layers) ends le = let e = no_place end q l.index.numbers ends.0 le in rw e (past_layers end q layers ends.1 le)
@@ -219,7 +211,7 @@ grown_bytes maps m n is files layers are =
     ∙ ap (λ (l : Bytes). flat_map f (range_with_len 0 m.length) ++ l) (all_zeros f n m.length (λ q le. go q le (own_at maps m.id q) refl))
   where
     go : (q : ℕ) → m.length ≤ q → (o : Option OwnPage) → own_at maps m.id q ≡ o → page_of layers o q ≡ zeros PAGE_SIZE
-    go q le None e = past_layers m.length q (reverse layers) (all_reverse (λ l. AllByRecursion (λ page. page < m.length) l.index.numbers) layers (layers_end files m.length m.stack layers are is.layers_within)) le
+    go q le None e = past_layers m.length q (reverse layers) (all_reversed (λ l. AllByRecursion (λ page. page < m.length) l.index.numbers) layers (layers_end files m.length m.stack layers are is.layers_within)) le
     go q le (Some o) e = absurd (let lt = is.within q o e in omega (arith, lt, le))
 
 -- ---- other layers

@@ -67,13 +67,13 @@ pub fn a_map_is_its_memory_after_its_calls()
     ensures read { (files : Files) (maps : Maps) (m : Map) (b : ℕ) (memory : Memory) → IsMemoryOf files b (plain maps m) memory
         → (at count : ℕ) (bytes : Bytes) → ReadsFrom files maps m at count bytes → bytes ≡ read memory at count }
     ensures written { (files : Files) (old new : Maps) (m n : Map) (b : ℕ) (memory : Memory) → IsMemoryOf files b (plain old m) memory
-        → (stamp at : ℕ) (w : Bytes) → IsLive old m → at + length w ≤ m.length * PAGE_SIZE → b < stamp → Overwrites files old new m n at w → Stamps old new m n at (length w) stamp → SameShape m n
-        → IsMemoryOf files b (plain new n) (write stamp memory at w) }
+        → (stamp at : ℕ) (w : Bytes) → IsLive old m → at + length w ≤ m.length * PAGE_SIZE → b < stamp → Overwrites files old new m n at w
+        → Stamps old new m n at (length w) stamp → SameShape m n → IsMemoryOf files b (plain new n) (write stamp memory at w) }
     ensures grown { (files : Files) (maps : Maps) (m : Map) (b : ℕ) (memory : Memory) → IsMemoryOf files b (plain maps m) memory
         → (count : ℕ) → Grows maps m (record m { length = m.length + count }) count → IsMemoryOf files b (plain maps (record m { length = m.length + count })) (grow memory count) }
     ensures rebased { (files : Files) (old new : Maps) (m n : Map) (b : ℕ) (memory : Memory) → IsMemoryOf files b (plain old m) memory
-        → (c : ℕ) (after : List Layer) → b ≤ c → AreLayers files n.stack after → ((before : List Layer) → AreLayers files m.stack before → HaveRest before after old m c) → Rebases old new m n c
-        → ((page : ℕ) → own_at new n.id page ≡ if_after c (own_at old m.id page)) → IsMemoryOf files c (plain new n) memory }
+        → (c : ℕ) (after : List Layer) → b ≤ c → AreLayers files n.stack after → ((before : List Layer) → AreLayers files m.stack before → HaveRest before after old m c)
+        → Rebases old new m n c → ((page : ℕ) → own_at new n.id page ≡ if_after c (own_at old m.id page)) → IsMemoryOf files c (plain new n) memory }
     ensures restacked { (files : Files) (maps : Maps) (m : Map) (b : ℕ) (memory : Memory) → IsMemoryOf files b (plain maps m) memory
         → (stack : List NumberedFile) (after : List Layer) → AreLayers files stack after → ((before : List Layer) → AreLayers files m.stack before → ReadAlike m.length after before)
         → IsMemoryOf files b (plain maps (record m { stack = stack })) memory }

@@ -45,8 +45,8 @@ pub(crate) fn write_fork<D: Disk>(
     ensures fresh { IfOk result (λ fork. owns_at own.old fork ≡ None) }
     ensures live { IfOk result (λ fork. IsSome (owns_at own.new fork)) }
     ensures written { IfOk result (λ fork. Writes (own_at own.old id) (own_at own.new fork) stamp pages.0 pages.1) }
-    ensures bytes { IsTrue D.tells → IfOk result (λ fork. (layers : List Layer) (count : ℕ) → AreLayers (D.view disk.old).state.files stack.now layers → at + length bytes.now ≤ count * page_size
-        → bytes_with layers (own_at own.new fork) count ≡ with_bytes_at (bytes_with layers (own_at own.old id) count) at bytes.now) }
+    ensures bytes { IsTrue D.tells → IfOk result (λ fork. (layers : List Layer) (count : ℕ) → AreLayers (D.view disk.old).state.files stack.now layers
+        → at + length bytes.now ≤ count * page_size → bytes_with layers (own_at own.new fork) count ≡ with_bytes_at (bytes_with layers (own_at own.old id) count) at bytes.now) }
     ensures others { KeepsOthers own.old own.new id }
     ensures unchanged { OnErr result (SameMaps own.old own.new) }
     ensures reads_only { IsTrue D.tells → OnlyReads (page_size * length (pages_for_write own.old id at (length bytes.now))) (D.view disk.old) (D.view disk.new) }
@@ -85,8 +85,8 @@ pub(crate) fn write_pages<D: Disk>(
     requires kept { IsTrue D.tells → AllByRecursion (IsAsKnown (D.view disk.old).state.files) stack.now }
 
     ensures written { OnOk result (Writes (own_at own.old id) (own_at own.new id) stamp pages.0 pages.1) }
-    ensures bytes { IsTrue D.tells → OnOk result ((layers : List Layer) (count : ℕ) → AreLayers (D.view disk.old).state.files stack.now layers → at + length bytes.now ≤ count * page_size
-        → bytes_with layers (own_at own.new id) count ≡ with_bytes_at (bytes_with layers (own_at own.old id) count) at bytes.now) }
+    ensures bytes { IsTrue D.tells → OnOk result ((layers : List Layer) (count : ℕ) → AreLayers (D.view disk.old).state.files stack.now layers
+        → at + length bytes.now ≤ count * page_size → bytes_with layers (own_at own.new id) count ≡ with_bytes_at (bytes_with layers (own_at own.old id) count) at bytes.now) }
     ensures live { IsSome (owns_at own.new id) }
     ensures others { ChangesOnly own.old own.new id }
     ensures reads_only { IsTrue D.tells → OnlyReads (page_size * length (pages_for_write own.old id at (length bytes.now))) (D.view disk.old) (D.view disk.new) }

@@ -158,7 +158,8 @@ grow_spells [] = tt
 grow_spells (id ∷ []) = tt
 grow_spells (id ∷ mem ∷ []) = tt
 grow_spells (id ∷ mem ∷ pages ∷ []) =
-    then_spells (λ i. option_and_then (λ m. option_map (λ n. commands.Grow i m n) (number_of pages)) (mem_of mem)) (id_of id) (λ i e0. then_spells (λ m. option_map (λ n. commands.Grow i m n) (number_of pages)) (mem_of mem) (λ m e1. map_spells (λ n. commands.Grow i m n) (number_of pages) (λ n e2. record { form = tt; types = tt })))
+    then_spells (λ i. option_and_then (λ m. option_map (λ n. commands.Grow i m n) (number_of pages)) (mem_of mem)) (id_of id)
+    (λ i e0. then_spells (λ m. option_map (λ n. commands.Grow i m n) (number_of pages)) (mem_of mem) (λ m e1. map_spells (λ n. commands.Grow i m n) (number_of pages) (λ n e2. record { form = tt; types = tt })))
 grow_spells (id ∷ mem ∷ pages ∷ more ∷ others) = tt
 
 write_spells : (ws : List Bytes) → FoundSpells (write_of ws)
@@ -167,7 +168,9 @@ write_spells (id ∷ []) = tt
 write_spells (id ∷ mem ∷ []) = tt
 write_spells (id ∷ mem ∷ offset ∷ []) = tt
 write_spells (id ∷ mem ∷ offset ∷ bytes ∷ []) =
-    then_spells (λ i. option_and_then (λ m. option_and_then (λ at. option_map (λ b. commands.Write i m at b) (hex_of bytes)) (number_of offset)) (mem_of mem)) (id_of id) (λ i e0. then_spells (λ m. option_and_then (λ at. option_map (λ b. commands.Write i m at b) (hex_of bytes)) (number_of offset)) (mem_of mem) (λ m e1. then_spells (λ at. option_map (λ b. commands.Write i m at b) (hex_of bytes)) (number_of offset) (λ at e2. map_spells (λ b. commands.Write i m at b) (hex_of bytes) (λ b e3. record { form = tt; types = read_bytes bytes b e3 }))))
+    then_spells (λ i. option_and_then (λ m. option_and_then (λ at. option_map (λ b. commands.Write i m at b) (hex_of bytes)) (number_of offset)) (mem_of mem)) (id_of id)
+    (λ i e0. then_spells (λ m. option_and_then (λ at. option_map (λ b. commands.Write i m at b) (hex_of bytes)) (number_of offset)) (mem_of mem)
+    (λ m e1. then_spells (λ at. option_map (λ b. commands.Write i m at b) (hex_of bytes)) (number_of offset) (λ at e2. map_spells (λ b. commands.Write i m at b) (hex_of bytes) (λ b e3. record { form = tt; types = read_bytes bytes b e3 }))))
 write_spells (id ∷ mem ∷ offset ∷ bytes ∷ more ∷ others) = tt
 
 module_command_spells : (ws : List Bytes) → FoundSpells (module_command_of ws)
@@ -194,7 +197,8 @@ put_spells : (ws : List Bytes) → FoundSpells (put_of ws)
 put_spells [] = tt
 put_spells (path ∷ []) = tt
 put_spells (path ∷ value ∷ []) =
-    then_spells (λ p. option_map (λ b. commands.Put p b) (hex_up_to MAX_VALUE value)) (path_of path) (λ p e0. map_spells (λ b. commands.Put p b) (hex_up_to MAX_VALUE value) (λ b e1. let q = few_bytes MAX_VALUE value b e1 in let r = path_is path p e0 in record { form = q.0; types = (r.0, r.1, q.1) }))
+    then_spells (λ p. option_map (λ b. commands.Put p b) (hex_up_to MAX_VALUE value)) (path_of path)
+    (λ p e0. map_spells (λ b. commands.Put p b) (hex_up_to MAX_VALUE value) (λ b e1. let q = few_bytes MAX_VALUE value b e1 in let r = path_is path p e0 in record { form = q.0; types = (r.0, r.1, q.1) }))
 put_spells (path ∷ value ∷ more ∷ others) = tt
 
 del_spells : (ws : List Bytes) → FoundSpells (del_of ws)
@@ -210,7 +214,11 @@ read_spells (at ∷ id ∷ []) = tt
 read_spells (at ∷ id ∷ mem ∷ []) = tt
 read_spells (at ∷ id ∷ mem ∷ offset ∷ []) = tt
 read_spells (at ∷ id ∷ mem ∷ offset ∷ len ∷ []) =
-    then_spells (λ h. option_and_then (λ i. option_and_then (λ m. option_and_then (λ o. option_map (λ n. commands.Read h i m o n) (number_up_to MAX_READ len)) (number_of offset)) (mem_of mem)) (id_of id)) (height_or_live at) (λ h e0. then_spells (λ i. option_and_then (λ m. option_and_then (λ o. option_map (λ n. commands.Read h i m o n) (number_up_to MAX_READ len)) (number_of offset)) (mem_of mem)) (id_of id) (λ i e1. then_spells (λ m. option_and_then (λ o. option_map (λ n. commands.Read h i m o n) (number_up_to MAX_READ len)) (number_of offset)) (mem_of mem) (λ m e2. then_spells (λ o. option_map (λ n. commands.Read h i m o n) (number_up_to MAX_READ len)) (number_of offset) (λ o e3. map_spells (λ n. commands.Read h i m o n) (number_up_to MAX_READ len) (λ n e4. record { form = up_to_is MAX_READ len n e4; types = tt })))))
+    then_spells (λ h. option_and_then (λ i. option_and_then (λ m. option_and_then (λ o. option_map (λ n. commands.Read h i m o n) (number_up_to MAX_READ len)) (number_of offset)) (mem_of mem)) (id_of id)) (height_or_live at)
+    (λ h e0. then_spells (λ i. option_and_then (λ m. option_and_then (λ o. option_map (λ n. commands.Read h i m o n) (number_up_to MAX_READ len)) (number_of offset)) (mem_of mem)) (id_of id)
+    (λ i e1. then_spells (λ m. option_and_then (λ o. option_map (λ n. commands.Read h i m o n) (number_up_to MAX_READ len)) (number_of offset)) (mem_of mem)
+    (λ m e2. then_spells (λ o. option_map (λ n. commands.Read h i m o n) (number_up_to MAX_READ len)) (number_of offset)
+    (λ o e3. map_spells (λ n. commands.Read h i m o n) (number_up_to MAX_READ len) (λ n e4. record { form = up_to_is MAX_READ len n e4; types = tt })))))
 read_spells (at ∷ id ∷ mem ∷ offset ∷ len ∷ more ∷ others) = tt
 
 forget_spells : (ws : List Bytes) → FoundSpells (forget_of ws)
@@ -260,7 +268,8 @@ check_spells [] = tt
 check_spells (root ∷ []) = tt
 check_spells (root ∷ bytes ∷ []) = tt
 check_spells (root ∷ bytes ∷ path ∷ []) =
-    then_spells (λ r. option_and_then (λ b. option_map (λ p. commands.Check r b p) (path_of path)) (hex_of bytes)) (hash_of root) (λ r e0. then_spells (λ b. option_map (λ p. commands.Check r b p) (path_of path)) (hex_of bytes) (λ b e1. map_spells (λ p. commands.Check r b p) (path_of path) (λ p e2. record { form = tt; types = tt })))
+    then_spells (λ r. option_and_then (λ b. option_map (λ p. commands.Check r b p) (path_of path)) (hex_of bytes)) (hash_of root)
+    (λ r e0. then_spells (λ b. option_map (λ p. commands.Check r b p) (path_of path)) (hex_of bytes) (λ b e1. map_spells (λ p. commands.Check r b p) (path_of path) (λ p e2. record { form = tt; types = tt })))
 check_spells (root ∷ bytes ∷ path ∷ more ∷ others) = tt
 
 witness_spells : (ws : List Bytes) → FoundSpells (witness_of ws)
@@ -282,8 +291,48 @@ by_form (f ∷ fs) all word ws = by (bytes_eq word f.0) (by_form fs all.1 word w
     by false rest = rest
 
 all_forms : AllByRecursion (λ f. (ws : List Bytes) → FoundSpells (f.1 ws)) forms
-all_forms =
-    (canister_spells, (drop_spells, (grow_spells, (write_spells, (module_command_spells, (certify_spells, (time_spells, (put_spells, (del_spells, (read_spells, (alone_spells commands.Round (record { form = tt; types = tt }), (forget_spells, (alone_spells commands.Checkpoint (record { form = tt; types = tt }), (alone_spells commands.Heights (record { form = tt; types = tt }), (root_spells, (scratch_spells, (tree_spells, (manifest_spells, (purge_spells, (reset_spells, (witness_spells, (check_spells, tt))))))))))))))))))))))
+all_forms = (
+  canister_spells,
+  (
+    drop_spells,
+    (
+      grow_spells,
+      (
+        write_spells,
+        (
+          module_command_spells,
+          (
+            certify_spells,
+            (
+              time_spells,
+              (
+                put_spells,
+                (
+                  del_spells,
+                  (
+                    read_spells,
+                    (
+                      alone_spells commands.Round
+                          (record { form = tt; types = tt }),
+                      (
+                        forget_spells,
+                        (
+                          alone_spells commands.Checkpoint
+                              (record { form = tt; types = tt }),
+                          (alone_spells commands.Heights (record { form = tt; types = tt }), (root_spells, (scratch_spells, (tree_spells, (manifest_spells, (purge_spells, (reset_spells, (witness_spells, (check_spells, tt))))))))),
+                        ),
+                      ),
+                    ),
+                  ),
+                ),
+              ),
+            ),
+          ),
+        ),
+      ),
+    ),
+  ),
+)
 
 words_spell : (ws : List Bytes) → FoundSpells (command_of_words ws)
 words_spell [] = tt

@@ -97,30 +97,44 @@ fn check_refusal(rt: &impl Abort, alloc: Global, refusal: Refusal, text: &str) -
     check_text(rt, alloc, &Reply::Refused(refusal), text)
 }
 
+const TREE: Hash32 = Hash32([0xab; 32]);
+
 #[test]
-fn replies_are_written(rt: HostRuntime) -> Result<(), Fail> {
+fn replies_with_a_hash_are_written(rt: HostRuntime) -> Result<(), Fail> {
     let alloc = rt.alloc();
-    let tree = Hash32([0xab; 32]);
-    let digits = "abababababababababababababababababababababababababababababababab";
-    let round = format!(in alloc; "round 12 tree {digits}")?;
-    check_text(&rt, alloc, &Reply::Round { height: 12, tree }, &round)?;
-    let published = format!(in alloc; "published 12 root {digits}")?;
-    let reply = Reply::Published {
+    let round = Reply::Round {
         height: 12,
-        root: tree,
+        tree: TREE,
     };
-    check_text(&rt, alloc, &reply, &published)?;
-    let scratch = format!(in alloc; "scratch {digits}")?;
-    check_text(&rt, alloc, &Reply::Scratch(tree), &scratch)?;
-    check_refusal(&rt, alloc, Refusal::HeightLow, "refused HeightLow")?;
-    check_refusal(&rt, alloc, Refusal::ManyMarks, "refused ManyMarks")?;
-    check_refusal(&rt, alloc, Refusal::LastHeight, "refused LastHeight")?;
-    let wrong = format!(in alloc; "refused WrongRoot {digits}")?;
-    check_refusal(&rt, alloc, Refusal::WrongRoot(tree), &wrong)?;
-    check_refusal(&rt, alloc, Refusal::BadWitness(20), "refused BadWitness 20")?;
+    let text = "round 12 tree abababababababababababababababababababababababababababababababab";
+    check_text(&rt, alloc, &round, text)?;
+    let published = Reply::Published {
+        height: 12,
+        root: TREE,
+    };
+    let text = "published 12 root abababababababababababababababababababababababababababababababab";
+    check_text(&rt, alloc, &published, text)?;
+    let text = "scratch abababababababababababababababababababababababababababababababab";
+    check_text(&rt, alloc, &Reply::Scratch(TREE), text)
+}
+
+#[test]
+fn replies_with_bytes_are_written(rt: HostRuntime) -> Result<(), Fail> {
+    let alloc = rt.alloc();
     let witness = Blob::from_slice(alloc, &[1, 254])?;
     check_text(&rt, alloc, &Reply::Witness(witness), "witness 01fe")?;
     let nothing = Blob::from_slice(alloc, &[])?;
     check_text(&rt, alloc, &Reply::Found(nothing), "found -")?;
     check_text(&rt, alloc, &Reply::Absent, "absent")
+}
+
+#[test]
+fn refusals_are_written(rt: HostRuntime) -> Result<(), Fail> {
+    let alloc = rt.alloc();
+    check_refusal(&rt, alloc, Refusal::HeightLow, "refused HeightLow")?;
+    check_refusal(&rt, alloc, Refusal::ManyMarks, "refused ManyMarks")?;
+    check_refusal(&rt, alloc, Refusal::LastHeight, "refused LastHeight")?;
+    check_refusal(&rt, alloc, Refusal::BadWitness(20), "refused BadWitness 20")?;
+    let text = "refused WrongRoot abababababababababababababababababababababababababababababababab";
+    check_refusal(&rt, alloc, Refusal::WrongRoot(TREE), text)
 }

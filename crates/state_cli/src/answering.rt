@@ -33,7 +33,8 @@ fn answer_command<D: Disk>(
     requires numbers { manager.old.store.numbers_given ≤ 2 ^ 60 }
     requires usable { IsUsable D.tells manager.old (D.view disk.old) }
     ensures answer { OnOk result ((reply : Reply) × (out.new.items ≡ reply_text reply ++ codes "\n")
-        × (IsTrue D.tells → (m : Machine) → Keeps manager.old (D.view disk.old).state m → (reply ≡ (step m command.now).reply) × Keeps manager.new (D.view disk.new).state (step m command.now).after)) }
+        × (IsTrue D.tells → (m : Machine) → Keeps manager.old (D.view disk.old).state m
+        → (reply ≡ (step m command.now).reply) × Keeps manager.new (D.view disk.new).state (step m command.now).after)) }
     ensures images { IsTrue D.tells → (m : Machine) → Keeps manager.old (D.view disk.old).state m
         → LeavesOnly (D.view disk.old) (D.view disk.new) (StandsForEither m.published (step m command.now).after.published) }
     ensures usable { OnOk result (IsUsable D.tells manager.new (D.view disk.new)) }

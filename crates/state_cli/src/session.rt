@@ -156,7 +156,8 @@ fn serve_line<S: Source, K: Sink, D: Disk>(
     requires numbers { session.old.manager.store.numbers_given ≤ MAX_GIVEN * MAX_LINES }
     requires usable { IsUsable D.tells session.old.manager (D.view disk.old) }
     ensures turn { Moves (S.left source.old) (S.left source.new) (K.written sink.old) (K.written sink.new)
-        (TakesTurn result before D.tells (Keeps session.old.manager (D.view disk.old).state) (Keeps session.new.manager (D.view disk.new).state) (IsAtEnd (S.left source.new)) (D.view disk.old) (D.view disk.new)) }
+        (TakesTurn result before D.tells (Keeps session.old.manager (D.view disk.old).state) (Keeps session.new.manager (D.view disk.new).state)
+        (IsAtEnd (S.left source.new)) (D.view disk.old) (D.view disk.new)) }
     ensures usable { OnOk result (IsUsable D.tells session.new.manager (D.view disk.new)) }
     ensures few { GivesFew session.old.manager.store session.new.manager.store }
     ensures read { IsCounted (S.faults source.old) (S.faults source.new) (result ≡ Err RunStop.ReadFault) }

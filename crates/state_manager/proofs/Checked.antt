@@ -1,4 +1,4 @@
--- What a answer_of_check witness is answered.
+-- What is answered to a witness that is checked.
 use Rattle.std.proofs.Common.{◌≡◌, ◌≢◌, true, false, List, Result, Ok, Err, refl, ◌∙◌, ap, sym, inl, inr}
 use Rattle.std.proofs.lemmas.Bool.{cases_Bool, false≢true}
 use Rattle.std.specs.Result.{IfOk}

@@ -318,7 +318,8 @@ none_in_memory ps = go (newest ps)
     go None = (refl, refl)
     go (Some p) = (refl, refl)
 
-pub starts : (now : ManagerView) (s : DiskState) (ps : List Published) → IsSound s → now.stopped ≡ None → KeepsState now.live (live_of (start ps)) → now.memory ≡ [] → MatchesFiles now.store s.files → IsSettled s → KeepsHeights now.store.heights s ps → IsSoundMachine (start ps) → Keeps now s (start ps)
+pub starts : (now : ManagerView) (s : DiskState) (ps : List Published) → IsSound s → now.stopped ≡ None → KeepsState now.live (live_of (start ps))
+    → now.memory ≡ [] → MatchesFiles now.store s.files → IsSettled s → KeepsHeights now.store.heights s ps → IsSoundMachine (start ps) → Keeps now s (start ps)
 starts now s ps sound usable live memory over settled heights machine =
     let none = none_in_memory ps in
     record {

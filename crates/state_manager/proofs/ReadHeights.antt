@@ -29,7 +29,6 @@ use Rattle.sys_state.specs.Memories.{index_of}
 use Rattle.live_state.specs.StateKept.{StateView}
 use Rattle.state_manager.proofs.AtHeights.{opened_kept}
 use Rattle.sys_state.proofs.Indexed.{index_within, pair_get, pick, size_at}
-use Rattle.live_state.proofs.Keeping.{Canisters}
 use Rattle.live_state.proofs.MemoryLines.{reads_bytes, reads_nowhere, reads_past}
 use Rattle.sys_state.proofs.OfState.{parts_of_state}
 
@@ -40,7 +39,7 @@ SameReads None None = ⊤
 SameReads (Some c) (Some d) = (c.heap.bytes ≡ d.heap.bytes) × (c.stable.bytes ≡ d.stable.bytes)
 SameReads _ _ = ⊥
 
-alike : (id : Bytes) (cs ds : Canisters) → map (λ (c : Bytes × Canister). c.0) cs ≡ map (λ (c : Bytes × Canister). c.0) ds → bytes_in cs ≡ bytes_in ds → SameReads (find bytes_cmp id cs) (find bytes_cmp id ds)
+alike : (id : Bytes) (cs ds : List (Bytes × Canister)) → map (λ (c : Bytes × Canister). c.0) cs ≡ map (λ (c : Bytes × Canister). c.0) ds → bytes_in cs ≡ bytes_in ds → SameReads (find bytes_cmp id cs) (find bytes_cmp id ds)
 alike id [] [] ids bytes = tt
 alike id [] (d ∷ ds) ids bytes = absurd (cc ids)
 alike id (c ∷ cs) [] ids bytes = absurd (cc ids)
@@ -54,7 +53,7 @@ alike id (c ∷ cs) (d ∷ ds) ids bytes =
     (elim (eq_by_cmp bytes_cmp id c.0) as (λ (b : Bool). SameReads (cond b (Some c.1) (find bytes_cmp id cs)) (cond b (Some d.1) (find bytes_cmp id ds)))
     [ true ↦ (heap, stable) | false ↦ alike id cs ds others rest ])
 
-ids_of_parts : (cs : Canisters) (f : Canister → CanisterPart) → map (λ (c : Bytes × CanisterPart). c.0) (map (λ (c : Bytes × Canister). (c.0, f c.1)) cs) ≡ map (λ (c : Bytes × Canister). c.0) cs
+ids_of_parts : (cs : List (Bytes × Canister)) (f : Canister → CanisterPart) → map (λ (c : Bytes × CanisterPart). c.0) (map (λ (c : Bytes × Canister). (c.0, f c.1)) cs) ≡ map (λ (c : Bytes × Canister). c.0) cs
 ids_of_parts [] f = refl
 ids_of_parts (c ∷ cs) f = ap (λ l. c.0 ∷ l) (ids_of_parts cs f)
 

@@ -76,7 +76,8 @@ impl Manager {
         ensures bad_keeps { IsTrue D.tells → IsErrAnd result IsBadFile → LeavesOnly (D.view disk.old) (D.view disk.new) (IsImageNow (D.view disk.old).state) }
         ensures opens { IsTrue D.tells → OnOk result (Opens (D.view disk.old).state.files) }
         ensures bad_reads { IsTrue D.tells → IsErrAnd result IsBadFile → (D.view disk.new).state.files ≡ (D.view disk.old).state.files }
-        ensures needed { IsTrue D.tells → IfOk result (λ manager. (q : Name) → is_needed manager.store.heights q ≡ true → (D.view disk.new).state.files q ≡ (D.view disk.old).state.files q) }
+        ensures needed { IsTrue D.tells → IfOk result (λ manager. (q : Name) → is_needed manager.store.heights q ≡ true
+            → (D.view disk.new).state.files q ≡ (D.view disk.old).state.files q) }
         ensures marks { IsTrue D.tells → (n : ℕ) → (D.view disk.new).state.files (name.Mark n) ≡ (D.view disk.old).state.files (name.Mark n) }
         ensures pages { IsTrue D.tells → IfOk result (λ manager. (n : ℕ) → is_some ((D.view disk.new).state.files (name.Page n)) ≡ is_named manager.store.heights n) }
         ensures no_stage { IsTrue D.tells → OnOk result ((n : ℕ) → (D.view disk.new).state.files (name.Stage n) ≡ None) }

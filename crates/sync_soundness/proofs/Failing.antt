@@ -19,7 +19,9 @@ use Rattle.sync_spec.specs.Core as core
 use Rattle.sync_spec.specs.Events.{Events, Asked, Given, came, nothing, failed, all_went_out, core_after_asks}
 use Rattle.sync_spec.specs.Local.{local_hits, manifests_of}
 use Rattle.sync_spec.specs.Install.{bytes_had, chunks_had, file_bytes, system_number, system_for}
-use Rattle.sync_spec.specs.Sync.{Sync, Stage, at_meta, at_pieces, at_chunks, at_system, at_memories, Heights, outcome_with, known_at, is_right_at, is_for, content_bytes, sync_after_asks, outcome_of_look, outcome_of_message, outcome_of_answer, outcome_of_verdict, outcome_after_item, outcome_of_list, outcome_of_meta, outcome_of_manifest, outcome_of_chunks, outcome_of_turn, outcome_at, sync_step, outcome_of_system, outcome_of_memory, with_hits, system_had, pieces_had, item_string, strings_of_sync, steps_left}
+use Rattle.sync_spec.specs.Sync.{Sync, Stage, at_meta, at_pieces, at_chunks, at_system, at_memories, Heights, outcome_with, known_at, is_right_at, is_for, content_bytes, sync_after_asks, outcome_of_look, outcome_of_message, outcome_of_answer}
+use Rattle.sync_spec.specs.Sync.{outcome_of_verdict, outcome_after_item, outcome_of_list, outcome_of_meta, outcome_of_manifest, outcome_of_chunks, outcome_of_turn, outcome_at}
+use Rattle.sync_spec.specs.Sync.{sync_step, outcome_of_system, outcome_of_memory, with_hits, system_had, pieces_had, item_string, strings_of_sync, steps_left}
 use Rattle.sync_spec.specs.Sync.{Told, none_came, wrong, late, took, install_left, bad_manifest, bad_system, peer_fault, ready}
 use Rattle.sync_spec.specs.SyncLaws.{IsAtStage, IsHeld, IsMissingOrHeld, KnowsMeta, KnowsManifest, IsByteGiven, AreByteEvents, item_by, message_item, given_item, item_in, sync_at_end, FailsByClash}
 use Rattle.sync_spec.proofs.Missing.{has_items}

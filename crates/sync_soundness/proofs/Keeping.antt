@@ -20,7 +20,9 @@ use Rattle.sync_spec.specs.CoreLaws.{IsCore}
 use Rattle.sync_spec.specs.Events.{Events, Given, came, nothing, failed, all_went_out, core_after_asks}
 use Rattle.sync_spec.specs.Local.{Hit, local_hits, manifests_of, bytes_at}
 use Rattle.sync_spec.specs.Install.{bytes_had, chunks_had, system_for, installed_state}
-use Rattle.sync_spec.specs.Sync.{Sync, Stage, at_meta, at_pieces, at_chunks, at_system, at_memories, Heights, SyncOutcome, sync_to, outcome_with, known_at, is_right_at, is_for, content_bytes, sync_after_asks, outcome_of_look, outcome_of_message, outcome_of_answer, outcome_of_verdict, outcome_after_item, outcome_of_list, outcome_of_meta, outcome_of_manifest, outcome_of_chunks, outcome_of_turn, outcome_at, sync_step, outcome_of_system, outcome_of_memory, with_hits, system_had, pieces_had}
+use Rattle.sync_spec.specs.Sync.{Sync, Stage, at_meta, at_pieces, at_chunks, at_system, at_memories, Heights, SyncOutcome, sync_to, outcome_with, known_at, is_right_at, is_for, content_bytes, sync_after_asks}
+use Rattle.sync_spec.specs.Sync.{outcome_of_look, outcome_of_message, outcome_of_answer, outcome_of_verdict, outcome_after_item, outcome_of_list, outcome_of_meta, outcome_of_manifest}
+use Rattle.sync_spec.specs.Sync.{outcome_of_chunks, outcome_of_turn, outcome_at, sync_step, outcome_of_system, outcome_of_memory, with_hits, system_had, pieces_had}
 use Rattle.sync_spec.specs.Sync.{late, peer_fault}
 use Rattle.sync_spec.specs.SyncLaws.{HasBytes, IsHeld, IsMissingOrHeld, KnowsMeta, KnowsManifest, IsAtStage, IsSync, IsByteGiven, AreByteEvents, ArePublished, KeepsKnowing}
 use Rattle.sync_spec.proofs.Missing.{filter_all}

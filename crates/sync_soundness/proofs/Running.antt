@@ -16,7 +16,9 @@ use Rattle.sync_spec.specs.Core as core
 use Rattle.sync_spec.specs.Events.{Events, Given, came, nothing, failed, all_went_out}
 use Rattle.sync_spec.specs.Local.{local_hits, manifests_of}
 use Rattle.sync_spec.specs.Install.{bytes_had, system_for}
-use Rattle.sync_spec.specs.Sync.{Sync, Stage, at_meta, at_pieces, at_chunks, at_system, at_memories, Heights, SyncOutcome, sync_to, outcome_with, late, peer_fault, known_at, is_right_at, is_for, content_bytes, sync_after_asks, outcome_of_look, outcome_of_message, outcome_of_answer, outcome_of_verdict, outcome_after_item, outcome_of_list, outcome_of_meta, outcome_of_manifest, outcome_of_chunks, outcome_at, sync_step, outcome_of_system, outcome_of_memory, with_hits, system_had, pieces_had}
+use Rattle.sync_spec.specs.Sync.{Sync, Stage, at_meta, at_pieces, at_chunks, at_system, at_memories, Heights, SyncOutcome, sync_to, outcome_with, late, peer_fault, known_at, is_right_at, is_for, content_bytes}
+use Rattle.sync_spec.specs.Sync.{sync_after_asks, outcome_of_look, outcome_of_message, outcome_of_answer, outcome_of_verdict, outcome_after_item, outcome_of_list, outcome_of_meta}
+use Rattle.sync_spec.specs.Sync.{outcome_of_manifest, outcome_of_chunks, outcome_at, sync_step, outcome_of_system, outcome_of_memory, with_hits, system_had, pieces_had}
 use Rattle.sync_spec.specs.SyncLaws.{IsSync, brings_right}
 use Rattle.sync_soundness.specs.Runs.{Step, IsStep, after_steps, IsRun, StaysAt, was_brought, MissingUntilRight, DoneIsTarget, DoneIsTheState, RunFailsByClash}
 use Rattle.sync_spec.specs.CoreLaws.{items_missing}

@@ -1,5 +1,6 @@
 -- Right chunks, against the valid state whose manifest they were judged by.
-use Rattle.std.proofs.Common.{◌≡◌, ◌⊎◌, ℕ, zero, suc, ◌+◌, ◌-◌, ◌*◌, ◌<◌, ◌&&◌, ◌==◌, not, if◌then◌else◌, Bool, true, false, List, [], ◌∷◌, ◌++◌, length, map, Option, Some, None, Ok, Err, Result, IsTrue, Contains, slice_get, slice_index_or, get_or, refl, sym, ap, ◌∙◌, subst, inl, inr, arith, length-append}
+use Rattle.std.proofs.Common.{◌≡◌, ◌⊎◌, ℕ, zero, suc, ◌+◌, ◌-◌, ◌*◌, ◌<◌, ◌&&◌, ◌==◌, not, if◌then◌else◌, Bool, true, false, List, [], ◌∷◌, ◌++◌, length}
+use Rattle.std.proofs.Common.{map, Option, Some, None, Ok, Err, Result, IsTrue, Contains, slice_get, slice_index_or, get_or, refl, sym, ap, ◌∙◌, subst, inl, inr, arith, length-append}
 use Rattle.std.specs.List.{flat_map, AllByRecursion, range_with_len}
 use Rattle.std.proofs.lemmas.Bool.{eq-eqb}
 use Rattle.std.proofs.lemmas.List.{length-map}
@@ -116,7 +117,8 @@ module _ (s : State) (had : List (Item × Bytes)) (valid : IsState s) (holds : (
       c
 
   pub chunks_or_clash : (chunks_had (manifest_of s) had ≡ flat_map (λ f. parts CHUNK_SIZE f.1) (files s)) ⊎ Clash (hashed_strings s) (map item_string had)
-  chunks_or_clash = by (or_clash (chunks_had (manifest_of s) had ≡ flat_map (λ f. parts CHUNK_SIZE f.1) (files s)) (hashed_strings s) (map chunk_string (chunks_had (manifest_of s) had)) (state_strings s valid) (chunk_string_bytes (chunks_had (manifest_of s) had) bytes) (chunks_or_meet s (chunks_had (manifest_of s) had) right))
+  chunks_or_clash = by (or_clash (chunks_had (manifest_of s) had ≡ flat_map (λ f. parts CHUNK_SIZE f.1) (files s)) (hashed_strings s) (map chunk_string (chunks_had (manifest_of s) had))
+      (state_strings s valid) (chunk_string_bytes (chunks_had (manifest_of s) had) bytes) (chunks_or_meet s (chunks_had (manifest_of s) had) right))
     where
       by : (chunks_had (manifest_of s) had ≡ flat_map (λ f. parts CHUNK_SIZE f.1) (files s)) ⊎ Clash (hashed_strings s) (map chunk_string (chunks_had (manifest_of s) had))
           → (chunks_had (manifest_of s) had ≡ flat_map (λ f. parts CHUNK_SIZE f.1) (files s)) ⊎ Clash (hashed_strings s) (map item_string had)

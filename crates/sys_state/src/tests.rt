@@ -78,27 +78,45 @@ const ALL_FIELDS: &[u8] =
     b"4943535900000001000000000000012c000000010100010000000361626302070800000000000000000000000102067375626e65740178000105";
 
 #[test]
-fn canisters_within_their_limits(rt: HostRuntime) -> Result<(), Fail> {
-    let alloc = rt.alloc();
+fn ids_have_1_to_29_bytes(rt: HostRuntime) {
     assert!(rt; CanisterId::new(&[]).is_none());
+    assert!(rt; CanisterId::new(&[7; 29]).is_some());
     assert!(rt; CanisterId::new(&[7; 30]).is_none());
-    let long = id(&[7; 29])?;
+}
+
+// As many canisters as may be, of ids of two bytes.
+fn many_canisters(alloc: Global) -> Result<SysState, Fail> {
     let mut state = SysState::new(alloc);
     for i in 0..1024 {
         let number: u16 = i;
         state.create(alloc, id(&number.to_be_bytes())?, 3)?;
     }
-    assert_eq!(rt;
-        state.create(alloc, long.copy(), 3),
-        Err(SysError::ManyCanisters)
-    );
-    assert_eq!(rt; state.create(alloc, id(&[1, 0])?, 3), Err(SysError::Exists));
+    Ok(state)
+}
+
+#[test]
+fn a_canister_too_many_is_refused(rt: HostRuntime) -> Result<(), Fail> {
+    let alloc = rt.alloc();
+    let mut state = many_canisters(alloc)?;
+    let more = state.create(alloc, id(&[7; 29])?, 3);
+    assert_eq!(rt; more, Err(SysError::ManyCanisters));
+    let again = state.create(alloc, id(&[1, 0])?, 3);
+    assert_eq!(rt; again, Err(SysError::Exists));
+    reads_back(&rt, alloc, &state)
+}
+
+#[test]
+fn canisters_are_found_by_their_ids(rt: HostRuntime) -> Result<(), Fail> {
+    let alloc = rt.alloc();
+    let mut state = many_canisters(alloc)?;
+    let first = id(&[1, 0])?;
+    assert_eq!(rt; state.place(&first), Ok(256));
     assert_eq!(rt; state.place(&id(&[1, 0, 0])?), Err(257));
     let (found, _) = state.canister_at(256).ok_or("no canister")?;
-    assert!(rt; *found == id(&[1, 0])?);
-    assert_eq!(rt; state.remove(&long), Err(SysError::NoCanister));
-    state.remove(&id(&[1, 0])?)?;
-    state.create(alloc, long, 4)?;
+    assert!(rt; *found == first);
+    state.remove(&first)?;
+    assert_eq!(rt; state.remove(&first), Err(SysError::NoCanister));
+    state.create(alloc, id(&[7; 29])?, 4)?;
     reads_back(&rt, alloc, &state)
 }
 
@@ -181,39 +199,76 @@ fn page_counts_are_read_by_the_limits_of_version_1(rt: HostRuntime) -> Result<()
 }
 
 #[test]
-fn entries_stand_apart(rt: HostRuntime) -> Result<(), Fail> {
+fn paths_have_1_to_8_labels_of_1_to_64_bytes(rt: HostRuntime) -> Result<(), Fail> {
     let alloc = rt.alloc();
-    let longest = b"0123456789012345678901234567890123456789012345678901234567890123";
     for text in [b"".as_slice(), b"a/b/c/d/e/f/g/h/i", b"a//b", &[7; 65]] {
         assert!(rt; path(alloc, text)?.is_none());
     }
-    let mut state = SysState::new(alloc);
-    let cases = [
-        (b"subnet/a".as_slice(), None),
-        (b"subnet", Some(SysError::PathConflict)),
-        (b"subnet/a/b", Some(SysError::PathConflict)),
-        (b"time", Some(SysError::Reserved)),
-        (b"canister/x", Some(SysError::Reserved)),
-        (b"subneta", None),
-        (b"s/ubnet", None),
-        (b"subnet/0", None),
-        (b"timer/time", None),
-        (b"a/b/c/d/e/f/g/h", None),
-        (longest, None),
-    ];
-    for (text, want) in cases {
-        assert_eq!(rt; put(alloc, &mut state, text)?, want);
+    for text in [b"a/b/c/d/e/f/g/h".as_slice(), &[7; 64]] {
+        assert!(rt; path(alloc, text)?.is_some());
     }
+    Ok(())
+}
+
+// Puts a value at each path, which is answered this.
+fn check_puts(
+    rt: &impl Abort,
+    alloc: Global,
+    state: &mut SysState,
+    texts: &[&[u8]],
+    want: Option<SysError>,
+) -> Result<(), Fail> {
+    for text in texts {
+        assert_eq!(rt; put(alloc, state, text)?, want);
+    }
+    Ok(())
+}
+
+// A state with some entries.
+fn with_entries(rt: &impl Abort, alloc: Global) -> Result<SysState, Fail> {
+    let mut state = SysState::new(alloc);
+    let longest = b"0123456789012345678901234567890123456789012345678901234567890123";
+    let texts: [&[u8]; 6] = [
+        b"subnet/a",
+        b"subneta",
+        b"s/ubnet",
+        b"subnet/0",
+        b"timer/time",
+        longest,
+    ];
+    check_puts(rt, alloc, &mut state, &texts, None)?;
+    Ok(state)
+}
+
+#[test]
+fn entries_stand_apart(rt: HostRuntime) -> Result<(), Fail> {
+    let alloc = rt.alloc();
+    let mut state = with_entries(&rt, alloc)?;
+    let within: [&[u8]; 2] = [b"subnet", b"subnet/a/b"];
+    check_puts(
+        &rt,
+        alloc,
+        &mut state,
+        &within,
+        Some(SysError::PathConflict),
+    )?;
+    let reserved: [&[u8]; 2] = [b"time", b"canister/x"];
+    check_puts(&rt, alloc, &mut state, &reserved, Some(SysError::Reserved))?;
+    let (third, value) = state.entry(2).ok_or("no entry")?;
+    assert!(rt; *third == path(alloc, b"subnet/0")?.ok_or("no path")?);
+    assert_eq!(rt; value.bytes(), [5].as_slice());
+    reads_back(&rt, alloc, &state)
+}
+
+#[test]
+fn an_entry_is_deleted_once(rt: HostRuntime) -> Result<(), Fail> {
+    let alloc = rt.alloc();
+    let mut state = with_entries(&rt, alloc)?;
     let gone = path(alloc, b"subnet/a")?.ok_or("no path")?;
     assert_eq!(rt; state.del(&gone).err(), None);
     assert_eq!(rt; state.del(&gone).err(), Some(SysError::NoPath));
-    assert_eq!(rt;
-        put(alloc, &mut state, b"subnet")?,
-        Some(SysError::PathConflict)
-    );
-    let (third, value) = state.entry(2).ok_or("no entry")?;
-    assert!(rt; *third == path(alloc, b"s/ubnet")?.ok_or("no path")?);
-    assert_eq!(rt; value.bytes(), [5].as_slice());
+    let still = put(alloc, &mut state, b"subnet")?;
+    assert_eq!(rt; still, Some(SysError::PathConflict));
     reads_back(&rt, alloc, &state)
 }
 
@@ -241,32 +296,42 @@ fn as_many_entries_as_may_be(rt: HostRuntime) -> Result<(), Fail> {
 }
 
 #[test]
-fn texts_are_spelled_in_one_way(rt: HostRuntime) -> Result<(), Fail> {
+fn an_empty_state_is_spelled(rt: HostRuntime) -> Result<(), Fail> {
     let alloc = rt.alloc();
+    let hex = b"494353590000000100000000000000000000000000000000";
+    spells(&rt, alloc, &SysState::new(alloc), hex)
+}
+
+// A state in which each field of the text has a value.
+fn with_all_fields(alloc: Global, canister: &CanisterId) -> Result<SysState, Fail> {
     let mut state = SysState::new(alloc);
-    spells(
-        &rt,
-        alloc,
-        &state,
-        b"494353590000000100000000000000000000000000000000",
-    )?;
-    let canister = id(&[0])?;
     state.create(alloc, canister.copy(), 1)?;
     state.set_time(300);
-    state.set_module(&canister, Some(Blob::from_slice(alloc, b"abc")?))?;
-    state.set_certified(&canister, Blob::from_slice(alloc, &[7, 8])?)?;
-    assert_eq!(rt; put(alloc, &mut state, b"subnet/x")?, None);
+    state.set_module(canister, Some(Blob::from_slice(alloc, b"abc")?))?;
+    state.set_certified(canister, Blob::from_slice(alloc, &[7, 8])?)?;
+    put(alloc, &mut state, b"subnet/x")?;
+    Ok(state)
+}
+
+#[test]
+fn all_fields_are_spelled(rt: HostRuntime) -> Result<(), Fail> {
+    let alloc = rt.alloc();
+    let canister = id(&[0])?;
+    let mut state = with_all_fields(alloc, &canister)?;
     spells(&rt, alloc, &state, ALL_FIELDS)?;
     state.set_module(&canister, None)?;
-    reads_back(&rt, alloc, &state)?;
-    assert_eq!(rt;
-        state.set_module(&id(&[1])?, None),
-        Err(SysError::NoCanister)
-    );
-    assert_eq!(rt;
-        state.set_certified(&id(&[1])?, Blob::from_slice(alloc, &[])?),
-        Err(SysError::NoCanister)
-    );
+    reads_back(&rt, alloc, &state)
+}
+
+#[test]
+fn a_canister_that_is_absent_has_no_module_and_no_data(rt: HostRuntime) -> Result<(), Fail> {
+    let alloc = rt.alloc();
+    let mut state = SysState::new(alloc);
+    let absent = id(&[1])?;
+    let module = state.set_module(&absent, None);
+    assert_eq!(rt; module, Err(SysError::NoCanister));
+    let certified = state.set_certified(&absent, Blob::from_slice(alloc, &[])?);
+    assert_eq!(rt; certified, Err(SysError::NoCanister));
     Ok(())
 }
 
@@ -286,15 +351,20 @@ fn a_page_is_spelled_and_read(rt: HostRuntime) -> Result<(), Fail> {
 }
 
 #[test]
-fn the_first_bad_field_is_named(rt: HostRuntime) -> Result<(), Fail> {
+fn a_cut_text_is_bad_at_the_field_that_is_cut(rt: HostRuntime) -> Result<(), Fail> {
     let alloc = rt.alloc();
     let text = hex_bytes(alloc, ALL_FIELDS)?;
     for end in 0..58 {
-        assert_eq!(rt;
-            bad_place(alloc, text.bytes().get(..end).ok_or("end")?),
-            Some(field_of(end))
-        );
+        let cut = text.bytes().get(..end).ok_or("end")?;
+        assert_eq!(rt; bad_place(alloc, cut), Some(field_of(end)));
     }
+    Ok(())
+}
+
+#[test]
+fn the_first_bad_field_is_named(rt: HostRuntime) -> Result<(), Fail> {
+    let alloc = rt.alloc();
+    let text = hex_bytes(alloc, ALL_FIELDS)?;
     let cases = [
         (3, 4, b"X".as_slice(), 0),
         (7, 8, b"\x02", 4),
@@ -324,21 +394,22 @@ fn the_first_bad_field_is_named(rt: HostRuntime) -> Result<(), Fail> {
         let bytes = spoiled(alloc, text.bytes(), from, to, with)?;
         assert_eq!(rt; bad_place(alloc, &bytes), Some(place));
     }
-    let whole = [
-        (
-            b"494353590000000100000000000000000000000201000000000000010000000001000000000000010000000000000000".as_slice(),
-            32,
-        ),
-        (
-            b"494353590000000100000000000000000000000000000002010161000002016101620000",
-            29,
-        ),
-    ];
-    for (hex, place) in whole {
-        assert_eq!(rt;
-            bad_place(alloc, hex_bytes(alloc, hex)?.bytes()),
-            Some(place)
-        );
-    }
     Ok(())
+}
+
+// The text of these digits is bad at this place.
+fn check_bad(rt: &impl Abort, alloc: Global, hex: &[u8], place: u64) -> Result<(), Fail> {
+    let text = hex_bytes(alloc, hex)?;
+    assert_eq!(rt; bad_place(alloc, text.bytes()), Some(place));
+    Ok(())
+}
+
+#[test]
+fn entries_stand_in_the_order_of_their_keys(rt: HostRuntime) -> Result<(), Fail> {
+    let alloc = rt.alloc();
+    let canisters =
+        b"494353590000000100000000000000000000000201000000000000010000000001000000000000010000000000000000";
+    check_bad(&rt, alloc, canisters, 32)?;
+    let paths = b"494353590000000100000000000000000000000000000002010161000002016101620000";
+    check_bad(&rt, alloc, paths, 29)
 }

@@ -170,7 +170,8 @@ stack_stays : (mid store : Store) (bytes : Bytes) (old new : DiskView) → Touch
 stack_stays mid store bytes old new touches [] used done = tt
 stack_stays mid store bytes old new touches (file ∷ stack) used done = (file_here mid store bytes old new touches file used.0 done.0, stack_stays mid store bytes old new touches stack used.1 done.1)
 
-stacks_stay : (mid store : Store) (old new : DiskView) → TouchesOnly (is_given_since mid store) old new → (memories : List Bytes) (stacks : List (List NumberedFile)) → AllByRecursion (AreUsed mid) stacks → AllZip (AreFinished old.state) memories stacks → AllZip (AreFinished new.state) memories stacks
+stacks_stay : (mid store : Store) (old new : DiskView) → TouchesOnly (is_given_since mid store) old new → (memories : List Bytes) (stacks : List (List NumberedFile))
+    → AllByRecursion (AreUsed mid) stacks → AllZip (AreFinished old.state) memories stacks → AllZip (AreFinished new.state) memories stacks
 stacks_stay mid store old new touches [] [] used done = tt
 stacks_stay mid store old new touches [] (stack ∷ stacks) used done = absurd done
 stacks_stay mid store old new touches (bytes ∷ memories) [] used done = absurd done

@@ -1,4 +1,4 @@
--- What a answer_of_check witness tells is true, or two strings clash.
+-- What a checked witness tells is true, or two strings clash.
 use Rattle.std.proofs.Common.{◌≡◌, ◌≢◌, ◌⊎◌, Bool, true, false, not, List, Ok, inl, inr, refl, sym, ap, ◌∙◌}
 use Rattle.std.specs.Prelude.{bytes_eq}
 use Rattle.std.specs.Cmp.Lexicographic.{bytes_decides}

@@ -42,8 +42,8 @@ abbrev pub IsAnswered : Result Checked WitnessError → Type 0
 IsAnswered (Err Memory) = ⊥
 IsAnswered result = Unit {0}
 
--- what was told of a path, the tree of every valid state with this root tells too; or a string hashed_strings for the tree in
--- the text and another one hashed_strings for the state's tree have one hash
+-- what was told of a path, the tree of every valid state with this root tells too; or a string hashed for the tree in
+-- the text and another one hashed for the state's tree have one hash
 abbrev pub TellsTruth : Bytes → Bytes → List Bytes → Checked → Type 0
 TellsTruth root text path told =
     (t : Tree) (s : State) → read_tree text ≡ Ok t → answer_of_check told ≢ tree.unknown

@@ -1,4 +1,4 @@
-//! Witnesses answer_of_check against a root.
+//! Witnesses checked against a root.
 
 ghost use Rattle.std.specs.Prelude.{◌≡◌, IfOk};
 ghost use Rattle.witness.specs.Answers.{answer_of_look, answer_of_check, Checks, TellsTruth};
@@ -12,7 +12,7 @@ use hash_tree::reconstruct;
 use std::alloc::Global;
 use sys_state::Path;
 
-/// What a answer_of_check witness tells of a path.
+/// What a checked witness tells of a path.
 #[derive(Debug, Drop)]
 pub enum Checked {
     /// The bytes of the leaf at it.

@@ -1,4 +1,4 @@
-//! Paths answer_of_look up in a tree, as in the Internet Computer Interface Specification, "Certification".
+//! Paths looked up in a tree, as in the Internet Computer Interface Specification, "Certification".
 
 ghost use Rattle.std.specs.Prelude.{◌≡◌};
 ghost use Rattle.tree_spec.specs.Lookup.{lookup as lookup_of, at_end, missing};

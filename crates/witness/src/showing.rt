@@ -160,7 +160,8 @@ fn between<'a>(
     low: Option<&[u8]>,
     high: Option<&[u8]>,
 ) -> Result<Vec<&'a [Blob]>, NoMemory>
-    ensures { IfOk result (λ kept. map (λ p. p.now) kept.items ≡ filter (begins_between_of (option_map (λ s. s.now) low.entry) (option_map (λ s. s.now) high.entry)) (map (λ p. p.now) rests.now)) }
+    ensures { IfOk result (λ kept. map (λ p. p.now) kept.items ≡ filter (begins_between_of (option_map (λ s. s.now) low.entry) (option_map (λ s. s.now) high.entry))
+        (map (λ p. p.now) rests.now)) }
 {
     let mut kept = Vec::new(alloc);
     for rest in rests {

@@ -23,7 +23,8 @@ pub returns-in-Line-clause-answer : goal.returns-in-Line-clause-answer
 returns-in-Line-clause-answer g c =
     let line = c.args.line.now in
     let is : parsed_line line ≡ Line c.in-Line.command = sym c.in_ok-parse_line.ensures.parsed ∙ c.in-Line.is in
-    on_ok_weaker c.answer_command.result (λ done. spoken g.D.Disk.tells (Keeps c.args.manager.now (g.D.Disk.view c.args.disk.now).state) line (Keeps c.answer_command.new.manager (g.D.Disk.view c.answer_command.new.disk).state) c.in-Line.command c.answer_command.new.out.items is done) c.answer_command.ensures.answer
+    on_ok_weaker c.answer_command.result (λ done. spoken g.D.Disk.tells (Keeps c.args.manager.now (g.D.Disk.view c.args.disk.now).state) line
+    (Keeps c.answer_command.new.manager (g.D.Disk.view c.answer_command.new.disk).state) c.in-Line.command c.answer_command.new.out.items is done) c.answer_command.ensures.answer
 
 pub returns-in-Line-clause-images : goal.returns-in-Line-clause-images
 returns-in-Line-clause-images g c =

@@ -38,7 +38,8 @@ returns-in_err-serve_line-clause-session g c =
     let mid = disk.view c.loop-before.disk in
     let new = disk.view c.serve_line.new.disk in
     let turn = c.in_err-serve_line.ensures in
-    rw (stop.1, stop.2) (joins c.loop-before.before (Err c.in_err-serve_line.field-0.0) disk.tells (Keeps c.args.session.now.manager old.state) (Keeps c.loop-before.session.manager mid.state) IsOpen (IsAtEnd (g.S.Source.left c.serve_line.new.source)) old mid new _ _ _ _ _ _ turn.begun c.loop-before.invariant.session turn.turn)
+    rw (stop.1, stop.2) (joins c.loop-before.before (Err c.in_err-serve_line.field-0.0) disk.tells (Keeps c.args.session.now.manager old.state)
+    (Keeps c.loop-before.session.manager mid.state) IsOpen (IsAtEnd (g.S.Source.left c.serve_line.new.source)) old mid new _ _ _ _ _ _ turn.begun c.loop-before.invariant.session turn.turn)
 
 pub returns-in-Finished-clause-session : goal.returns-in-Finished-clause-session
 returns-in-Finished-clause-session g c =
@@ -51,7 +52,8 @@ returns-in-Finished-clause-session g c =
     let kept = Keeps c.loop-before.session.manager mid.state in
     let now_kept = Keeps c.serve_line.new.session.manager new.state in
     let ended = IsAtEnd (left c.serve_line.new.source) in
-    let turn = subst (λ (t : Continuation). Moves (left c.loop-before.source) (left c.serve_line.new.source) (written c.loop-before.sink) (written c.serve_line.new.sink) (TakesTurn (Ok t) c.loop-before.before disk.tells kept now_kept ended mid new)) c.in-Finished.is c.in_ok-serve_line.ensures.turn in
+    let turn = subst (λ (t : Continuation). Moves (left c.loop-before.source) (left c.serve_line.new.source) (written c.loop-before.sink)
+    (written c.serve_line.new.sink) (TakesTurn (Ok t) c.loop-before.before disk.tells kept now_kept ended mid new)) c.in-Finished.is c.in_ok-serve_line.ensures.turn in
     joins c.loop-before.before (Ok tt) disk.tells (Keeps c.args.session.now.manager old.state) kept IsOpen ended old mid new _ _ _ _ _ _ (λ h. h) c.loop-before.invariant.session turn
 
 pub loop-before-preserved : goal.loop-before-preserved
@@ -92,7 +94,8 @@ returns-in-Ok-None-clause-session g c =
       gained = [];
       from_source = byte;
       to_sink = gives_nothing _;
-      holds = ends_there disk.tells kept ended (Ok tt) c.loop-before.before now [] (omega (arith, all)) (record { none_begun = refl; nothing = refl; none_cut = refl; at_end = c.in-Ok-None.ensures.end c.in-Ok-None.field-0-is }) (λ m k. keeps_stand held now.state m k) (λ m k. keeps_stand held now.state m k);
+      holds = ends_there disk.tells kept ended (Ok tt) c.loop-before.before now [] (omega (arith, all))
+          (record { none_begun = refl; nothing = refl; none_cut = refl; at_end = c.in-Ok-None.ensures.end c.in-Ok-None.field-0-is }) (λ m k. keeps_stand held now.state m k) (λ m k. keeps_stand held now.state m k);
     })
 
 pub returns-in-Ok-Some-clause-session : goal.returns-in-Ok-Some-clause-session
@@ -111,7 +114,8 @@ returns-in-Ok-Some-clause-session g c =
       gained = [];
       from_source = byte;
       to_sink = gives_nothing _;
-      holds = ends_there disk.tells kept (IsAtEnd (left c.next_byte.new.source)) (Err ManyLines) c.loop-before.before now (c.in-Ok-Some.field-0-0 ∷ []) (omega (arith, all)) (record { between = record { none_begun = refl; fed = refl; none_cut = refl }; all = all; one = refl }) (λ m k. keeps_stand held now.state m k) (λ m k. keeps_stand held now.state m k);
+      holds = ends_there disk.tells kept (IsAtEnd (left c.next_byte.new.source)) (Err ManyLines) c.loop-before.before now (c.in-Ok-Some.field-0-0 ∷ []) (omega (arith, all))
+          (record { between = record { none_begun = refl; fed = refl; none_cut = refl }; all = all; one = refl }) (λ m k. keeps_stand held now.state m k) (λ m k. keeps_stand held now.state m k);
     })
 
 pub returns-in-Err-clause-session : goal.returns-in-Err-clause-session
@@ -129,5 +133,6 @@ returns-in-Err-clause-session g c =
       gained = [];
       from_source = c.in-Err.ensures.bytes;
       to_sink = gives_nothing _;
-      holds = ends_there disk.tells kept (IsAtEnd (left c.next_byte.new.source)) (Err ReadFault) c.loop-before.before now [] (omega (arith, all)) (record { between = record { none_begun = refl; fed = refl; none_cut = refl }; one = refl; short = omega arith; few = omega (arith, all) }) (λ m k. keeps_stand held now.state m k) (λ m k. keeps_stand held now.state m k);
+      holds = ends_there disk.tells kept (IsAtEnd (left c.next_byte.new.source)) (Err ReadFault) c.loop-before.before now [] (omega (arith, all))
+          (record { between = record { none_begun = refl; fed = refl; none_cut = refl }; one = refl; short = omega arith; few = omega (arith, all) }) (λ m k. keeps_stand held now.state m k) (λ m k. keeps_stand held now.state m k);
     })

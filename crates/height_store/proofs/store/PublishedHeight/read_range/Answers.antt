@@ -4,7 +4,7 @@ use Rattle.disk_model.specs.State.{DiskState}
 use Rattle.disk_model.specs.OnlyReads.{OnlyReads, reads_only_then, reads_only_more}
 use Rattle.layer_stack.specs.Stacks.{AreLayers}
 use Rattle.height_store.specs.Kept.{HasStacks}
-use Rattle.height_store.specs.Memories.{layers_whole}
+use Rattle.layer_stack.specs.Whole.{layers_whole}
 use Rattle.height_store.proofs.Ranges.{page_of_memory, range_more, size_more, within_memory}
 use Rattle.height_store.proofs.store.PublishedHeight.read_range.Goals as goal
 use Rattle.state_spec.specs.Memory.{pages_holding}

@@ -11,5 +11,6 @@ pub returns : goal.returns
 returns c = λ m k.
     let memories : List Bytes = map (λ v. v.items) c.self.inside.memories.items in
     step_certify _ _ m (subst (λ (h : StateView). KeepsState h (live_of m)) (sym c.self.view_is) k) (record { height = refl }) c.args.id.now c.args.bytes c.reply_to.result
-    (from_answer (calls.find_refusal c.self.inside.sys c.args.id.now) c.set_certified.result c.reply_to.result ((calls.Changes c.self.inside.sys c.set_certified.new.self c.args.id.now (calls.with_certified c.args.bytes)) × (memories ≡ memories)) ((c.set_certified.new.self ≡ c.self.inside.sys) × (memories ≡ memories)) c.set_certified.ensures.answer c.reply_to.ensures
+    (from_answer (calls.find_refusal c.self.inside.sys c.args.id.now) c.set_certified.result c.reply_to.result ((calls.Changes c.self.inside.sys c.set_certified.new.self c.args.id.now (calls.with_certified c.args.bytes)) × (memories ≡ memories))
+    ((c.set_certified.new.self ≡ c.self.inside.sys) × (memories ≡ memories)) c.set_certified.ensures.answer c.reply_to.ensures
     (on_ok_weaker c.set_certified.result (λ x. (x, refl)) c.set_certified.ensures.changed) (on_err_weaker c.set_certified.result (λ x. (x, refl)) c.set_certified.ensures.unchanged))

@@ -11,5 +11,6 @@ pub returns : goal.returns
 returns c = λ m k.
     let memories : List Bytes = map (λ v. v.items) c.self.inside.memories.items in
     step_put _ _ m (subst (λ (h : StateView). KeepsState h (live_of m)) (sym c.self.view_is) k) (record { height = refl }) c.args.path c.args.value c.reply_to.result
-    (from_answers (calls.put_refusal c.self.inside.sys c.args.path) c.put.result c.reply_to.result ((c.put.new.self ≡ calls.with_entry c.self.inside.sys c.args.path c.args.value) × (memories ≡ memories)) ((c.put.new.self ≡ c.self.inside.sys) × (memories ≡ memories)) c.put.ensures.answer c.reply_to.ensures
+    (from_answers (calls.put_refusal c.self.inside.sys c.args.path) c.put.result c.reply_to.result ((c.put.new.self ≡ calls.with_entry c.self.inside.sys c.args.path c.args.value) × (memories ≡ memories))
+    ((c.put.new.self ≡ c.self.inside.sys) × (memories ≡ memories)) c.put.ensures.answer c.reply_to.ensures
     (on_ok_weaker c.put.result (λ x. (x, refl)) c.put.ensures.put) (on_err_weaker c.put.result (λ x. (x, refl)) c.put.ensures.unchanged))

@@ -36,4 +36,5 @@ returns c =
     let within : c.memory_index.result < length c.self.inside.memories.items = omega (arith, c.memory_index.ensures, is_within (λ v. v.items) c.self.inside.memories.items c.self.inside.sys c.args.id.now c.in-Ok.place c.args.mem c.self.invariant.sizes c.in-Ok.ensures) in
     let bytes = bytes_at (λ v. v.items) c.self.inside.memories.items c.memory_index.result (index_of c.in-Ok.place c.args.mem) memory c.memory_index.ensures within c.index-memory.ensures in
     subst (λ (h : StateView). (k : ℕ × State) → KeepsState h k → (replies.Bytes c.in_ok-from_slice.field-0) ≡ read_reply k.1 c.args.id.now c.args.mem c.args.offset c.args.len) c.self.view_is
-    (λ k keeps. reads_bytes _ k keeps c.args.id.now c.in-Ok.place c.args.mem c.in-Ok.ensures c.args.offset c.args.len c.in_ok-from_slice.field-0 (subst (λ (b : Bytes). c.args.offset + c.args.len ≤ length b) bytes (omega arith)) (rw (c.deref.ensures.value, plus_minus c.args.offset c.args.len) at c.in_ok-from_slice.ensures.value ∙ ap (λ (b : Bytes). take c.args.len (drop c.args.offset b)) bytes))
+    (λ k keeps. reads_bytes _ k keeps c.args.id.now c.in-Ok.place c.args.mem c.in-Ok.ensures c.args.offset c.args.len c.in_ok-from_slice.field-0 (subst (λ (b : Bytes). c.args.offset + c.args.len ≤ length b) bytes (omega arith))
+    (rw (c.deref.ensures.value, plus_minus c.args.offset c.args.len) at c.in_ok-from_slice.ensures.value ∙ ap (λ (b : Bytes). take c.args.len (drop c.args.offset b)) bytes))

@@ -55,7 +55,8 @@ returns-in_err-root-clause-line g c =
     let few : length c.self.inside.store.heights < MAX_PUBLISHED = omega (arith, c.count.ensures) in
     let now : ManagerView = record { live = c.self.inside.live; memory = c.self.inside.memory.items; store = c.publish.new.store; stopped = c.self.inside.stopped } in
     subst (λ (h : ManagerView). DoesLine g.D.Disk.tells h now (g.D.Disk.view c.args.disk.now) (g.D.Disk.view c.publish.new.disk) c.from_residual.result commands.Checkpoint) c.self.view_is
-    (checkpoint_failed g.D.Disk.tells _ now (g.D.Disk.view c.args.disk.now) (g.D.Disk.view c.publish.new.disk) c.in-Some.state.now last low few refl refl refl (λ told. g.met.D.Disk.reads_as_image c.publish.new.disk told) c.publish.result c.publish.ensures.publishes c.from_residual.result c.from_residual.ensures.0)
+    (checkpoint_failed g.D.Disk.tells _ now (g.D.Disk.view c.args.disk.now) (g.D.Disk.view c.publish.new.disk) c.in-Some.state.now last low few refl refl refl
+    (λ told. g.met.D.Disk.reads_as_image c.publish.new.disk told) c.publish.result c.publish.ensures.publishes c.from_residual.result c.from_residual.ensures.0)
 
 pub returns-clause-line : goal.returns-clause-line
 returns-clause-line g c =
@@ -65,5 +66,6 @@ returns-clause-line g c =
     let few : length c.self.inside.store.heights < MAX_PUBLISHED = omega (arith, c.count.ensures) in
     let now : ManagerView = record { live = c.self.inside.live; memory = c.self.inside.memory.items; store = c.publish.new.store; stopped = c.self.inside.stopped } in
     subst (λ (h : ManagerView). DoesLine g.D.Disk.tells h now (g.D.Disk.view c.args.disk.now) (g.D.Disk.view c.publish.new.disk) (Ok (replies.Published c.height-height.result c.in_ok-root.root)) commands.Checkpoint) c.self.view_is
-    (subst (λ (k : ℕ). DoesLine g.D.Disk.tells (record { live = c.self.inside.live; memory = c.self.inside.memory.items; store = c.self.inside.store; stopped = c.self.inside.stopped }) now (g.D.Disk.view c.args.disk.now) (g.D.Disk.view c.publish.new.disk) (Ok (replies.Published k c.in_ok-root.root)) commands.Checkpoint) (sym c.height-height.ensures.value)
+    (subst (λ (k : ℕ). DoesLine g.D.Disk.tells (record { live = c.self.inside.live; memory = c.self.inside.memory.items; store = c.self.inside.store; stopped = c.self.inside.stopped }) now
+    (g.D.Disk.view c.args.disk.now) (g.D.Disk.view c.publish.new.disk) (Ok (replies.Published k c.in_ok-root.root)) commands.Checkpoint) (sym c.height-height.ensures.value)
     (checkpoint_done g.D.Disk.tells _ now (g.D.Disk.view c.args.disk.now) (g.D.Disk.view c.publish.new.disk) c.in-Some.state.now last low few refl refl refl (λ told. g.met.D.Disk.reads_as_image c.publish.new.disk told) c.publish.result c.publish.ensures.publishes c.in_ok-root.root c.in_ok-root.was))
