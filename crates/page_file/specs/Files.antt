@@ -1,5 +1,5 @@
 -- Page files on a disk.
-use Rattle.std.specs.Prelude.{◌≡◌, ℕ, ◌+◌, ◌*◌, ◌==◌, if◌then◌else◌, [], ◌++◌, Option, Some, None, Result, Ok, Err, IfOk, IsErrOf, length, take, drop}
+use Rattle.std.specs.Prelude.{◌≡◌, ℕ, ◌+◌, ◌*◌, ◌==◌, ◌||◌, not, Bool, if◌then◌else◌, [], ◌++◌, Option, Some, None, Result, Ok, Err, IfOk, IsErrOf, length, take, drop}
 use Rattle.format_spec.specs.Bytes.{Bytes, page_at}
 use Rattle.format_spec.specs.declared.limits.TheConstants.{PAGE_SIZE, INDEX_HEAD}
 use Rattle.page_spec.specs.PageFile.{PageIndex, IsPageFile, index_text, index_length}
@@ -17,10 +17,11 @@ pub record NumberedFile : Type 0 where
   pub number : ℕ
   pub index : PageIndex
 
--- a page file that is being written: so many pages were added
+-- a page file that is being written: whether its index was written alone, before the first page, and how many pages were added
 pub record UnfinishedFile : Type 0 where
   pub number : ℕ
   pub index : PageIndex
+  pub alone : Bool
   pub added : ℕ
 
 -- the page file of this number is there, with this index and these bytes of pages
@@ -52,16 +53,20 @@ ReadsAs files file place bytes = (pages : Bytes) → HasPages files file.number 
 abbrev pub ReadsFrom : Files → NumberedFile → ℕ → ℕ → Bytes → Type 0
 ReadsFrom files file place size bytes = (pages : Bytes) → HasPages files file.number file.index pages → bytes ≡ take size (drop (place * PAGE_SIZE) pages)
 
--- what is written once these pages are added: nothing before the first one, with which the index goes out
+-- the index is written: alone, or with the first page
+abbrev pub has_index : UnfinishedFile → Bool
+has_index writer = writer.alone || not (writer.added == 0)
+
+-- what is written once these pages are added
 abbrev pub text_written : UnfinishedFile → Bytes → Bytes
-text_written writer pages = if writer.added == 0 then [] else index_text writer.index ++ pages
+text_written writer pages = if has_index writer then index_text writer.index ++ pages else []
 
 -- what the next pages add to the file, and how many bytes that is, of so many pages
 abbrev pub text_added : UnfinishedFile → Bytes → Bytes
-text_added writer pages = if writer.added == 0 then index_text writer.index ++ pages else pages
+text_added writer pages = if has_index writer then pages else index_text writer.index ++ pages
 
 abbrev pub length_added : UnfinishedFile → ℕ → ℕ
-length_added writer count = if writer.added == 0 then index_length writer.index + PAGE_SIZE * count else PAGE_SIZE * count
+length_added writer count = if has_index writer then PAGE_SIZE * count else index_length writer.index + PAGE_SIZE * count
 
 -- these bytes of pages are added so far, and the file is loose
 pub record IsWriting (writer : UnfinishedFile) (pages : Bytes) (s : DiskState) : Type 0 where

@@ -113,6 +113,23 @@ fn an_overlay_is_written_and_read(rt: HostRuntime) -> Result<(), Fail> {
 }
 
 #[test]
+fn an_index_is_written_alone(rt: HostRuntime) -> Result<(), Fail> {
+    let alloc = rt.alloc();
+    let mut disk = MemDisk::new(alloc, Vec::new(alloc), None);
+    let index = FileIndex::build(alloc, &[2, 3, 7], 10)?;
+    let mut writer = PageWriter::begin(alloc, &mut disk, 5, index)?;
+    assert_eq!(rt; disk.appended(), 0);
+    writer.write_index(alloc, &mut disk)?;
+    assert_eq!(rt; disk.appended(), 56);
+    writer.add_pages(alloc, &mut disk, 3, &[22; 12_288])?;
+    assert_eq!(rt; writer.added(), 3);
+    assert_eq!(rt; disk.appended(), 12_344);
+    writer.finish(alloc, &mut disk)?;
+    assert_eq!(rt; front_of(alloc, &mut disk)?.as_slice(), overlay());
+    Ok(())
+}
+
+#[test]
 fn an_index_is_opened(rt: HostRuntime) -> Result<(), Fail> {
     let alloc = rt.alloc();
     let mut disk = MemDisk::new(alloc, Vec::new(alloc), None);

@@ -65,10 +65,10 @@ pub record AddsPages (memory : Bytes) (i : ℕ) (first writer : UnfinishedFile) 
 taken_more : (i : ℕ) (memory : Bytes) → take (i * 4096) memory ++ take 4096 (drop (i * 4096) memory) ≡ take ((i + 1) * 4096) memory
 taken_more i memory = let e : (i + 1) * 4096 ≡ i * 4096 + 4096 = omega arith in sym (ap (λ (n : ℕ). take n memory) e ∙ take-add (i * 4096) 4096 memory)
 
-more_so_far : (i : ℕ) (first writer : UnfinishedFile) → writer ≡ record first { added = i } → file_so_far i first.index + length_added writer 1 ≡ file_so_far (i + 1) first.index
-more_so_far i first writer is = subst (λ (w : UnfinishedFile). file_so_far i first.index + length_added w 1 ≡ file_so_far (i + 1) first.index) (sym is) (elim (cases_Bool (i == 0)) [
-  | inl none ↦ rw (none, later) (omega (arith, eqb-true i 0 none))
-  | inr some ↦ rw (some, later) (omega arith)
+more_so_far : (i : ℕ) (first writer : UnfinishedFile) → first.alone ≡ false → writer ≡ record first { added = i } → file_so_far i first.index + length_added writer 1 ≡ file_so_far (i + 1) first.index
+more_so_far i first writer missing is = subst (λ (w : UnfinishedFile). file_so_far i first.index + length_added w 1 ≡ file_so_far (i + 1) first.index) (sym is) (elim (cases_Bool (i == 0)) [
+  | inl none ↦ rw (missing, none, later) (omega (arith, eqb-true i 0 none))
+  | inr some ↦ rw (missing, some, later) (omega arith)
 ])
   where
     later : (i + 1 == 0) ≡ false
@@ -87,10 +87,10 @@ adds_more memory page i first writer next old mid new is page_is loose added so_
 pub of_file : {D T : Type 0} (disk : Ghosts D) (result : Result T DiskError) (count n m : ℕ) (old new : D) → n ≡ m → Writes disk (same_name (Page n)) count old new result → Writes disk (same_name (Page m)) count old new result
 of_file disk result count n m old new is writes = subst (λ k. Writes disk (same_name (Page k)) count old new result) is writes
 
-pub page_more : {D T : Type 0} (disk : Ghosts D) (result : Result T DiskError) (i : ℕ) (first writer : UnfinishedFile) (old mid new : D) → writer ≡ record first { added = i } → Wrote disk (same_name (Page first.number)) (file_so_far i first.index) old mid
+pub page_more : {D T : Type 0} (disk : Ghosts D) (result : Result T DiskError) (i : ℕ) (first writer : UnfinishedFile) (old mid new : D) → first.alone ≡ false → writer ≡ record first { added = i } → Wrote disk (same_name (Page first.number)) (file_so_far i first.index) old mid
     → Writes disk (same_name (Page writer.number)) (length_added writer 1) mid new result → Writes disk (same_name (Page first.number)) (file_so_far (i + 1) first.index) old new result
-page_more disk result i first writer old mid new is so_far writes =
-    write_then disk (Ok tt) result (same_name (Page first.number)) (file_so_far i first.index) (length_added writer 1) (file_so_far (i + 1) first.index) old mid new refl (more_so_far i first writer is) so_far
+page_more disk result i first writer old mid new missing is so_far writes =
+    write_then disk (Ok tt) result (same_name (Page first.number)) (file_so_far i first.index) (length_added writer 1) (file_so_far (i + 1) first.index) old mid new refl (more_so_far i first writer missing is) so_far
     (of_file disk result (length_added writer 1) writer.number first.number mid new (ap (λ (w : UnfinishedFile). w.number) is) writes)
 
 pub fewer_so_far : (i : ℕ) (index : PageIndex) (size : ℕ) → (i + 1) * 4096 ≤ size → file_so_far (i + 1) index ≤ index_length index + size
@@ -100,7 +100,7 @@ pub all_so_far : (i : ℕ) (index : PageIndex) (size : ℕ) → 1 ≤ size → i
 all_so_far i index size some all = let later : (i == 0) ≡ false = ne_eqb i 0 (λ e. omega (arith, e, some, all)) in rw later (omega (arith, all))
 
 -- the writer of a file with all pages of a memory
-pub room_for : (memory : Bytes) (number : ℕ) (index : PageIndex) (writer : UnfinishedFile) → length memory % 4096 ≡ 0 → index ≡ whole_index (length memory / 4096) → writer ≡ record { number = number; index = index; added = 0 }
+pub room_for : (memory : Bytes) (number : ℕ) (index : PageIndex) (writer : UnfinishedFile) → length memory % 4096 ≡ 0 → index ≡ whole_index (length memory / 4096) → writer ≡ record { number = number; index = index; alone = false; added = 0 }
     → length memory ≡ 4096 * length writer.index.numbers
 room_for memory number index writer even is begun =
     let count : length writer.index.numbers ≡ length memory / 4096 = ap (λ (w : UnfinishedFile). length w.index.numbers) begun ∙ ap (λ (i : PageIndex). length i.numbers) is ∙ length-range_with_len 0 (length memory / 4096) in
@@ -113,6 +113,6 @@ pub added_one : (first writer next : UnfinishedFile) (i : ℕ) → writer ≡ re
 added_one first writer next i is more = more ∙ ap (λ (w : UnfinishedFile). record w { added = w.added + 1 }) is
 
 -- the index of a file with all pages of a memory
-pub index_long : (memory : Bytes) (number : ℕ) (index : PageIndex) (writer : UnfinishedFile) → 1 ≤ length memory → length memory % 4096 ≡ 0 → index ≡ whole_index (length memory / 4096) → writer ≡ record { number = number; index = index; added = 0 }
+pub index_long : (memory : Bytes) (number : ℕ) (index : PageIndex) (writer : UnfinishedFile) → 1 ≤ length memory → length memory % 4096 ≡ 0 → index ≡ whole_index (length memory / 4096) → writer ≡ record { number = number; index = index; alone = false; added = 0 }
     → index_length writer.index ≡ 32 + 12
 index_long memory number index writer some even is begun = ap (λ (w : UnfinishedFile). index_length w.index) begun ∙ ap index_length is ∙ one_range (length memory / 4096) (omega (arith, some, even))

@@ -1,6 +1,6 @@
 //! A memory written whole, as a page file of all its pages.
 
-ghost use Rattle.std.specs.Prelude.{◌≡◌, ◌≤◌, ◌+◌, ◌*◌, [], length, IsTrue, OnOk, IfOk};
+ghost use Rattle.std.specs.Prelude.{◌≡◌, ◌≤◌, ◌+◌, ◌*◌, [], false, length, IsTrue, OnOk, IfOk};
 ghost use Rattle.format_spec.specs.Bytes.{Bytes};
 ghost use Rattle.format_spec.specs.declared.limits.TheConstants.{PAGE_SIZE as page_size, MAX_MEMORY_PAGES, INDEX_HEAD, INDEX_RANGE};
 ghost use Rattle.page_spec.specs.PageFile.{index_length};
@@ -62,6 +62,7 @@ fn add_pages<D: Disk>(
     requires some { 1 ≤ length memory.now }
     requires room { length memory.now ≡ page_size * length writer.old.index.numbers }
     requires none { writer.old.added ≡ 0 }
+    requires missing { writer.old.alone ≡ false }
     requires loose { IsTrue D.tells → IsLoose (D.view disk.old).state (Page writer.old.number) }
 
     ensures writer { OnOk result (writer.new ≡ record writer.old { added = length writer.old.index.numbers }) }

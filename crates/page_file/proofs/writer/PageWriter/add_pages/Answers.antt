@@ -17,7 +17,7 @@ returns-clause-writes g c =
 
 pub returns-clause-added : goal.returns-clause-added
 returns-clause-added g c = λ told pages was.
-    pages_added c.args.self.now (record { number = c.self.inside.number; index = c.self.inside.index.value; added = c.self.inside.added + c.args.count }) c.args.count pages c.args.pages.now _ _
+    pages_added c.args.self.now (record { number = c.self.inside.number; index = c.self.inside.index.value; alone = c.self.inside.alone; added = c.self.inside.added + c.args.count }) c.args.count pages c.args.pages.now _ _
     (ap (λ (w : UnfinishedFile). record w { added = w.added + c.args.count }) c.self.view_is) c.requires.some c.requires.whole (c.in_ok-append_next.ensures.does told) was
 
 pub overflow_add-self : goal.overflow_add-self

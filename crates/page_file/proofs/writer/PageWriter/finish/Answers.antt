@@ -19,4 +19,4 @@ returns-clause-writes g c =
     (g.met.D.Disk.reads_as_image c.args.disk.now) c.seal.ensures.does c.seal.ensures.cause)
 
 pub returns-clause-finished : goal.returns-clause-finished
-returns-clause-finished g c = λ told pages was. sealed_pages (record { number = c.self.inside.number; index = c.self.inside.index.value; added = c.self.inside.added }) c.args.self c.new.result pages _ _ c.self.view_is (c.in_ok-seal.ensures.does told) c.self.invariant c.requires.all c.new.ensures was
+returns-clause-finished g c = λ told pages was. sealed_pages (record { number = c.self.inside.number; index = c.self.inside.index.value; alone = c.self.inside.alone; added = c.self.inside.added }) c.args.self c.new.result pages _ _ c.self.view_is (c.in_ok-seal.ensures.does told) c.self.invariant c.requires.all c.new.ensures was

@@ -1,0 +1,4 @@
+pub mod Chosen
+pub mod Stepped
+pub mod Merged
+pub mod Plans
