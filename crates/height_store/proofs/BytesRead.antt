@@ -1,12 +1,11 @@
 -- How many bytes are read of a published height.
-use Rattle.std.proofs.Common.{◌≡◌, ℕ, ◌+◌, ◌*◌, ◌<◌, ◌==◌, List, [], ◌∷◌, length, map, sum_by, take, get_or, Option, Some, None, inl, inr, refl, sym, ap, subst, ◌∙◌, arith}
-use Rattle.std.specs.Option.{option_map, option_map_or}
+use Rattle.std.proofs.Common.{◌≡◌, ℕ, ◌+◌, ◌*◌, ◌<◌, ◌==◌, List, [], ◌∷◌, length, map, sum_by, take, get_or, inl, inr, refl, sym, ap, subst, ◌∙◌, arith}
 use Rattle.std.proofs.lemmas.Bool.{cases_Bool, eqb-true}
 use Rattle.std.proofs.lemmas.List.Sums.{sum_by-cons, sum_by_more, sum_by-take-le}
 use Rattle.format_spec.specs.Bytes.{Bytes}
 use Rattle.format_spec.specs.declared.limits.TheConstants.{PAGE_SIZE}
 use Rattle.state_spec.specs.Files.{memories_in}
-use Rattle.sys_state.specs.System.{System, part_of}
+use Rattle.sys_state.specs.System.{part_of}
 use Rattle.disk_model.specs.View.{DiskView}
 use Rattle.disk_model.specs.OnlyReads.{OnlyReads, reads_only_then, reads_only_more}
 use Rattle.height_store.specs.Store.{StoredHeight}

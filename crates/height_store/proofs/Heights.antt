@@ -1,7 +1,7 @@
 -- A height of a store, and the page files of its memories.
-use Rattle.std.proofs.Common.{◌≡◌, ℕ, ◌<◌, Bool, true, false, List, [], ◌∷◌, length, reverse, get_or, cond, Option, Some, None, is_some, slice_get, IfSome, IsSomeAnd, inl, inr, sym, ◌∙◌, ap, subst, arith}
-use Rattle.std.specs.List.{find, AllByRecursion}
-use Rattle.std.proofs.lemmas.Bool.{cases_lt, false≢true}
+use Rattle.std.proofs.Common.{◌≡◌, ℕ, ◌<◌, List, length, reverse, get_or, Option, Some, slice_get, IsSomeAnd, inl, inr, sym, ◌∙◌, ap, subst, arith}
+use Rattle.std.specs.List.{AllByRecursion}
+use Rattle.std.proofs.lemmas.Bool.{cases_lt}
 use Rattle.std.proofs.lemmas.List.Elements.{All-from_recursion, All-get_or}
 use Rattle.std.proofs.lemmas.Option.{slice_get_past, slice_get-get_or, same_Some}
 use Rattle.std.proofs.lemmas.Slice.Zip.{AllZip-long}

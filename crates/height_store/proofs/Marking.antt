@@ -1,5 +1,5 @@
 -- What is so after each call that writes a mark.
-use Rattle.std.proofs.Common.{◌≡◌, inl, inr, ℕ, ◌+◌, Bool, true, false, List, [], ◌++◌, length, cond, Option, Some, None, Result, Ok, Err, IsTrue, OnOk, unwrap_or, refl, sym, ◌∙◌, ap, arith}
+use Rattle.std.proofs.Common.{◌≡◌, inl, inr, ℕ, Bool, true, false, List, [], ◌++◌, length, cond, Option, Some, None, Result, Ok, Err, IsTrue, OnOk, unwrap_or, refl, sym, ◌∙◌, ap, arith}
 use Rattle.std.proofs.lemmas.Bool.{false≢true}
 use Rattle.format_spec.specs.Bytes.{Bytes}
 use Rattle.disk_model.specs.declared.disk.Disk.{Ghosts}

@@ -1,6 +1,5 @@
 -- The last of some elements, and the newest height.
-use Rattle.std.proofs.Common.{◌≡◌, ◌<◌, ◌≤◌, ◌+◌, ◌-◌, ℕ, suc, List, [], ◌∷◌, length, map, Option, Some, None, refl, ap, subst, arith, ◌∙◌}
-use Rattle.std.specs.Prelude.{slice_index}
+use Rattle.std.proofs.Common.{◌≡◌, ◌<◌, ◌≤◌, ◌-◌, ℕ, suc, List, [], ◌∷◌, length, map, Option, Some, None, refl, ap, subst, arith, ◌∙◌}
 use Rattle.std.specs.List.{last_or, slice_get, AllByRecursion}
 use Rattle.std.specs.List.Sorted.{IsStrictlyIncreasing}
 use Rattle.height_store.specs.Laws.{last_above, tail_ascends}

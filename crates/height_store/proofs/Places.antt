@@ -1,12 +1,9 @@
 -- The memories of a state by their places in the order of files.
-use Rattle.std.proofs.Common.{◌≡◌, ℕ, zero, suc, ◌+◌, ◌*◌, ◌<◌, ◌≤◌, List, [], ◌∷◌, ◌++◌, length, map, zip, take, get_or, Option, Some, None, slice_get, is_some, true, Bor, IfSome, IsSomeAnd, refl, sym, ◌∙◌, ap, subst, arith}
-use Rattle.std.specs.Prelude.{option_map}
-use Rattle.std.specs.Option.{option_copied}
+use Rattle.std.proofs.Common.{◌≡◌, ℕ, zero, suc, ◌+◌, ◌*◌, ◌<◌, ◌≤◌, List, [], ◌∷◌, ◌++◌, length, map, zip, take, get_or, Option, Some, None, slice_get, IsSomeAnd, refl, sym, ◌∙◌, ap, subst, arith}
 use Rattle.std.specs.List.{AllByRecursion, AllZip}
-use Rattle.std.proofs.lemmas.Bool.{false≢true}
 use Rattle.std.proofs.lemmas.List.{length-map, map-append, get_or-map, take_more, take_all}
 use Rattle.std.proofs.lemmas.List.Elements.{All-from_recursion, All-get_or}
-use Rattle.std.proofs.lemmas.Option.{slice_get-get_or, slice_get_within, get_or_from_slice_get, same_Some}
+use Rattle.std.proofs.lemmas.Option.{slice_get-get_or, slice_get_within, get_or_from_slice_get}
 use Rattle.std.proofs.lemmas.Slice.Zip.{AllZip-long}
 use Rattle.format_spec.specs.Bytes.{Bytes}
 use Rattle.format_spec.specs.declared.limits.TheConstants.{PAGE_SIZE, MAX_MEMORY_PAGES}
@@ -15,9 +12,6 @@ use Rattle.format_spec.proofs.StateLimits.{memory_limits}
 use Rattle.state_spec.specs.State.{SystemPart, CanisterPart, IsSystem, FitsCanister, memory_bytes}
 use Rattle.state_spec.specs.Files.{memories_in}
 use Rattle.sys_state.specs.System.{System, part_of}
-use Rattle.manifest.specs.Fits.{FitSums}
-use Rattle.mark_file.proofs.MemoryLaws.{sums_fit}
-use Rattle.store_spec.specs.Mark.{Mark}
 use Rattle.store_spec.specs.Image.{Published}
 use Rattle.page_spec.specs.Layers.{Layer, memory_from}
 use Rattle.disk_model.specs.Files.{Files}

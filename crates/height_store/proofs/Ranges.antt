@@ -1,15 +1,12 @@
 -- Bytes of a memory, page by page.
-use Rattle.std.proofs.Common.{◌≡◌, ℕ, zero, suc, ◌+◌, ◌-◌, ◌*◌, ◌<◌, ◌≤◌, min, List, [], ◌∷◌, ◌++◌, length, reverse, take, drop, get_or, Option, Some, slice_get, IfSome, IsSomeAnd, sym, ◌∙◌, ap, subst, arith}
+use Rattle.std.proofs.Common.{◌≡◌, ℕ, zero, suc, ◌+◌, ◌-◌, ◌*◌, ◌<◌, ◌≤◌, min, List, [], ◌∷◌, ◌++◌, length, reverse, take, drop, get_or, Option, Some, IsSomeAnd, sym, ◌∙◌, ap, subst, arith}
 use Rattle.std.specs.List.{AllByRecursion, flat_map, range_with_len}
 use Rattle.std.proofs.Math.Seq.{take-add, take-append_seam, drop-append-add}
 use Rattle.std.proofs.lemmas.List.{take-take, drop-take, drop-drop, length-append, length-take, length-drop}
 use Rattle.std.proofs.lemmas.List.FromFn.{length-range_with_len, get_or-range_with_len}
 use Rattle.format_spec.specs.Bytes.{Bytes}
 use Rattle.format_spec.specs.declared.limits.TheConstants.{PAGE_SIZE}
-use Rattle.state_spec.specs.Files.{memories_in}
-use Rattle.sys_state.specs.System.{part_of}
 use Rattle.page_spec.specs.Layers.{Layer, page_from, memory_from}
-use Rattle.height_store.specs.Store.{StoredHeight, height_at}
 use Rattle.page_spec.specs.Whole.{IsWhole, length-newest_page}
 
 -- ---- a page of a memory

@@ -1,5 +1,5 @@
 -- What follows from how a store and its disk belong together.
-use Rattle.std.specs.Prelude.{◌≡◌, ◌==◌, ℕ, suc, ◌+◌, ◌<◌, ◌≤◌, length, Bool, true, false, List, [], ◌∷◌, Option, Some, None, is_some, slice_index, find, Result, Ok, Err, OnOk, refl}
+use Rattle.std.specs.Prelude.{◌≡◌, ◌==◌, ℕ, suc, ◌+◌, ◌<◌, ◌≤◌, length, Bool, true, false, List, [], ◌∷◌, Some, None, is_some, slice_index, find, Result, Ok, Err, OnOk, refl}
 use Rattle.std.specs.List.{AllByRecursion, AllZip, last_or}
 use Rattle.std.specs.List.Sorted.{IsStrictlyIncreasing}
 use Rattle.std.proofs.Common.{◌∙◌, ap, cond, subst, sym, arith}

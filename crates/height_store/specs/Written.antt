@@ -1,5 +1,5 @@
 -- Writing a mark.
-use Rattle.std.specs.Prelude.{◌≡◌, ◌⊎◌, ℕ, ◌+◌, Bool, true, false, ◌||◌, length, Some, None}
+use Rattle.std.specs.Prelude.{◌≡◌, ◌⊎◌, ℕ, Bool, true, false, ◌||◌, Some, None}
 use Rattle.format_spec.specs.Bytes.{Bytes}
 use Rattle.disk_model.specs.declared.name.Name.{Name}
 use Rattle.disk_model.specs.declared.name.Name.TheVariants as name

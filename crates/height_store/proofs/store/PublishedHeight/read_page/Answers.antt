@@ -1,4 +1,4 @@
-use Rattle.std.proofs.Common.{length, ap, arith}
+use Rattle.std.proofs.Common.{arith}
 use Rattle.height_store.proofs.Heights.{has_stack, stack_kept, page_there}
 use Rattle.height_store.proofs.store.PublishedHeight.read_page.Goals as goal
 
