@@ -4,7 +4,6 @@ use Rattle.std.specs.Prelude.{if◌then◌else◌}
 use Rattle.std.proofs.lemmas.Bool.{ltb-false}
 use Rattle.std.proofs.Math.Nat.{pow-succ'}
 use Rattle.std.specs.List.{AllByRecursion, fold}
-use Rattle.format_spec.specs.declared.limits.TheConstants.{MAX_MEMORY_PAGES}
 use Rattle.page_spec.specs.Layers.{plan}
 
 mapped : (found : Option ℕ) → option_map suc found ≡ None → found ≡ None

@@ -1,12 +1,11 @@
-use Rattle.std.proofs.Common.{◌∙◌, inl, inr, ap, arith, sym, subst, refl}
+use Rattle.std.proofs.Common.{◌∙◌, inr, ap, arith, sym, subst, refl}
 use Rattle.std.specs.List.{AllByRecursion}
-use Rattle.page_spec.specs.PageFile.{PageIndex, index_length}
+use Rattle.page_spec.specs.PageFile.{index_length}
 use Rattle.disk_model.specs.declared.name.Name.TheVariants.{Page}
 use Rattle.disk_model.specs.Files.{same_name}
 use Rattle.disk_model.specs.Frame.{touches_then}
 use Rattle.disk_model.specs.Writing.{write_done, write_failed, write_then}
-use Rattle.page_file.specs.Files.{UnfinishedFile, NumberedFile, IsAsKnown}
-use Rattle.merge_job.specs.Merge.{merged_index}
+use Rattle.page_file.specs.Files.{UnfinishedFile, IsAsKnown}
 use Rattle.merge_job.proofs.Stepped.{absent_or_loose, begin_on, begun_index, of_file}
 use Rattle.merge_job.proofs.job.MergeJob.begin.Goals as goal
 
