@@ -10,13 +10,14 @@ ghost use Rattle.state_spec.specs.Manifest.{Manifest, manifest_of, chunk_rows, s
 ghost use Rattle.state_spec.specs.Files.{files};
 ghost use Rattle.state_spec.specs.ManifestText.{read_manifest};
 ghost use Rattle.state_spec.specs.Root.{MetaManifest, root_of, root_of_meta, hashed_strings};
-ghost use Rattle.sync_spec.specs.Messages.{Item, chunk};
+ghost use Rattle.sync_spec.specs.Messages.{Item, chunk, Ask};
 ghost use Rattle.sync_spec.specs.Serving.{rows};
 ghost use Rattle.sync_spec.specs.SyncLaws.{KnowsManifest, IsHeld, IsSync, KeepsKnowing, FailsByClash};
 ghost use Rattle.sync_spec.specs.Events.{Events};
 ghost use Rattle.sync_spec.specs.Install.{file_bytes, chunks_had, system_number, system_for, installed_state};
 ghost use Rattle.sync_spec.specs.Sync.{Sync, Stage, Heights, sync_to, pieces_had, system_had, item_string};
 ghost use Rattle.sync_soundness.specs.Held.{HoldsManifest, HoldsChunks};
+ghost use Rattle.sync_soundness.specs.Honest.{ServesRight, BringsServed};
 ghost use Rattle.sync_soundness.specs.Runs.{Step, MissingUntilRight, DoneIsTarget, DoneIsTheState, RunFailsByClash};
 
 /// Where a valid state has the target's root, the right pieces spell its manifest, or two strings clash.
@@ -100,4 +101,11 @@ pub fn begun_syncs_fail_by_clash()
 /// the target and the item was taken, whoever sent it and whatever strikes and asks there are.
 pub fn items_are_missing_while_listed()
     ensures { (stage : Stage) (steps : List Step) (s t : Sync) → MissingUntilRight stage s t steps }
+{}
+
+/// A store that has the state answers what is right: an ask for an item of a published valid state is answered by the item's bytes, by
+/// the state's root, by its meta-manifest or by its manifest, whichever the item is judged by. So a sync takes them from it.
+pub fn served_items_are_right()
+    ensures right { (heights : Heights) (ask : Ask) (p : ℕ × State) → ServesRight heights ask p }
+    ensures brings { (heights : Heights) (ask : Ask) (p : ℕ × State) (s : Sync) → BringsServed heights ask p s }
 {}

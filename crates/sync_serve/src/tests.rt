@@ -1,0 +1,108 @@
+use crate::{ServeError, Server};
+use byte_codec::{Writer, hex_bytes};
+use disk_model::{Disk, MemDisk, Name};
+use hash_domain::Hash32;
+use height_store::HeightStore;
+use std::alloc::Global;
+use std::test::Fail;
+use sync_plan::{Ask, Item, Target};
+
+// The mark of a canister with one page, as height 1 with page file 0, what that file begins with, the root hash, and the
+// meta-manifest: values of a program in another language.
+const MARK: &[u8] =
+    b"49434d4b00000001000000000000000100000024494353590000000100000000000000000000000101000000000000010000000000000000000000010000000000000000beedb2d1fe14d2a1f2a55ea7b1430bc260ce57831e5309b336f370db1bbb1af2000000009d635b144968103bac92fba2f13725393b48f45b945a53c45e01239cfa5c120900d20df6c93dbc5257167f2f6dee380e2b050f12d93f87910c02adf4db8eb778e7686e6d73046e4cf7d578e5be8a52551efd278d38d4a6a703d1205f99163c0a";
+
+const INDEX: &[u8] =
+    b"494350460000000100000001000000010000000100000001000000000000102c000000000000000100000000";
+
+const ROOT: &[u8] = b"00d20df6c93dbc5257167f2f6dee380e2b050f12d93f87910c02adf4db8eb778";
+
+const META: &[u8] =
+    b"0000000100000001e28b8f8e0636b2f4626b629f97d826b3556ae711a8fff36853e889df25d5ac08";
+
+const SYSTEM: &[u8] = b"494353590000000100000000000000000000000101000000000000010000000000000000";
+
+// A disk with that mark and that page file, whose first byte is 1.
+fn disk_of(alloc: Global) -> Result<MemDisk, Fail> {
+    let mut disk = MemDisk::new(alloc, Vec::new(alloc), None);
+    let mark = hex_bytes(alloc, MARK)?;
+    let index = hex_bytes(alloc, INDEX)?;
+    disk.create(alloc, Name::Mark(1))?;
+    disk.append(alloc, Name::Mark(1), mark.bytes())?;
+    disk.seal(alloc, Name::Mark(1))?;
+    disk.create(alloc, Name::Page(0))?;
+    disk.append(alloc, Name::Page(0), index.bytes())?;
+    disk.append(alloc, Name::Page(0), &page())?;
+    disk.seal(alloc, Name::Page(0))?;
+    Ok(disk)
+}
+
+fn page() -> [u8; 4096] {
+    let mut page = [0; 4096];
+    page[0] = 1;
+    page
+}
+
+// The ask for an item of that height, with this byte of the root hash changed by so much.
+fn ask_for(alloc: Global, height: u64, change: u8, item: Item) -> Result<[u8; 45], Fail> {
+    let mut root = [0; 32];
+    root.copy_from_slice(hex_bytes(alloc, ROOT)?.bytes());
+    root[31] ^= change;
+    let target = Target {
+        height,
+        root: Hash32(root),
+    };
+    Ok(Ask { target, item }.encode())
+}
+
+#[test]
+fn asks_are_answered_from_what_is_published(rt: HostRuntime) -> Result<(), Fail> {
+    let alloc = rt.alloc();
+    let mut disk = disk_of(alloc)?;
+    let store = HeightStore::open(alloc, &mut disk)?;
+    let mut server = Server::new(store, disk);
+    let meta = hex_bytes(alloc, META)?;
+    let system = hex_bytes(alloc, SYSTEM)?;
+    for (height, change, item, want) in [
+        (1, 0, Item::Meta, Some(meta.bytes())),
+        (1, 0, Item::Piece(1), None),
+        (1, 0, Item::Chunk(0), Some(page().as_slice())),
+        (1, 0, Item::Chunk(1), Some(system.bytes())),
+        (1, 0, Item::Chunk(2), None),
+        (1, 1, Item::Meta, None),
+        (2, 0, Item::Meta, None),
+    ] {
+        let ask = ask_for(alloc, height, change, item)?;
+        let answer = server.answer(alloc, &ask)?;
+        let mut text = Writer::new(alloc);
+        text.bytes(&ask)?;
+        text.u8(want.is_some() as u8)?;
+        text.bytes(want.unwrap_or(&[]))?;
+        assert_eq!(rt; answer.bytes(), text.into_blob().bytes());
+    }
+    Ok(())
+}
+
+#[test]
+fn what_is_no_ask_is_refused(rt: HostRuntime) -> Result<(), Fail> {
+    let alloc = rt.alloc();
+    let mut disk = disk_of(alloc)?;
+    let store = HeightStore::open(alloc, &mut disk)?;
+    let mut server = Server::new(store, disk);
+    let good = ask_for(alloc, 1, 0, Item::Meta)?;
+    assert!(rt;
+        server
+            .answer(alloc, &good[..44])
+            .is_err_and(|error| error == ServeError::BadAsk)
+    );
+    for (place, byte) in [(40, 3), (44, 1), (7, 0)] {
+        let mut bad = good;
+        bad[place] = byte;
+        assert!(rt;
+            server
+                .answer(alloc, &bad)
+                .is_err_and(|error| error == ServeError::BadAsk)
+        );
+    }
+    Ok(())
+}
