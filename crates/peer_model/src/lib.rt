@@ -8,4 +8,4 @@ mod peers;
 mod tests;
 
 pub use memory::MemPeers;
-pub use peers::{PeerError, Peers, Taken, place};
+pub use peers::{PeerError, Peers, Taken};

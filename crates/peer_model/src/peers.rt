@@ -55,7 +55,7 @@ pub struct Taken {
 }
 
 /// Tells a message as taken, and places as many of its bytes as fit at the front of a buffer.
-pub fn place(peer: u32, message: &Blob, into: &mut [u8]) -> Taken
+pub(crate) fn place(peer: u32, message: &Blob, into: &mut [u8]) -> Taken
     ensures { IsPlaced peer message.now result into.new }
 {
     let bytes = message.bytes();

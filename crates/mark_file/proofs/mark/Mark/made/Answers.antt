@@ -8,7 +8,7 @@ use Rattle.sys_state.specs.System.{part_of}
 use Rattle.manifest.specs.Fits.{FitSums}
 use Rattle.mark_file.proofs.MemoryLaws.{sums_fit}
 use Rattle.mark_file.proofs.SystemRows.{system_rows}
-use Rattle.mark_file.proofs.making.Mark.made.Goals as goal
+use Rattle.mark_file.proofs.mark.Mark.made.Goals as goal
 
 abbrev hashes : Vec Bytes Global → List Bytes
 hashes list = list.items
