@@ -1,3 +1,5 @@
+ghost use Rattle.std.specs.Prelude.{◌≤◌};
+
 use super::*;
 use disk_model::{Disk, MemDisk, Name};
 use hex::decode_to_slice;
