@@ -1,8 +1,9 @@
-use crate::{ServeError, Server};
+use crate::{RootPeers, ServeError, Server};
 use byte_codec::{Writer, hex_bytes};
 use disk_model::{Disk, MemDisk, Name};
 use hash_domain::Hash32;
 use height_store::HeightStore;
+use peer_model::{PeerError, Peers, Taken};
 use std::alloc::Global;
 use std::test::Fail;
 use sync_plan::{Ask, Item, Target};
@@ -22,9 +23,13 @@ const META: &[u8] =
 
 const SYSTEM: &[u8] = b"494353590000000100000000000000000000000101000000000000010000000000000000";
 
-// A disk with that mark and that page file, whose first byte is 1.
-fn disk_of(alloc: Global) -> Result<MemDisk, Fail> {
-    let mut disk = MemDisk::new(alloc, Vec::new(alloc), None);
+// The ask for its first chunk.
+const ASK: [u8; 45] =
+    *b"\0\0\0\0\0\0\0\x01\x00\xd2\x0d\xf6\xc9\x3d\xbc\x52\x57\x16\x7f\x2f\x6d\xee\x38\x0e\x2b\x05\x0f\x12\xd9\x3f\x87\x91\x0c\x02\xad\xf4\xdb\x8e\xb7\x78\x02\0\0\0\0";
+
+// A disk with that mark and that page file, whose first byte is 1. It has had seven calls, and those of these numbers fail.
+fn disk_of(alloc: Global, fails: Vec<u64>) -> Result<MemDisk, Fail> {
+    let mut disk = MemDisk::new(alloc, fails, None);
     let mark = hex_bytes(alloc, MARK)?;
     let index = hex_bytes(alloc, INDEX)?;
     disk.create(alloc, Name::Mark(1))?;
@@ -58,7 +63,7 @@ fn ask_for(alloc: Global, height: u64, change: u8, item: Item) -> Result<[u8; 45
 #[test]
 fn asks_are_answered_from_what_is_published(rt: HostRuntime) -> Result<(), Fail> {
     let alloc = rt.alloc();
-    let mut disk = disk_of(alloc)?;
+    let mut disk = disk_of(alloc, Vec::new(alloc))?;
     let store = HeightStore::open(alloc, &mut disk)?;
     let mut server = Server::new(store, disk);
     let meta = hex_bytes(alloc, META)?;
@@ -86,7 +91,7 @@ fn asks_are_answered_from_what_is_published(rt: HostRuntime) -> Result<(), Fail>
 #[test]
 fn what_is_no_ask_is_refused(rt: HostRuntime) -> Result<(), Fail> {
     let alloc = rt.alloc();
-    let mut disk = disk_of(alloc)?;
+    let mut disk = disk_of(alloc, Vec::new(alloc))?;
     let store = HeightStore::open(alloc, &mut disk)?;
     let mut server = Server::new(store, disk);
     let good = ask_for(alloc, 1, 0, Item::Meta)?;
@@ -104,5 +109,52 @@ fn what_is_no_ask_is_refused(rt: HostRuntime) -> Result<(), Fail> {
                 .is_err_and(|error| error == ServeError::BadAsk)
         );
     }
+    Ok(())
+}
+
+#[test]
+fn a_send_that_failed_is_tried_again(rt: HostRuntime) -> Result<(), Fail> {
+    let alloc = rt.alloc();
+    let mut buffer = [0; 4_200];
+    for fail in 7..13 {
+        let disk = disk_of(alloc, Vec::from_slice(alloc, &[fail])?)?;
+        let mut peers = RootPeers::over(alloc, Vec::from_array(alloc, [disk])?)?;
+        assert_eq!(rt; peers.send(alloc, 0, &ASK), Err(PeerError::Fault));
+        assert_eq!(rt; peers.next(alloc, &mut buffer), Ok(None));
+        assert_eq!(rt; peers.send(alloc, 0, &ASK), Ok(()));
+        assert_eq!(rt;
+            peers.next(alloc, &mut buffer),
+            Ok(Some(Taken {
+                peer: 0,
+                len: 4_142
+            }))
+        );
+        assert_eq!(rt; &buffer[..45], ASK.as_slice());
+    }
+    Ok(())
+}
+
+#[test]
+fn a_bad_disk_fails_each_send_and_no_other_peer(rt: HostRuntime) -> Result<(), Fail> {
+    let alloc = rt.alloc();
+    let mut buffer = [0; 4_200];
+    let mut bad = MemDisk::new(alloc, Vec::new(alloc), None);
+    bad.create(alloc, Name::Mark(1))?;
+    bad.seal(alloc, Name::Mark(1))?;
+    let good = disk_of(alloc, Vec::new(alloc))?;
+    let mut peers = RootPeers::over(alloc, Vec::from_array(alloc, [bad, good])?)?;
+    assert_eq!(rt; peers.count(), 2);
+    assert_eq!(rt; peers.send(alloc, 0, &ASK), Err(PeerError::Fault));
+    assert_eq!(rt; peers.send(alloc, 1, &ASK), Ok(()));
+    assert_eq!(rt; peers.send(alloc, 0, &ASK), Err(PeerError::Fault));
+    assert_eq!(rt;
+        peers.next(alloc, &mut buffer),
+        Ok(Some(Taken {
+            peer: 1,
+            len: 4_142
+        }))
+    );
+    assert_eq!(rt; &buffer[45..47], &[1, 1]);
+    assert_eq!(rt; peers.next(alloc, &mut buffer), Ok(None));
     Ok(())
 }
