@@ -2,7 +2,7 @@
 use Rattle.std.proofs.Common.{◌≡◌, ℕ, List, Result, Ok, Err, Some, IsErrOf, IsErrAnd, IfOk, refl, sym, subst}
 use Rattle.std.specs.List.{AllByRecursion}
 use Rattle.format_spec.specs.Bytes.{Bytes}
-use Rattle.store_spec.specs.Image.{Published, Opens}
+use Rattle.store_spec.specs.Image.{Opens}
 use Rattle.disk_model.specs.Files.{Files}
 use Rattle.height_store.specs.declared.error.StoreError.{StoreError}
 use Rattle.height_store.specs.declared.error.StoreError.TheVariants.{BadMark, BadPage}

@@ -1,3 +1,6 @@
+ghost use Rattle.std.specs.Prelude.{IsTrue, is_some};
+ghost use Rattle.sync_spec.specs.Messages.{read_ask};
+
 use crate::{RootPeers, ServeError, Server};
 use byte_codec::{Writer, hex_bytes};
 use disk_model::{Disk, MemDisk, Name};
@@ -16,16 +19,13 @@ const MARK: &[u8] =
 const INDEX: &[u8] =
     b"494350460000000100000001000000010000000100000001000000000000102c000000000000000100000000";
 
-const ROOT: &[u8] = b"00d20df6c93dbc5257167f2f6dee380e2b050f12d93f87910c02adf4db8eb778";
+const ROOT: [u8; 32] =
+    *b"\x00\xd2\x0d\xf6\xc9\x3d\xbc\x52\x57\x16\x7f\x2f\x6d\xee\x38\x0e\x2b\x05\x0f\x12\xd9\x3f\x87\x91\x0c\x02\xad\xf4\xdb\x8e\xb7\x78";
 
 const META: &[u8] =
     b"0000000100000001e28b8f8e0636b2f4626b629f97d826b3556ae711a8fff36853e889df25d5ac08";
 
 const SYSTEM: &[u8] = b"494353590000000100000000000000000000000101000000000000010000000000000000";
-
-// The ask for its first chunk.
-const ASK: [u8; 45] =
-    *b"\0\0\0\0\0\0\0\x01\x00\xd2\x0d\xf6\xc9\x3d\xbc\x52\x57\x16\x7f\x2f\x6d\xee\x38\x0e\x2b\x05\x0f\x12\xd9\x3f\x87\x91\x0c\x02\xad\xf4\xdb\x8e\xb7\x78\x02\0\0\0\0";
 
 // A disk with that mark and that page file, whose first byte is 1. It has had seven calls, and those of these numbers fail.
 fn disk_of(alloc: Global, fails: Vec<u64>) -> Result<MemDisk, Fail> {
@@ -49,15 +49,22 @@ fn page() -> [u8; 4096] {
 }
 
 // The ask for an item of that height, with this byte of the root hash changed by so much.
-fn ask_for(alloc: Global, height: u64, change: u8, item: Item) -> Result<[u8; 45], Fail> {
-    let mut root = [0; 32];
-    root.copy_from_slice(hex_bytes(alloc, ROOT)?.bytes());
+fn ask_for(height: u64, change: u8, item: Item) -> [u8; 45] {
+    let mut root = ROOT;
     root[31] ^= change;
     let target = Target {
         height,
         root: Hash32(root),
     };
-    Ok(Ask { target, item }.encode())
+    Ask { target, item }.encode()
+}
+
+// The ask for its first chunk.
+#[tactic(auto, unfolding(sync_spec::specs::Computing::messages_compute))]
+fn chunk_ask() -> [u8; 45]
+    ensures { IsTrue (is_some (read_ask result)) }
+{
+    *b"\0\0\0\0\0\0\0\x01\x00\xd2\x0d\xf6\xc9\x3d\xbc\x52\x57\x16\x7f\x2f\x6d\xee\x38\x0e\x2b\x05\x0f\x12\xd9\x3f\x87\x91\x0c\x02\xad\xf4\xdb\x8e\xb7\x78\x02\0\0\0\0"
 }
 
 #[test]
@@ -77,7 +84,7 @@ fn asks_are_answered_from_what_is_published(rt: HostRuntime) -> Result<(), Fail>
         (1, 1, Item::Meta, None),
         (2, 0, Item::Meta, None),
     ] {
-        let ask = ask_for(alloc, height, change, item)?;
+        let ask = ask_for(height, change, item);
         let answer = server.answer(alloc, &ask)?;
         let mut text = Writer::new(alloc);
         text.bytes(&ask)?;
@@ -94,10 +101,10 @@ fn what_is_no_ask_is_refused(rt: HostRuntime) -> Result<(), Fail> {
     let mut disk = disk_of(alloc, Vec::new(alloc))?;
     let store = HeightStore::open(alloc, &mut disk)?;
     let mut server = Server::new(store, disk);
-    let good = ask_for(alloc, 1, 0, Item::Meta)?;
+    let good = ask_for(1, 0, Item::Meta);
     assert!(rt;
         server
-            .answer(alloc, &good[..44])
+            .answer(alloc, &[1; 44])
             .is_err_and(|error| error == ServeError::BadAsk)
     );
     for (place, byte) in [(40, 3), (44, 1), (7, 0)] {
@@ -115,13 +122,14 @@ fn what_is_no_ask_is_refused(rt: HostRuntime) -> Result<(), Fail> {
 #[test]
 fn a_send_that_failed_is_tried_again(rt: HostRuntime) -> Result<(), Fail> {
     let alloc = rt.alloc();
-    let mut buffer = [0; 4_200];
+    let ask = chunk_ask();
+    let mut buffer = [0; 47];
     for fail in 7..13 {
         let disk = disk_of(alloc, Vec::from_slice(alloc, &[fail])?)?;
         let mut peers = RootPeers::over(alloc, Vec::from_array(alloc, [disk])?)?;
-        assert_eq!(rt; peers.send(alloc, 0, &ASK), Err(PeerError::Fault));
+        assert_eq!(rt; peers.send(alloc, 0, &ask), Err(PeerError::Fault));
         assert_eq!(rt; peers.next(alloc, &mut buffer), Ok(None));
-        assert_eq!(rt; peers.send(alloc, 0, &ASK), Ok(()));
+        assert_eq!(rt; peers.send(alloc, 0, &ask), Ok(()));
         assert_eq!(rt;
             peers.next(alloc, &mut buffer),
             Ok(Some(Taken {
@@ -129,7 +137,9 @@ fn a_send_that_failed_is_tried_again(rt: HostRuntime) -> Result<(), Fail> {
                 len: 4_142
             }))
         );
-        assert_eq!(rt; &buffer[..45], ASK.as_slice());
+        assert_eq!(rt; buffer[44], 0);
+        assert_eq!(rt; buffer[45], 1);
+        assert_eq!(rt; buffer[46], 1);
     }
     Ok(())
 }
@@ -137,16 +147,17 @@ fn a_send_that_failed_is_tried_again(rt: HostRuntime) -> Result<(), Fail> {
 #[test]
 fn a_bad_disk_fails_each_send_and_no_other_peer(rt: HostRuntime) -> Result<(), Fail> {
     let alloc = rt.alloc();
-    let mut buffer = [0; 4_200];
+    let ask = chunk_ask();
+    let mut buffer = [0; 8];
     let mut bad = MemDisk::new(alloc, Vec::new(alloc), None);
     bad.create(alloc, Name::Mark(1))?;
     bad.seal(alloc, Name::Mark(1))?;
     let good = disk_of(alloc, Vec::new(alloc))?;
     let mut peers = RootPeers::over(alloc, Vec::from_array(alloc, [bad, good])?)?;
     assert_eq!(rt; peers.count(), 2);
-    assert_eq!(rt; peers.send(alloc, 0, &ASK), Err(PeerError::Fault));
-    assert_eq!(rt; peers.send(alloc, 1, &ASK), Ok(()));
-    assert_eq!(rt; peers.send(alloc, 0, &ASK), Err(PeerError::Fault));
+    assert_eq!(rt; peers.send(alloc, 0, &ask), Err(PeerError::Fault));
+    assert_eq!(rt; peers.send(alloc, 1, &ask), Ok(()));
+    assert_eq!(rt; peers.send(alloc, 0, &ask), Err(PeerError::Fault));
     assert_eq!(rt;
         peers.next(alloc, &mut buffer),
         Ok(Some(Taken {
@@ -154,7 +165,7 @@ fn a_bad_disk_fails_each_send_and_no_other_peer(rt: HostRuntime) -> Result<(), F
             len: 4_142
         }))
     );
-    assert_eq!(rt; &buffer[45..47], &[1, 1]);
+    assert_eq!(rt; buffer[7], 1);
     assert_eq!(rt; peers.next(alloc, &mut buffer), Ok(None));
     Ok(())
 }
