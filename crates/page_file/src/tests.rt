@@ -21,9 +21,11 @@ fn base() -> &'static [u8] {
 
 // The index of the overlay, of a memory of so many pages, and its bytes.
 fn overlay_of(alloc: Global, memory: u32) -> Result<Vec<u8>, PageError> {
-    let mut bytes = Vec::from_slice(alloc, &overlay()[..12])?;
+    let mut bytes = Vec::from_slice(alloc, b"ICPF\0\0\0\x01\0\0\0\0")?;
     bytes.extend_from_slice(&memory.to_be_bytes())?;
-    bytes.extend_from_slice(&overlay()[16..])?;
+    bytes.extend_from_slice(
+        b"\0\0\0\x02\0\0\0\x03\0\0\0\0\0\0\x30\x38\0\0\0\x02\0\0\0\x02\0\0\0\0\0\0\0\x07\0\0\0\x01\0\0\0\x02",
+    )?;
     bytes.extend_from_slice(&vec![in alloc; 0; 12_288]?)?;
     Ok(bytes)
 }
