@@ -9,6 +9,3 @@ pub use laws::{
     a_merge_is_kept_through_calls, a_merge_writes_one_file, a_merged_layer_reads_as_its_layers,
     a_step_leaves_one_less, layers_without_a_plan_are_few,
 };
-
-#[cfg(test)]
-mod tests;
