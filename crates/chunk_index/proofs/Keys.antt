@@ -1,11 +1,9 @@
 -- The order of an index tells apart just the keys that are not one.
-use Rattle.std.proofs.Common.{◌≡◌, ℕ, Bool, true, List, Option, refl, ap, arith}
+use Rattle.std.proofs.Common.{◌≡◌, Bool, ap, arith}
 use Rattle.std.proofs.lemmas.Bool.Decides.{nat_tests}
 use Rattle.std.specs.Map.{lookup}
 use Rattle.std.specs.BTreeMap.{is_at}
-use Rattle.format_spec.specs.Bytes.{Bytes, same_bytes}
 use Rattle.chunk_index.specs.declared.index.ChunkKey.{ChunkKey}
-use Rattle.chunk_index.specs.declared.index.Place.{Place}
 use Rattle.chunk_index.specs.contracts.index.ChunkKeyOrd.TheImpl.{cmp-value}
 use Rattle.chunk_index.specs.Index.{Places, has_key}
 

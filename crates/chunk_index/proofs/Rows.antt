@@ -9,7 +9,7 @@ use Rattle.format_spec.specs.Bytes.{Bytes, same_bytes}
 use Rattle.format_spec.specs.Hashes.{ChunkSum}
 use Rattle.format_spec.specs.declared.limits.TheConstants.{CHUNK_SIZE}
 use Rattle.format_spec.proofs.Readings.{same_bytes_is}
-use Rattle.state_spec.specs.Manifest.{ChunkRow, chunk_sums, chunk_size_at, chunk_offset}
+use Rattle.state_spec.specs.Manifest.{ChunkRow, chunk_size_at, chunk_offset}
 use Rattle.chunk_index.specs.declared.index.Place.{Place}
 use Rattle.chunk_index.specs.Index.{Places, Indexes, is_chunk, place_of, first_place, row_at, rows_of, place_in}
 

@@ -1,8 +1,7 @@
 -- The rows of the chunks of a mark, file by file.
-use Rattle.std.proofs.Common.{◌≡◌, ℕ, ◌+◌, ◌*◌, ◌<◌, ◌≤◌, ◌^◌, zero, suc, List, [], ◌∷◌, ◌++◌, length, map, drop, drop-cons, get_or, refl, sym, ◌∙◌, ap, subst, arith, append_assoc}
+use Rattle.std.proofs.Common.{◌≡◌, ℕ, ◌+◌, ◌*◌, ◌<◌, ◌≤◌, ◌^◌, zero, suc, List, [], ◌∷◌, ◌++◌, length, map, drop, drop-cons, get_or, sym, ◌∙◌, ap, subst, arith, append_assoc}
 use Rattle.std.specs.List.{AllZip}
 use Rattle.std.proofs.lemmas.Slice.Zip.{AllZip-long}
-use Rattle.std.specs.Int.{div_ceil}
 use Rattle.std.proofs.lemmas.Grind.{div_ceil_times}
 use Rattle.std.proofs.lemmas.List.{append-nil, length-map}
 use Rattle.format_spec.specs.Bytes.{Bytes, part_count}
@@ -11,7 +10,7 @@ use Rattle.state_spec.proofs.RowSizes.{length-chunk_hashes}
 use Rattle.state_spec.specs.State.{SystemPart}
 use Rattle.state_spec.specs.SystemText.{system_text}
 use Rattle.state_spec.specs.Files.{memories_in, system_name}
-use Rattle.state_spec.specs.Manifest.{ChunkRow, FileSums, chunk_rows, chunk_sums, chunk_hashes, sums_of, memory_sums, file_sums, manifest_from}
+use Rattle.state_spec.specs.Manifest.{ChunkRow, FileSums, chunk_rows, chunk_hashes, sums_of, memory_sums, file_sums, manifest_from}
 use Rattle.store_spec.specs.Mark.{Mark, MarkMemory, IsMark, FitsMemory}
 use Rattle.chunk_index.specs.Index.{Places, Indexes, rows_of}
 use Rattle.height_store.specs.Chunks.{chunks_in, memory_rows}

@@ -1,5 +1,5 @@
 -- Where the first chunk of a size and a hash is among published heights.
-use Rattle.std.proofs.Common.{◌≡◌, ℕ, ◌+◌, ◌<◌, ◌≤◌, ◌/◌, suc, Bool, true, false, cond, List, [], ◌∷◌, ◌++◌, length, map, drop, drop-cons, get_or, Option, None, Some, refl, sym, ◌∙◌, ap, arith}
+use Rattle.std.proofs.Common.{◌≡◌, ℕ, ◌+◌, ◌<◌, ◌/◌, suc, true, false, cond, List, [], ◌∷◌, length, map, drop, drop-cons, get_or, Option, None, Some, refl, sym, ◌∙◌, ap, arith}
 use Rattle.std.specs.List.{find, flat_map, AllZip}
 use Rattle.std.specs.Option.{option_map, option_or}
 use Rattle.std.proofs.lemmas.List.Folds.{find-append}
@@ -8,12 +8,11 @@ use Rattle.format_spec.specs.Hashes.{ChunkSum}
 use Rattle.format_spec.specs.declared.limits.TheConstants.{CHUNK_SIZE}
 use Rattle.format_spec.proofs.Cuts.{cons_same}
 use Rattle.state_spec.specs.State.{memory_bytes}
-use Rattle.state_spec.specs.Manifest.{Manifest, ChunkRow, manifest_of, manifest_from, file_sums, chunk_hashes}
-use Rattle.sync_spec.specs.Local.{Source, sources_in, same_chunk, first_source, manifests_of}
+use Rattle.state_spec.specs.Manifest.{Manifest, ChunkRow, manifest_of, manifest_from, file_sums}
+use Rattle.sync_spec.specs.Local.{Source, sources_in, same_chunk, manifests_of}
 use Rattle.sys_state.specs.System.{part_of}
 use Rattle.manifest.proofs.States.{of_state}
-use Rattle.store_spec.specs.Image.{Published, HasTrueSums}
-use Rattle.store_spec.specs.Mark.{MarkMemory}
+use Rattle.store_spec.specs.Image.{Published}
 use Rattle.chunk_index.specs.declared.index.Place.{Place}
 use Rattle.chunk_index.specs.Index.{is_chunk, place_of, first_place}
 use Rattle.height_store.specs.Chunks.{manifest_in, manifests_in, chunks_in, chunk_in}

@@ -1,8 +1,8 @@
-use Rattle.std.proofs.Common.{◌≡◌, ℕ, is_some, sym, ap, ◌∙◌, false, arith}
+use Rattle.std.proofs.Common.{◌≡◌, ℕ, ap, arith}
 use Rattle.std.proofs.lemmas.Grind.{common_steps}
 use Rattle.format_spec.specs.Bytes.{Bytes}
 use Rattle.chunk_index.specs.declared.index.ChunkKey.{ChunkKey}
-use Rattle.chunk_index.specs.Index.{place_in, has_key}
+use Rattle.chunk_index.specs.Index.{place_in}
 use Rattle.chunk_index.proofs.Keys.{cmp_same, lookup_same}
 use Rattle.chunk_index.proofs.Rows.{row_new, row_there}
 use Rattle.chunk_index.proofs.index.put.Goals as goal

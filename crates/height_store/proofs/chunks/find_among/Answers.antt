@@ -1,4 +1,4 @@
-use Rattle.std.proofs.Common.{◌≡◌, ◌∙◌, Option, None, Some, ℕ, sym, ap}
+use Rattle.std.proofs.Common.{◌∙◌, Option, Some, ℕ, sym, ap}
 use Rattle.height_store.proofs.ChunkSources.{here, not_here}
 use Rattle.height_store.proofs.chunks.find_among.Goals as goal
 
