@@ -13,7 +13,7 @@ GROUPS = [
     ("the outside", "#f6ecd9", "io_edge disk_model disk_folder peer_model"),
     ("a state", "#e4f2e6", "byte_codec hash_lanes hash_domain sys_state manifest hash_tree witness"),
     ("pages", "#f3e6f3", "page_file page_pool layer_stack page_delta page_map merge_job"),
-    ("published heights", "#fbe3e1", "mark_file height_store whole_state"),
+    ("published heights", "#fbe3e1", "chunk_index mark_file height_store whole_state"),
     ("sync", "#e3f3f3", "sync_plan slot_links sync_core sync_serve"),
     ("programs", "#eeeeee", "script_text live_state state_manager state_cli icstate"),
 ]

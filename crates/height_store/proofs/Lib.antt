@@ -1,5 +1,7 @@
 pub mod BytesRead
 pub mod Carried
+pub mod ChunkRows
+pub mod ChunkSources
 pub mod FilesFound
 pub mod Gaining
 pub mod Heights

@@ -23,7 +23,7 @@ use Rattle.height_store.specs.States.{same_version, same_parts, same_bytes, made
 use Rattle.height_store.specs.Known.{KnowsHeight}
 
 -- true sums are the hashes of the chunks
-sums_are : (ms : List MarkMemory) (memories : List Bytes) → AllZip HasTrueSums ms memories → map (λ m. m.sums) ms ≡ map chunk_hashes memories
+pub sums_are : (ms : List MarkMemory) (memories : List Bytes) → AllZip HasTrueSums ms memories → map (λ m. m.sums) ms ≡ map chunk_hashes memories
 sums_are [] [] true_sums = refl
 sums_are [] (bytes ∷ memories) true_sums = absurd true_sums
 sums_are (m ∷ ms) [] true_sums = absurd true_sums

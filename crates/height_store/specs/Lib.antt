@@ -1,4 +1,5 @@
 pub mod Bad
+pub mod Chunks
 pub mod Entry
 pub mod Errors
 pub mod Found

@@ -1,6 +1,7 @@
 //! The published heights of a disk: opened, published by one rename, purged, and read: pages, ranges of bytes, memories.
 #![tactic(auto)]
 
+mod chunks;
 mod error;
 mod finding;
 mod laws;
@@ -15,6 +16,7 @@ mod reading;
 mod store;
 mod sweeping;
 
+pub use chunks::chunks_are_found_in_states;
 pub use error::StoreError;
 pub use laws::{
     bad_disks_do_not_open, heights_kept_through_calls, kept_heights_stand,

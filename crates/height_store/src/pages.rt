@@ -18,6 +18,7 @@ ghost use Rattle.height_store.specs.Naming.{rows_of, IsFileOf, Takes, index_byte
 ghost use Rattle.height_store.specs.Opened.{parts_of, FitNamings};
 ghost use Rattle.height_store.specs.Store.{IsHeight, numbers_of};
 
+use crate::chunks::index_of;
 use crate::marks::OpenedMark;
 use crate::store::PublishedHeight;
 use byte_codec::NoMemory;
@@ -205,10 +206,12 @@ fn height_of(
     ensures stacks { (all : Files) → AllByRecursion (IsAsKnown all) files.now → IfOk result (HasStacks all) }
 {
     let stacks = stacks_of(alloc, &mark.mark.mems, files)?;
+    let chunks = index_of(alloc, &mark.mark, &mark.sys)?;
     Ok(PublishedHeight {
         mark: mark.mark,
         sys: mark.sys,
         stacks,
+        chunks,
     })
 }
 

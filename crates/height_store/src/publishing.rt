@@ -18,6 +18,7 @@ ghost use Rattle.height_store.specs.Kept.{IsReadable, IsWritable, IsMadeOf, HasF
 ghost use Rattle.height_store.specs.Store.{FitsMark, IsHeight, Gains, height_at, without_height, is_newest};
 ghost use Rattle.height_store.specs.Written.{is_of, HasWritten, IsBeforeOrAfter};
 
+use crate::chunks::index_of;
 use crate::error::StoreError;
 use crate::store::{HeightStore, PublishedHeight};
 use byte_codec::NoMemory;
@@ -112,7 +113,7 @@ impl HeightStore {
     }
 }
 
-// A height with this mark, whose bytes these are, what its system text spells, and these page files. NoMemory where memory runs out.
+// A height with this mark, whose bytes these are, what its system text spells, these page files and the index of its chunks. NoMemory where memory runs out.
 fn published(
     alloc: Global,
     mark: &Mark,
@@ -126,7 +127,15 @@ fn published(
     ensures good { IfOk result IsHeight }
 {
     match Mark::decode_both(alloc, mark.height, text) {
-        Ok((mark, sys)) => Ok(PublishedHeight { mark, sys, stacks }),
+        Ok((mark, sys)) => {
+            let chunks = index_of(alloc, &mark, &sys)?;
+            Ok(PublishedHeight {
+                mark,
+                sys,
+                stacks,
+                chunks,
+            })
+        }
         Err(MarkError::BadMark(_)) => unreachable!(),
         Err(MarkError::Memory) => Err(NoMemory),
     }

@@ -7,6 +7,7 @@ ghost use Rattle.std.specs.Option.{option_copied};
 ghost use Rattle.format_spec.specs.declared.limits.TheConstants.{MAX_PUBLISHED, MAX_HEIGHT};
 ghost use Rattle.height_store.specs.Store.{StoredHeight, IsHeight, IsNextFree, heights_in, height_at, stack_at};
 
+use chunk_index::ChunkIndex;
 use layer_stack::Stack;
 use mark_file::Mark;
 use std::marker::Model;
@@ -18,17 +19,20 @@ pub struct PublishedHeight {
     pub(crate) mark: Mark,
     pub(crate) sys: SysState,
     pub(crate) stacks: Vec<Stack>,
+    // Its chunks by size and hash.
+    pub(crate) chunks: ChunkIndex,
 }
 
-// Contracts see the three.
+// Contracts see all but the index.
 impl Model for PublishedHeight {
-    ghost use Rattle.height_store.specs.Store.{StoredHeight, IsHeight};
+    ghost use Rattle.height_store.specs.Store.{StoredHeight};
+    ghost use Rattle.height_store.specs.Chunks.{IsIndexed};
 
     ghost Value = { StoredHeight };
 
     ghost view = { λ h. record { mark = h.mark; system = h.sys; stacks = h.stacks.items } };
 
-    ghost invariant = { λ h. IsHeight (record { mark = h.mark; system = h.sys; stacks = h.stacks.items }) };
+    ghost invariant = { λ h. IsIndexed h.chunks (record { mark = h.mark; system = h.sys; stacks = h.stacks.items }) };
 }
 
 impl PublishedHeight {

@@ -2,6 +2,7 @@ ghost use Rattle.std.specs.Prelude.{◌≤◌};
 
 use super::*;
 use disk_model::{Disk, MemDisk, Name};
+use hash_domain::Hash32;
 use hex::decode_to_slice;
 use std::alloc::Global;
 use std::process::Abort;
@@ -14,6 +15,14 @@ const MARK: &str =
 
 const INDEX: &str =
     "494350460000000100000001000000010000000100000001000000000000102c000000000000000100000000";
+
+// That mark as height 2, and the hashes of its page and of its system text as chunks: values of the same program.
+const SECOND: &str =
+    "49434d4b00000001000000000000000200000024494353590000000100000000000000000000000101000000000000010000000000000000000000010000000000000000beedb2d1fe14d2a1f2a55ea7b1430bc260ce57831e5309b336f370db1bbb1af2000000009d635b144968103bac92fba2f13725393b48f45b945a53c45e01239cfa5c120900d20df6c93dbc5257167f2f6dee380e2b050f12d93f87910c02adf4db8eb77881ec2e8cdbcc96c386efead79fa921fd886f87236e1b59a48a7f6de9cfb48a94";
+
+const PAGE_HASH: &str = "beedb2d1fe14d2a1f2a55ea7b1430bc260ce57831e5309b336f370db1bbb1af2";
+
+const SYSTEM_HASH: &str = "9d635b144968103bac92fba2f13725393b48f45b945a53c45e01239cfa5c1209";
 
 // A disk with that mark, cut by so many bytes, as this height, with that page file where it is asked for, and with files that no
 // mark names.
@@ -146,5 +155,47 @@ fn a_disk_that_fails_is_a_fault(rt: HostRuntime) -> Result<(), Fail> {
     let mut faulty = MemDisk::new(alloc, Vec::from_slice(alloc, &[3])?, None);
     assert!(rt; refusal_of(alloc, &mut faulty) == Some(StoreError::Fault));
     assert_eq!(rt; faulty.calls(), 4);
+    Ok(())
+}
+
+// A disk with both marks and that page file.
+fn disk_of_two(alloc: Global) -> Result<MemDisk, Fail> {
+    let mut disk = MemDisk::new(alloc, Vec::new(alloc), None);
+    let mut mark = [0; 200];
+    decode_to_slice(MARK, &mut mark)?;
+    let mut second = [0; 200];
+    decode_to_slice(SECOND, &mut second)?;
+    let mut text = [0; 4_140];
+    decode_to_slice(INDEX, &mut text[..44])?;
+    text[44] = 1;
+    disk.create(alloc, Name::Mark(1))?;
+    disk.append(alloc, Name::Mark(1), &mark)?;
+    disk.seal(alloc, Name::Mark(1))?;
+    disk.create(alloc, Name::Mark(2))?;
+    disk.append(alloc, Name::Mark(2), &second)?;
+    disk.seal(alloc, Name::Mark(2))?;
+    disk.create(alloc, Name::Page(0))?;
+    disk.append(alloc, Name::Page(0), &text)?;
+    disk.seal(alloc, Name::Page(0))?;
+    Ok(disk)
+}
+
+fn hash_of(text: &str) -> Result<Hash32, Fail> {
+    let mut hash = [0; 32];
+    decode_to_slice(text, &mut hash)?;
+    Ok(Hash32(hash))
+}
+
+#[test]
+fn the_first_height_with_a_chunk_is_found(rt: HostRuntime) -> Result<(), Fail> {
+    let alloc = rt.alloc();
+    let mut disk = disk_of_two(alloc)?;
+    let mut store = HeightStore::open(alloc, &mut disk)?;
+    let (page, system) = (hash_of(PAGE_HASH)?, hash_of(SYSTEM_HASH)?);
+    assert!(rt; store.find_chunk(4_096, &page) == Some((1, 0, 0)));
+    assert!(rt; store.find_chunk(36, &system) == Some((1, 2, 0)));
+    assert!(rt; store.find_chunk(36, &page).is_none());
+    store.purge(alloc, 1, &mut disk)?;
+    assert!(rt; store.find_chunk(4_096, &page) == Some((2, 0, 0)));
     Ok(())
 }
