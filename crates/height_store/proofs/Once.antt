@@ -32,7 +32,7 @@ use Rattle.height_store.specs.Refused.{at_split, bad_mark_refused, bad_page_refu
 use Rattle.height_store.specs.Standing.{some_is}
 use Rattle.height_store.specs.Store.{Store, StoredHeight, IsHeight, FitsPages, Gains, IsNextFree, heights_in, height_at, numbers_of, is_named, is_newest}
 use Rattle.height_store.specs.Laws.{stacks_found}
-use Rattle.height_store.proofs.Heights.{has_stack, stack_kept}
+use Rattle.height_store.proofs.Heights.{has_stack, some_there, stack_kept}
 use Rattle.height_store.proofs.Parts.{parts_are_one}
 
 -- ---- heights by their marks
@@ -257,7 +257,7 @@ module _ (hs : List StoredHeight) (height : ℕ) where
 pub page_once : (files : Files) (hs : List StoredHeight) (height place page : ℕ) (h : StoredHeight) (one other : Bytes) → IsReadable hs files → IsHeight h → height_at hs height ≡ Some h
     → IsSomeAnd (slice_get (memories_in (part_of h.system)) place) (λ m. page < m.1) → ReadsAs files hs height place page one → ReadsAs files hs height place page other → one ≡ other
 page_once files hs height place page h one other readable good found within a b =
-    let lt = has_stack h h place page refl good within in
+    let lt = has_stack h h place refl good (some_there _ _ within) in
     let stack : List NumberedFile = get_or h.stacks place [] in
     let there = slice_get-get_or h.stacks place [] lt in
     let kept = stack_kept files h h place stack refl (stacks_found files hs height h (sym found) readable) lt (get_or_default h.stacks place [] stack lt) in

@@ -1,6 +1,7 @@
 //! Reading the memories of published heights.
 
-ghost use Rattle.std.specs.Prelude.{◌≡◌, ◌≤◌, ◌<◌, ◌+◌, ◌*◌, List, Some, length, map, take, drop, slice_get, IsTrue, IfOk, OnOk, IsSomeAnd};
+ghost use Rattle.std.specs.Prelude.{◌≡◌, ◌≤◌, ◌<◌, ◌+◌, ◌-◌, ◌*◌, List, Some, length, map, take, drop, slice_get, IsSome, IsTrue, IfOk, OnOk, IsSomeAnd};
+ghost use Rattle.std.specs.List.{range_with_len};
 ghost use Rattle.format_spec.specs.Bytes.{Bytes};
 ghost use Rattle.format_spec.specs.declared.limits.TheConstants.{PAGE_SIZE as page_size, MAX_MEMORY_PAGES};
 ghost use Rattle.state_spec.specs.State.{memory_bytes};
@@ -12,13 +13,13 @@ ghost use Rattle.sys_state.specs.System.{part_of};
 ghost use Rattle.disk_model.specs.Causes.{Fails};
 ghost use Rattle.disk_model.specs.OnlyReads.{OnlyReads};
 ghost use Rattle.page_file.specs.Files.{NumberedFile};
-ghost use Rattle.layer_stack.specs.Stacks.{AreLayers};
+ghost use Rattle.layer_stack.specs.Stacks.{AreLayers, PagesReadAs};
 ghost use Rattle.height_store.specs.Answers.{PageIs, RangeIs};
 ghost use Rattle.height_store.specs.Kept.{HasStacks, ShowsHeight};
 ghost use Rattle.height_store.specs.Known.{IsMemoryAt, AreTheirPages, bytes_of};
 
 use crate::store::PublishedHeight;
-use byte_codec::Blob;
+use byte_codec::{Blob, NoMemory};
 use disk_model::{Disk, DiskError};
 use format_spec::PAGE_SIZE;
 use page_file::PageBytes;
@@ -118,6 +119,29 @@ impl PublishedHeight {
         self.read_range(alloc, disk, file, 0, u64::from(pages) * PAGE_SIZE as u64)
     }
 
+    // These pages of the memory at a place, one behind the other: those that stand behind each other in one page file by one call of the disk.
+    fn read_pages<D: Disk>(
+        &self,
+        alloc: Global,
+        disk: &mut D,
+        file: u32,
+        pages: &[u32],
+    ) -> Result<Vec<u8>, DiskError>
+        requires readable { IsTrue D.tells → HasStacks (D.view disk.old).state.files self.now }
+        requires there { IsSome (slice_get (memories_in (part_of self.now.system)) file) }
+        requires few { length pages.now ≤ MAX_MEMORY_PAGES }
+
+        ensures size { IfOk result (λ bytes. length bytes.items ≡ page_size * length pages.now) }
+        ensures pages { IsTrue D.tells → (stack : List NumberedFile) → slice_get self.now.stacks file ≡ Some stack
+            → IfOk result (λ bytes. PagesReadAs (D.view disk.old).state.files stack pages.now bytes.items) }
+        ensures reads_only { IsTrue D.tells → OnlyReads (page_size * length pages.now) (D.view disk.old) (D.view disk.new) }
+        ensures cause { Fails D.Disk disk.old disk.new result }
+    {
+        let mut bytes = vec![in alloc; 0; pages.len() * PAGE_SIZE]?;
+        self.stacks[file as usize].read_pages(alloc, disk, pages, &mut bytes)?;
+        Ok(bytes)
+    }
+
     // Bytes of the memory at a place, from an offset on. The memory has them. No page is read that holds none of them.
     fn read_range<D: Disk>(
         &self,
@@ -136,28 +160,44 @@ impl PublishedHeight {
         ensures reads_only { IsTrue D.tells → OnlyReads (page_size * pages_holding offset len) (D.view disk.old) (D.view disk.new) }
         ensures cause { Fails D.Disk disk.old disk.new result }
     {
-        let pages = pages_of_range(offset, len);
-        let mut bytes = Vec::with_capacity(alloc, len as usize)?;
-        let mut buffer = [0; PAGE_SIZE];
-        for page in pages.0..pages.1 {
-            self.read_page(alloc, disk, file, page, &mut buffer)?;
-            let begin = u64::from(page) * PAGE_SIZE as u64;
-            let from = offset.saturating_sub(begin) as usize;
-            let to = (offset + len - begin).min(PAGE_SIZE as u64) as usize;
-            bytes.extend_from_slice(&buffer[from..to])?;
+        if len == 0 {
+            return Ok(Vec::new(alloc));
         }
-        Ok(bytes)
+        let (first, behind) = pages_of_range(offset, len);
+        let pages = numbers_between(alloc, first, behind)?;
+        let bytes = self.read_pages(alloc, disk, file, &pages)?;
+        let from = (offset - u64::from(first) * PAGE_SIZE as u64) as usize;
+        Ok(piece_of(alloc, bytes, from, len as usize)?)
     }
 }
 
-// The first page that holds one of these bytes, and the one behind the last.
+// The numbers from the first one on, below the other one.
+fn numbers_between(alloc: Global, first: u32, behind: u32) -> Result<Vec<u32>, NoMemory>
+    ensures { IfOk result (λ numbers. numbers.items ≡ range_with_len first (behind - first)) }
+{
+    Ok((first..behind).collect(alloc)?)
+}
+
+// So many of these bytes, from a place on. Those that begin the bytes aren't copied.
+fn piece_of(alloc: Global, bytes: Vec<u8>, from: usize, len: usize) -> Result<Vec<u8>, NoMemory>
+    requires { from + len ≤ length bytes.items }
+    ensures { IfOk result (λ piece. piece.items ≡ take len (drop from bytes.items)) }
+{
+    if from > 0 {
+        return Ok(Vec::from_slice(alloc, &bytes[from..from + len])?);
+    }
+    let mut bytes = bytes;
+    bytes.truncate(len);
+    Ok(bytes)
+}
+
+// The first page that holds one of these bytes, and the one behind the last. There is a byte.
 fn pages_of_range(offset: u64, len: u64) -> (u32, u32)
-    requires { offset + len ≤ MAX_MEMORY_PAGES * page_size }
+    requires some { 0 < len }
+    requires at_most { offset + len ≤ MAX_MEMORY_PAGES * page_size }
     ensures { AreTheirPages offset len result.0 result.1 }
 {
-    let first = (offset / PAGE_SIZE as u64) as u32;
-    if len == 0 {
-        return (first, first);
-    }
-    (first, (offset + len).div_ceil(PAGE_SIZE as u64) as u32)
+    let first = offset / PAGE_SIZE as u64;
+    let behind = (offset + len).div_ceil(PAGE_SIZE as u64);
+    (first as u32, behind as u32)
 }

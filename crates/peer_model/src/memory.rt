@@ -2,7 +2,7 @@
 
 ghost use Rattle.std.specs.Prelude.{◌≡◌, [], true, IsErrOf};
 ghost use Rattle.io_edge.specs.Faults.{IsCounted};
-ghost use Rattle.peer_model.specs.Calls.{Sends, Looks, TakesFirst, IsPlaced};
+ghost use Rattle.peer_model.specs.Calls.{Sends, Looks, TakesFirst};
 ghost use Rattle.peer_model.specs.Orders.{FollowsOrders};
 
 use crate::calls::{Look, Orders, SentAsk, note_look, note_send};
@@ -41,19 +41,6 @@ impl Model for MemPeers {
       calls = p.orders.calls;
       faults = p.orders.faults;
     } };
-}
-
-// A message is told, and as many of its bytes as fit are placed.
-fn place(peer: u32, message: &Blob, into: &mut [u8]) -> Taken
-    ensures { IsPlaced peer message.now result into.new }
-{
-    let bytes = message.bytes();
-    let count = bytes.len().min(into.len());
-    into[..count].copy_from_slice(&bytes[..count]);
-    Taken {
-        peer,
-        len: bytes.len(),
-    }
 }
 
 impl MemPeers {
@@ -140,7 +127,7 @@ impl Peers for MemPeers {
             note_look(&mut self.looks, Look::Nothing);
             return Ok(None);
         };
-        let taken = place(peer, &message, into);
+        let taken = Taken::place(peer, &message, into);
         note_look(&mut self.looks, Look::Came(peer, message));
         Ok(Some(taken))
     }

@@ -4,9 +4,9 @@ ghost use Rattle.std.specs.Prelude.{◌≡◌, ◌<◌, ℕ, Bool, IsTrue, IsErr
 ghost use Rattle.io_edge.specs.Faults.{IsCounted};
 ghost use Rattle.sync_spec.specs.Messages.{read_ask};
 ghost use Rattle.peer_model.specs.declared.peers.PeerError.TheVariants.{Fault, Memory};
-ghost use Rattle.peer_model.specs.Calls.{PeersView, Sends, Looks, TakesFirst};
+ghost use Rattle.peer_model.specs.Calls.{PeersView, Sends, Looks, TakesFirst, IsPlaced};
 
-use byte_codec::NoMemory;
+use byte_codec::{Blob, NoMemory};
 use std::alloc::{AllocError, AllocFailed, Global};
 use thiserror::Error;
 
@@ -52,6 +52,21 @@ pub struct Taken {
     pub peer: u32,
     /// Bytes of the whole message, of which a buffer may have fewer.
     pub len: usize,
+}
+
+impl Taken {
+    /// A message of a peer is told, and as many of its bytes as fit are placed at the front of `into`.
+    pub fn place(peer: u32, message: &Blob, into: &mut [u8]) -> Taken
+        ensures { IsPlaced peer message.now result into.new }
+    {
+        let bytes = message.bytes();
+        let count = bytes.len().min(into.len());
+        into[..count].copy_from_slice(&bytes[..count]);
+        Taken {
+            peer,
+            len: bytes.len(),
+        }
+    }
 }
 
 /// Peers, numbered from 0, that are asked for parts of a state, and whose messages wait in one line.

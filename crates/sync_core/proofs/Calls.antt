@@ -2,6 +2,7 @@
 use Rattle.std.proofs.Common.{◌≡◌, ℕ, suc, ◌*◌, ◌<◌, ◌≤◌, ◌==◌, ◌&&◌, ◌||◌, not, true, false, List, [], ◌∷◌, ◌++◌, length, map, filter, find, fold, is_some, option_map, Option, Some, None, IfSome, refl, sym, ap, ◌∙◌, subst, arith}
 use Rattle.std.specs.List.{list_any, range_with_len, AllByRecursion}
 use Rattle.std.specs.Option.{option_or, option_map_or}
+use Rattle.std.proofs.Math.Bool.{or-false, or-true}
 use Rattle.std.proofs.lemmas.Option.{none-some, same_Some}
 use Rattle.format_spec.specs.declared.limits.TheConstants.{MAX_PEERS, MAX_ASKS}
 use Rattle.sync_spec.specs.Messages.{Item}
@@ -177,5 +178,8 @@ pub seen_item : {X : Type 0} (f : X → Item) (r : Option X) (o : Option Wanted)
 seen_item f None o e = ap (λ (p : Option Wanted). item_in p) e
 seen_item f (Some x) o e = ap (λ (p : Option Wanted). item_in p) e
 
-pub has_behind : (ws : List Wanted) (is : List Item) (item : Item) → has_item ws item ≡ false → list_any (λ i. same_item i item) is ≡ has_item (missing_of ws is) item
-has_behind ws is item e = ap (λ b. b || list_any (λ i. same_item i item) is) (sym e) ∙ sym (has_parts ws is item)
+pub has_fresh : (ws : List Wanted) (is : List Item) (item : Item) → list_any (λ i. same_item i item) is ≡ true → true ≡ has_item (missing_of ws is) item
+has_fresh ws is item e = sym (has_parts ws is item ∙ ap (λ b. has_item ws item || b) e ∙ or-true (has_item ws item))
+
+pub has_tried : (ws : List Wanted) (is : List Item) (item : Item) → list_any (λ i. same_item i item) is ≡ false → has_item ws item ≡ has_item (missing_of ws is) item
+has_tried ws is item e = sym (has_parts ws is item ∙ ap (λ b. has_item ws item || b) e ∙ or-false (has_item ws item))

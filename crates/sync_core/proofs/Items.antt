@@ -1,9 +1,9 @@
 -- Items by their numbers.
-use Rattle.std.proofs.Common.{◌≡◌, ℕ, ◌==◌, ◌||◌, not, Bool, false, List, [], ◌∷◌, map, filter, find, Some, None, refl, sym, ap, ◌∙◌}
+use Rattle.std.proofs.Common.{◌≡◌, ℕ, ◌==◌, ◌||◌, not, Bool, false, List, [], ◌∷◌, map, filter, refl, sym, ap, ◌∙◌}
 use Rattle.std.specs.List.{list_any}
 use Rattle.std.proofs.lemmas.List.Elements.{filter_agree}
 use Rattle.sync_spec.specs.Messages.{Item}
-use Rattle.sync_spec.specs.Core.{same_item, unasked_item, is_unasked}
+use Rattle.sync_spec.specs.Core.{same_item}
 use Rattle.sync_core.specs.declared.fresh.Kind.{Kind}
 use Rattle.sync_core.specs.declared.fresh.Kind.TheVariants.{Pieces, Chunks}
 use Rattle.sync_core.specs.Fresh.{item_at}

@@ -1,13 +1,12 @@
 -- What always holds of a core lasts under each call.
-use Rattle.std.proofs.Common.{◌≡◌, ℕ, suc, Bool, ◌*◌, ◌<◌, ◌≤◌, ◌^◌, ◌==◌, ◌&&◌, not, List, length, filter, Some, arith}
+use Rattle.std.proofs.Common.{◌≡◌, ℕ, suc, Bool, ◌<◌, ◌≤◌, ◌^◌, ◌==◌, ◌&&◌, not, List, length, filter, Some, arith}
 use Rattle.std.specs.List.{list_any, range_with_len}
 use Rattle.std.proofs.lemmas.List.{length-map}
 use Rattle.std.proofs.lemmas.List.FromFn.{length-range_with_len, length-map-range_with_len}
 use Rattle.std.proofs.lemmas.List.Sums.{length-filter, count_by-le-length}
-use Rattle.format_spec.specs.declared.limits.TheConstants.{MAX_PEERS, MAX_ASKS}
 use Rattle.sync_spec.specs.Messages.{Item, piece, chunk}
-use Rattle.sync_spec.specs.Core.{Core, Wanted, core_at_start, with_items, all_pieces, chunks_without, unasked_item, without_ask, is_old, same_item, is_asked_of, with_ask_now, core_after_turn, next_ask, core_after_send, core_after_failure, core_without_item, core_after_fault}
-use Rattle.sync_spec.proofs.Lasting.{begun_good, pieces_good, chunks_good, turned_good, sent_good, unsent_good, had_good, fault_good}
+use Rattle.sync_spec.specs.Core.{Core, Wanted, with_items, all_pieces, chunks_without, unasked_item, without_ask, is_old, same_item, is_asked_of, with_ask_now, core_after_turn, next_ask, core_after_send, core_after_failure, core_without_item, core_after_fault}
+use Rattle.sync_spec.proofs.Lasting.{pieces_good, chunks_good, turned_good, sent_good, unsent_good, had_good, fault_good}
 use Rattle.sync_core.specs.Views.{HoldsCore}
 
 fewer_kept : {X : Type 0} (p : X → Bool) (xs : List X) → length (filter p xs) ≤ length xs

@@ -1,5 +1,5 @@
 -- What is missing, in two parts: what was asked for at some time, and behind it what never was.
-use Rattle.std.proofs.Common.{◌≡◌, ℕ, ◌+◌, ◌≤◌, ◌||◌, not, cond, if◌then◌else◌, Bool, true, false, List, [], ◌∷◌, ◌++◌, map, filter, find, count_by, Some, None, refl, sym, ap, ◌∙◌, subst, arith}
+use Rattle.std.proofs.Common.{◌≡◌, ℕ, ◌+◌, ◌≤◌, ◌||◌, not, cond, if◌then◌else◌, Bool, true, false, List, [], ◌∷◌, ◌++◌, map, filter, find, count_by, Some, refl, sym, ap, ◌∙◌, subst, arith}
 use Rattle.std.specs.List.{list_any}
 use Rattle.std.specs.Option.{option_or}
 use Rattle.std.proofs.lemmas.Bool.{eq-eqb}
@@ -183,3 +183,34 @@ sent_fresh peer item turn ws (i ∷ is) w f s once =
     left =
         ap (λ b. cond (not b) (i ∷ filter (λ j. not (same_item j item)) is) (filter (λ j. not (same_item j item)) is)) same
         ∙ filter_absent (λ j. same_item j item) is (none_of item is behind)
+
+-- ---- an item that was never asked for
+
+any_counts : {X : Type 0} (p : X → Bool) (xs : List X) → list_any p xs ≡ true → 1 ≤ count_by p xs
+any_counts p [] e = absurd (both_ways e)
+  where
+    both_ways : false ≡ true → ⊥
+    both_ways k = cc
+any_counts p (x ∷ xs) e = by (p x) refl (any_counts p xs)
+  where
+    by : (b : Bool) → p x ≡ b → (list_any p xs ≡ true → 1 ≤ count_by p xs) → 1 ≤ count_by p (x ∷ xs)
+    by true k rest = let c = count_cons p x xs in let o : one_if (p x) ≡ 1 = ap one_if k in omega (arith, c, o)
+    by false k rest =
+        let c = count_cons p x xs in
+        let r = rest (ap (λ b. b || list_any p xs) (sym k) ∙ e) in
+        omega (arith, c, r)
+
+none_counted : {X : Type 0} (p : X → Bool) (xs : List X) → count_by p xs ≡ 0 → list_any p xs ≡ false
+none_counted p xs none = by (list_any p xs) refl
+  where
+    by : (b : Bool) → list_any p xs ≡ b → b ≡ false
+    by true e = absurd (let c = any_counts p xs e in omega (arith, c, none))
+    by false e = refl
+
+-- is none of those that were
+pub fresh_alone : (ws : List Wanted) (is : List Item) (item : Item) → list_any (λ i. same_item i item) is ≡ true → count_by (λ w. same_item w.item item) (missing_of ws is) ≤ 1
+    → ws ≡ filter (λ w. not (same_item w.item item)) ws
+fresh_alone ws is item there once =
+    let c = count_parts (is_of item) ws (all_fresh is) in
+    let one = any_counts (is_of item) (all_fresh is) (any_view unasked_item (is_of item) is ∙ there) in
+    sym (filter_absent (is_of item) ws (none_counted (is_of item) ws (omega (arith, c, one, once))))

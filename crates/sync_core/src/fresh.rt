@@ -113,14 +113,18 @@ impl Fresh {
         }
     }
 
-    fn remove_number(&mut self, number: u32)
+    // The item with this number is no longer there. Answers whether it was.
+    fn remove_number(&mut self, number: u32) -> bool
+        ensures was { result ≡ list_any (λ j. j == number) (numbers_of self.old.links) }
         ensures numbers { numbers_of self.new.links ≡ filter (λ j. not (j == number)) (numbers_of self.old.links) }
         ensures kind { self.new.kind ≡ self.old.kind }
     {
         if self.has_number(number) {
             self.links.unlink(number);
             self.left -= 1;
+            return true;
         }
+        false
     }
 
     /// Whether the item is there.
@@ -133,13 +137,14 @@ impl Fresh {
         }
     }
 
-    /// The item is no longer there.
-    pub(crate) fn remove(&mut self, item: Item)
-        ensures { items_of self.new ≡ filter (λ i. not (same_item i (item_of item))) (items_of self.old) }
+    /// The item is no longer there. Answers whether it was.
+    pub(crate) fn remove(&mut self, item: Item) -> bool
+        ensures was { result ≡ list_any (λ i. same_item i (item_of item)) (items_of self.old) }
+        ensures items { items_of self.new ≡ filter (λ i. not (same_item i (item_of item))) (items_of self.old) }
     {
         match self.kind.number(item) {
             Some(number) => self.remove_number(number),
-            None => {}
+            None => false,
         }
     }
 

@@ -1,6 +1,6 @@
 //! The core of a sync.
 
-ghost use Rattle.std.specs.Prelude.{◌≡◌, ◌<◌, ◌≤◌, ◌^◌, length, Some, IfOk, OnErr, option_map, find};
+ghost use Rattle.std.specs.Prelude.{◌≡◌, ℕ, ◌<◌, ◌≤◌, ◌^◌, length, Some, IfOk, OnErr, option_map, find, slice_index_or};
 ghost use Rattle.format_spec.specs.declared.limits.TheConstants.{MAX_PEERS};
 ghost use Rattle.sync_plan.specs.Views.{item_of};
 ghost use Rattle.sync_spec.specs.Core.{core_at_start, with_items, all_pieces, chunks_without, core_after_turn, next_ask, core_after_send, core_after_failure, verdict, core_after_message, has_item, is_unasked, core_without_item, core_after_fault};
@@ -121,27 +121,29 @@ impl SyncCore {
         self.turn
     }
 
-    // How many asks the peer has.
-    fn asks_of(&self, peer: u32) -> usize
-        ensures { result ≡ asks_of self.now.missing peer }
+    // How many asks each peer has.
+    fn count_asks(&self) -> [usize; MAX_PEERS]
+        ensures { (peer d : ℕ) → peer < MAX_PEERS → slice_index_or result peer d ≡ asks_of self.now.missing peer }
     {
-        count_asks(&self.tried, peer)
+        count_asks(&self.tried)
     }
 
-    // The peer has fewer than three strikes and fewer than four asks.
-    fn may_be_asked(&self, peer: u32) -> bool
-        requires { peer < length self.now.strikes }
+    // The peer, which has so many asks, has fewer than three strikes and fewer than four asks.
+    fn may_be_asked(&self, peer: u32, asks: usize) -> bool
+        requires peer { peer < length self.now.strikes }
+        requires asks { asks ≡ asks_of self.now.missing peer }
         ensures { result ≡ may_ask self.now peer }
     {
-        self.strikes[peer as usize] < MAX_STRIKES as u8 && self.asks_of(peer) < MAX_ASKS
+        self.strikes[peer as usize] < MAX_STRIKES as u8 && asks < MAX_ASKS
     }
 
     // The first peer that may be asked.
     fn first_free(&self) -> Option<u32>
         ensures { result ≡ find (may_ask self.now) (peers_of self.now) }
     {
+        let asks = self.count_asks();
         for peer in 0..self.strikes.len() as u32 {
-            if self.may_be_asked(peer) {
+            if self.may_be_asked(peer, asks[peer as usize]) {
                 return Some(peer);
             }
         }
@@ -198,15 +200,17 @@ impl SyncCore {
     fn is_missing(&self, item: Item) -> bool
         ensures { result ≡ has_item self.now.missing (item_of item) }
     {
-        is_missing(&self.tried, item) || self.fresh.has(item)
+        self.fresh.has(item) || is_missing(&self.tried, item)
     }
 
-    // The item is had.
+    // The item is had. Each item stands once, so those that were asked for are only looked through for one of them.
     fn take(&mut self, item: Item)
         ensures { self.new ≡ core_without_item self.old (item_of item) }
     {
+        if self.fresh.remove(item) {
+            return;
+        }
         remove(&mut self.tried, item);
-        self.fresh.remove(item);
     }
 
     // The peer's ask for the item is given up, and the peer has a strike more.

@@ -1,14 +1,15 @@
 //! Items that were asked for at some time, with their asks.
 
-ghost use Rattle.std.specs.Prelude.{◌≡◌, ◌&&◌, not, map, filter, fold, count_by, find, option_map, is_some, if◌then◌else◌, ◌≤◌, vec_len, vec_capacity, ◌<◌, ◌++◌, ◌∷◌, []};
+ghost use Rattle.std.specs.Prelude.{◌≡◌, ◌&&◌, not, map, filter, fold, find, option_map, is_some, if◌then◌else◌, ◌≤◌, vec_len, vec_capacity, ℕ, ◌<◌, ◌+◌, ◌^◌, ◌++◌, ◌∷◌, [], length, slice_index_or};
 ghost use Rattle.std.specs.Option.{option_copied};
 ghost use Rattle.std.specs.List.{list_any};
+ghost use Rattle.format_spec.specs.declared.limits.TheConstants.{MAX_PEERS as max_peers};
 ghost use Rattle.sync_plan.specs.Views.{item_of};
 ghost use Rattle.sync_spec.specs.Core.{same_item, has_item, is_old as is_old_ask, without_ask, is_asked_of as is_ask_of, asks_of, with_ask_now, is_unasked, with_strike_for_ask};
 ghost use Rattle.sync_core.specs.Views.{wanted_of, all_wanted};
 
 use crate::peers::strike;
-use format_spec::MAX_TURNS;
+use format_spec::{MAX_PEERS, MAX_TURNS};
 use sync_plan::Item;
 
 /// An ask in flight: to this peer, since this turn.
@@ -177,14 +178,27 @@ pub(crate) fn is_missing(missing: &[Wanted], item: Item) -> bool
     is_among(missing, item)
 }
 
-/// How many asks a peer has.
-pub(crate) fn count_asks(missing: &[Wanted], peer: u32) -> usize
-    ensures { result ≡ asks_of (all_wanted missing.now) peer }
+// One ask more of the peer that the item is asked of.
+fn count_ask(asks: &mut [usize], wanted: &Wanted)
+    requires { (peer d : ℕ) → peer < length asks.old → slice_index_or asks.old peer d + 1 < 2 ^ 64 }
+    ensures { (peer d : ℕ) → peer < length asks.old → slice_index_or asks.new peer d ≡ slice_index_or asks.old peer d + asks_of (wanted_of wanted.now ∷ []) peer }
 {
-    missing
-        .iter()
-        .filter(|wanted| is_asked_of(wanted, peer))
-        .count()
+    if let Some(ask) = wanted.ask
+        && (ask.peer as usize) < asks.len()
+    {
+        asks[ask.peer as usize] += 1;
+    }
+}
+
+/// How many asks each peer has.
+pub(crate) fn count_asks(missing: &[Wanted]) -> [usize; MAX_PEERS]
+    ensures { (peer d : ℕ) → peer < max_peers → slice_index_or result peer d ≡ asks_of (all_wanted missing.now) peer }
+{
+    let mut asks = [0; MAX_PEERS];
+    for wanted in missing {
+        count_ask(&mut asks, wanted);
+    }
+    asks
 }
 
 fn find_unasked(missing: &[Wanted]) -> Option<&Wanted>

@@ -3,7 +3,7 @@
 ghost use Rattle.std.specs.Prelude.{◌≡◌, ◌<◌, ◌^◌, [], length, slice_get, Some, true, false, is_some, IsTrue, IfOk, OnErr, IsErrOf};
 ghost use Rattle.io_edge.specs.Faults.{IsCounted};
 ghost use Rattle.sync_spec.specs.Messages.{read_ask};
-ghost use Rattle.peer_model.specs.Calls.{IsPlaced, TakesFirst};
+ghost use Rattle.peer_model.specs.Calls.{TakesFirst};
 ghost use Rattle.sync_serve.specs.Roots.{AsksDisk, Queues, QueuesServed, faults_of};
 ghost use Rattle.sync_serve.specs.Served.{Serves};
 
@@ -78,19 +78,6 @@ impl<D: Disk> RootPeers<D> {
     }
 }
 
-// A message is told, and as many of its bytes as fit are placed.
-fn place(peer: u32, message: &Blob, into: &mut [u8]) -> Taken
-    ensures { IsPlaced peer message.now result into.new }
-{
-    let bytes = message.bytes();
-    let count = bytes.len().min(into.len());
-    into[..count].copy_from_slice(&bytes[..count]);
-    Taken {
-        peer,
-        len: bytes.len(),
-    }
-}
-
 impl<D: Disk> Peers for RootPeers<D> {
     ghost records = { false };
 
@@ -132,7 +119,7 @@ impl<D: Disk> Peers for RootPeers<D> {
         ensures cause { IsCounted (faults_of D.Disk self.old) (faults_of D.Disk self.new) (IsErrOf result PeerError.Fault) }
     {
         match self.waiting.pop_front() {
-            Some((peer, message)) => Ok(Some(place(peer, &message, into))),
+            Some((peer, message)) => Ok(Some(Taken::place(peer, &message, into))),
             None => Ok(None),
         }
     }

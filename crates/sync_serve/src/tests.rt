@@ -3,11 +3,13 @@ ghost use Rattle.sync_spec.specs.Messages.{read_ask};
 
 use crate::{RootPeers, ServeError, Server};
 use byte_codec::{Writer, hex_bytes};
+use disk_folder::FolderDisk;
 use disk_model::{Disk, MemDisk, Name};
 use hash_domain::Hash32;
 use height_store::HeightStore;
 use peer_model::{PeerError, Peers, Taken};
 use std::alloc::Global;
+use std::fs;
 use std::test::Fail;
 use sync_plan::{Ask, Item, Target};
 
@@ -167,5 +169,52 @@ fn a_bad_disk_fails_each_send_and_no_other_peer(rt: HostRuntime) -> Result<(), F
     );
     assert_eq!(rt; buffer[7], 1);
     assert_eq!(rt; peers.next(alloc, &mut buffer), Ok(None));
+    Ok(())
+}
+
+// A folder of this name in the one where the test runs.
+const PATH: &str = "sync_serve_test";
+
+// Makes a folder with that mark and that page file.
+fn make_folder(rt: &HostRuntime) -> Result<(), Fail> {
+    let alloc = rt.alloc();
+    let index = hex_bytes(alloc, INDEX)?;
+    let mut file = Writer::new(alloc);
+    file.bytes(index.bytes())?;
+    file.bytes(&page())?;
+    let mark = hex_bytes(alloc, MARK)?;
+    fs::create_dir(rt, PATH)?;
+    fs::create_dir(rt, "sync_serve_test/mark")?;
+    fs::create_dir(rt, "sync_serve_test/page")?;
+    fs::write(rt, "sync_serve_test/mark/0000000000000001", mark.bytes())?;
+    let file = file.into_blob();
+    fs::write(rt, "sync_serve_test/page/0000000000000000", file.bytes())?;
+    Ok(())
+}
+
+#[test]
+fn a_folder_is_opened_at_the_first_send(rt: HostRuntime) -> Result<(), Fail> {
+    let alloc = rt.alloc();
+    let ask = chunk_ask();
+    let mut buffer = [0; 47];
+    let _ = fs::remove_dir_all(&rt, PATH);
+    let there = FolderDisk::at(&rt, String::from_str(alloc, PATH)?);
+    let absent = FolderDisk::at(&rt, String::from_str(alloc, "sync_serve_absent")?);
+    let mut peers = RootPeers::over(alloc, Vec::from_array(alloc, [there, absent])?)?;
+    make_folder(&rt)?;
+    assert_eq!(rt; peers.send(alloc, 1, &ask), Err(PeerError::Fault));
+    assert_eq!(rt; peers.send(alloc, 0, &ask), Ok(()));
+    assert_eq!(rt;
+        peers.next(alloc, &mut buffer),
+        Ok(Some(Taken {
+            peer: 0,
+            len: 4_142
+        }))
+    );
+    assert_eq!(rt; buffer[44], 0);
+    assert_eq!(rt; buffer[45], 1);
+    assert_eq!(rt; buffer[46], 1);
+    assert_eq!(rt; peers.next(alloc, &mut buffer), Ok(None));
+    fs::remove_dir_all(&rt, PATH)?;
     Ok(())
 }

@@ -1,60 +1,61 @@
-use Rattle.std.proofs.Common.{◌≡◌, ℕ, ◌+◌, ◌-◌, ◌*◌, ◌<◌, ◌≤◌, min, sym, ◌∙◌, ap, subst, arith}
+use Rattle.std.proofs.Common.{ℕ, ◌+◌, ◌-◌, ◌*◌, ◌≤◌, length, take, drop, ◌∙◌, ap, subst, arith}
+use Rattle.std.proofs.lemmas.List.{length-take, length-drop}
+use Rattle.format_spec.specs.Bytes.{Bytes}
 use Rattle.format_spec.specs.declared.limits.TheConstants.{PAGE_SIZE}
-use Rattle.disk_model.specs.State.{DiskState}
-use Rattle.disk_model.specs.OnlyReads.{OnlyReads, reads_only_then, reads_only_more}
-use Rattle.layer_stack.specs.Stacks.{AreLayers}
-use Rattle.height_store.specs.Kept.{HasStacks}
+use Rattle.disk_model.specs.OnlyReads.{OnlyReads}
+use Rattle.layer_stack.specs.Stacks.{pages_from}
 use Rattle.layer_stack.specs.Whole.{layers_whole}
-use Rattle.height_store.proofs.Ranges.{page_of_memory, range_more, size_more, within_memory}
-use Rattle.height_store.proofs.store.PublishedHeight.read_range.Goals as goal
+use Rattle.height_store.proofs.Heights.{some_there}
+use Rattle.height_store.proofs.Ranges.{held, pages_long, range_read, within_memory}
 use Rattle.state_spec.specs.Memory.{pages_holding}
+use Rattle.height_store.proofs.store.PublishedHeight.read_range.Goals as goal
 
--- another page
-next_most : (page first : ℕ) → first ≤ page → PAGE_SIZE * (page - first) + PAGE_SIZE ≡ PAGE_SIZE * (page + 1 - first)
-next_most page first le = omega (arith, le)
+pub read_pages-requires-clause-there : goal.read_pages-requires-clause-there
+read_pages-requires-clause-there g c = some_there _ _ c.requires.within
 
--- is one of those that hold the bytes
-all_most : (page first behind holding : ℕ) → first ≤ page → page < behind → behind ≡ first + holding → PAGE_SIZE * (page - first) + PAGE_SIZE ≤ PAGE_SIZE * holding
-all_most page first behind holding le lt count = omega (arith, le, lt, count)
+pub read_pages-requires-clause-few : goal.read_pages-requires-clause-few
+read_pages-requires-clause-few g c =
+    let long = pages_long _ _ _ _ c.deref.ensures.value c.in_ok-pages.ensures in
+    omega (arith, long, c.pages_of_range-first.ensures.ends, c.requires.at_most)
 
-pub read_page-requires-clause-readable : goal.read_page-requires-clause-readable
-read_page-requires-clause-readable g c = λ told. subst (λ (s : DiskState). HasStacks s.files c.args.self.now) (sym (c.loop-page.invariant.reads_only told).state) (c.requires.readable told)
+pub returns-in_err-bytes-clause-reads_only : goal.returns-in_err-bytes-clause-reads_only
+returns-in_err-bytes-clause-reads_only g c = λ told.
+    subst (λ (most : ℕ). OnlyReads most (g.D.Disk.view c.args.disk.now) (g.D.Disk.view c.read_pages.new.disk))
+    (held _ _ (pages_holding c.args.offset c.args.len) _ _ c.pages_of_range-first.ensures.count c.deref.ensures.value c.in_ok-pages.ensures) (c.read_pages.ensures.reads_only told)
 
-pub returns-in_err-read_page-clause-reads_only : goal.returns-in_err-read_page-clause-reads_only
-returns-in_err-read_page-clause-reads_only g c = λ told.
-    reads_only_more _ (PAGE_SIZE * pages_holding c.args.offset c.args.len) _ _
-    (all_most c.loop-page.page c.pages_of_range-pages.result.0 c.pages_of_range-pages.result.1 (pages_holding c.args.offset c.args.len) c.loop-page.invariant.from c.loop-page-test.true c.pages_of_range-pages.ensures.count)
-    (reads_only_then (PAGE_SIZE * (c.loop-page.page - c.pages_of_range-pages.result.0)) PAGE_SIZE _ _ _ (c.loop-page.invariant.reads_only told) (c.read_page.ensures.reads_only told))
+pub piece_of-requires : goal.piece_of-requires
+piece_of-requires g c =
+    let long = pages_long _ _ _ _ c.deref.ensures.value c.in_ok-pages.ensures in
+    let their = c.pages_of_range-first.ensures in
+    omega (arith, long, c.in_ok-bytes.ensures.size, c.from.ensures, their.begins, their.covers, c.if-len-eq0.false)
 
-pub returns-in_err-extend_from_slice-clause-reads_only : goal.returns-in_err-extend_from_slice-clause-reads_only
-returns-in_err-extend_from_slice-clause-reads_only g c = λ told.
-    reads_only_more _ (PAGE_SIZE * pages_holding c.args.offset c.args.len) _ _
-    (all_most c.loop-page.page c.pages_of_range-pages.result.0 c.pages_of_range-pages.result.1 (pages_holding c.args.offset c.args.len) c.loop-page.invariant.from c.loop-page-test.true c.pages_of_range-pages.ensures.count)
-    (reads_only_then (PAGE_SIZE * (c.loop-page.page - c.pages_of_range-pages.result.0)) PAGE_SIZE _ _ _ (c.loop-page.invariant.reads_only told) (c.read_page.ensures.reads_only told))
+pub returns-in_err-piece_of-clause-reads_only : goal.returns-in_err-piece_of-clause-reads_only
+returns-in_err-piece_of-clause-reads_only g c = λ told.
+    subst (λ (most : ℕ). OnlyReads most (g.D.Disk.view c.args.disk.now) (g.D.Disk.view c.read_pages.new.disk))
+    (held _ _ (pages_holding c.args.offset c.args.len) _ _ c.pages_of_range-first.ensures.count c.deref.ensures.value c.in_ok-pages.ensures) (c.read_pages.ensures.reads_only told)
 
-pub loop-page-preserved : goal.loop-page-preserved
-loop-page-preserved g c =
-    let page = c.loop-page.page in
-    let offset = c.args.offset in
-    let len = c.args.len in
-    let old = g.D.Disk.view c.args.disk.now in
-    let new = g.D.Disk.view c.read_page.new.disk in
-    let soon : offset < page * PAGE_SIZE + PAGE_SIZE = omega (arith, c.pages_of_range-pages.ensures.soon, c.loop-page.invariant.from) in
-    let reached : page * PAGE_SIZE < offset + len = omega (arith, c.pages_of_range-pages.ensures.ends, c.loop-page-test.true) in
-    let from : c.saturating_sub-from.result ≡ offset - page * PAGE_SIZE = c.saturating_sub-from.ensures ∙ ap (λ (n : ℕ). offset - n * PAGE_SIZE) c.from.ensures in
-    let to : c.min-to.result ≡ min (offset + len - page * PAGE_SIZE) PAGE_SIZE = c.min-to.ensures ∙ ap (λ (n : ℕ). min (offset + len - n * PAGE_SIZE) PAGE_SIZE) c.from.ensures in
-    record {
-      from = omega (arith, c.loop-page.invariant.from);
-      until = omega (arith, c.loop-page-test.true);
-      size = size_more offset len page _ _ from to soon reached
-          c.loop-page.bytes.items c.extend_from_slice.new.self.items c.read_page.new.into c.read_page.array_long c.loop-page.invariant.size c.in_ok-extend_from_slice.ensures.items;
-      faults = omega (arith, c.read_page.ensures.cause.never_falls, c.loop-page.invariant.faults);
-      reads_only = λ told. subst (λ (most : ℕ). OnlyReads most old new) (next_most page c.pages_of_range-pages.result.0 c.loop-page.invariant.from)
-          (reads_only_then (PAGE_SIZE * (page - c.pages_of_range-pages.result.0)) PAGE_SIZE old _ new (c.loop-page.invariant.reads_only told) (c.read_page.ensures.reads_only told));
-      bytes = λ told m stack layers of has are.
-          let within = within_memory _ (offset + len) m c.requires.within of in
-          let read = c.in_ok-read_page.ensures.page told stack layers has (subst (λ (s : DiskState). AreLayers s.files stack layers) (sym (c.loop-page.invariant.reads_only told).state) are) in
-          range_more offset len page _ _ from to soon reached _ c.loop-page.bytes.items c.extend_from_slice.new.self.items c.read_page.new.into
-          (read ∙ page_of_memory m.1 page layers (layers_whole old.state.files stack layers are) (omega (arith, within, reached)))
-          (c.loop-page.invariant.bytes told m stack layers of has are) c.in_ok-extend_from_slice.ensures.items;
-    }
+pub returns-clause-reads_only : goal.returns-clause-reads_only
+returns-clause-reads_only g c = λ told.
+    subst (λ (most : ℕ). OnlyReads most (g.D.Disk.view c.args.disk.now) (g.D.Disk.view c.read_pages.new.disk))
+    (held _ _ (pages_holding c.args.offset c.args.len) _ _ c.pages_of_range-first.ensures.count c.deref.ensures.value c.in_ok-pages.ensures) (c.read_pages.ensures.reads_only told)
+
+pub returns-clause-size : goal.returns-clause-size
+returns-clause-size g c =
+    let long = pages_long _ _ _ _ c.deref.ensures.value c.in_ok-pages.ensures in
+    let their = c.pages_of_range-first.ensures in
+    let bytes = c.in_ok-bytes.bytes.items in
+    let from = c.args.offset - c.from.result * PAGE_SIZE in
+    let fits : from + c.args.len ≤ length bytes = omega (arith, long, c.in_ok-bytes.ensures.size, c.from.ensures, their.begins, their.covers, c.if-len-eq0.false) in
+    ap (λ (l : Bytes). length l) c.in_ok-piece_of.ensures ∙ omega (arith, fits, length-take c.args.len (drop from bytes), length-drop from bytes)
+
+pub returns-clause-range : goal.returns-clause-range
+returns-clause-range g c = λ told m stack layers of has are.
+    let first = c.pages_of_range-first.result.0 in
+    let behind = c.pages_of_range-first.result.1 in
+    let their = c.pages_of_range-first.ensures in
+    let bytes = c.in_ok-bytes.bytes.items in
+    let within = within_memory _ (c.args.offset + c.args.len) m c.requires.within of in
+    range_read m.1 first (behind - first) c.args.offset c.args.len layers bytes _ (layers_whole (g.D.Disk.view c.args.disk.now).state.files stack layers are)
+    (omega (arith, within, their.ends, their.count)) their.begins (omega (arith, their.covers, their.count, c.if-len-eq0.false))
+    (c.in_ok-bytes.ensures.pages told stack has layers are ∙ ap (pages_from layers) (c.deref.ensures.value ∙ c.in_ok-pages.ensures))
+    (c.in_ok-piece_of.ensures ∙ ap (λ (n : ℕ). take c.args.len (drop (c.args.offset - n * PAGE_SIZE) bytes)) c.from.ensures)

@@ -9,5 +9,5 @@ invariant_of-self c = record { sound = unlinked_sound c.args.self.now.links c.un
 pub returns-then-has_number-clause-numbers : goal.returns-then-has_number-clause-numbers
 returns-then-has_number-clause-numbers c = ap numbers_of c.unlink.ensures ∙ numbers_without c.args.self.now.links c.args.number ∙ filter_without c.args.number (numbers_of c.args.self.now.links)
 
-pub returns-else-has_number-clause-numbers : goal.returns-else-has_number-clause-numbers
-returns-else-has_number-clause-numbers c = sym (filter_absent (λ j. j == c.args.number) (numbers_of c.args.self.now.links) (sym c.has_number.ensures.has ∙ c.if-has_number.false))
+pub returns-clause-numbers : goal.returns-clause-numbers
+returns-clause-numbers c = sym (filter_absent (λ j. j == c.args.number) (numbers_of c.args.self.now.links) (sym c.has_number.ensures.has ∙ c.if-has_number.false))

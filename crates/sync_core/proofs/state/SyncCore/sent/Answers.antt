@@ -51,7 +51,7 @@ invariant_of-self-in-None c =
     let due = subst (λ (k : Core). next_ask k ≡ Some (c.args.peer, item)) (sym c.self.view_is) c.requires in
     let none = is_not_found item_of (λ (w : spec.Wanted). w.item) None (find is_unasked ws) (c.in-None.ensures ∙ ap (λ (xs : List Wanted). option_map (λ w. w.item) (find is_unasked (all_wanted xs))) c.deref.ensures.value) refl in
     let now = ap all_wanted c.push.ensures.items ∙ map-append wanted_of c.self.inside.tried.items (_ ∷ []) in
-    let e = sent_fresh_is ws _ (items_of c.self.inside.fresh) _ c.self.inside.strikes.items c.self.inside.turn c.args.peer item none due c.self.invariant.good now c.remove.ensures in
+    let e = sent_fresh_is ws _ (items_of c.self.inside.fresh) _ c.self.inside.strikes.items c.self.inside.turn c.args.peer item none due c.self.invariant.good now c.remove.ensures.items in
     let room : vec_capacity c.self.inside.tried ≤ vec_capacity c.push.new.missing = omega (arith, c.push.ensures.room) in
     subst (λ (k : Core). HoldsCore k (vec_capacity c.push.new.missing)) (sym e) (kept_sent _ c.args.peer item _ due (more_room _ _ _ room c.self.invariant))
 
@@ -62,5 +62,5 @@ returns-in-None c =
     let due = subst (λ (k : Core). next_ask k ≡ Some (c.args.peer, item)) (sym c.self.view_is) c.requires in
     let none = is_not_found item_of (λ (w : spec.Wanted). w.item) None (find is_unasked ws) (c.in-None.ensures ∙ ap (λ (xs : List Wanted). option_map (λ w. w.item) (find is_unasked (all_wanted xs))) c.deref.ensures.value) refl in
     let now = ap all_wanted c.push.ensures.items ∙ map-append wanted_of c.self.inside.tried.items (_ ∷ []) in
-    let e = sent_fresh_is ws _ (items_of c.self.inside.fresh) _ c.self.inside.strikes.items c.self.inside.turn c.args.peer item none due c.self.invariant.good now c.remove.ensures in
+    let e = sent_fresh_is ws _ (items_of c.self.inside.fresh) _ c.self.inside.strikes.items c.self.inside.turn c.args.peer item none due c.self.invariant.good now c.remove.ensures.items in
     e ∙ ap (λ (k : Core). core_after_send k c.args.peer item) c.self.view_is
