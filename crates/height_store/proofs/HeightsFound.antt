@@ -45,7 +45,7 @@ any_layers : (n pages : ℕ) (layers : List ℕ) → list_any (λ (naming : ℕ 
 any_layers n pages [] = refl
 any_layers n pages (x ∷ layers) = ap (λ b. nat_eq n x || b) (any_layers n pages layers)
 
-any_memories : (n : ℕ) (ms : List MarkMemory) (fs : List (Bytes × ℕ)) → AllZip FitsMemory ms fs
+any_memories : {v : ℕ} (n : ℕ) (ms : List MarkMemory) (fs : List (Bytes × ℕ)) → AllZip (FitsMemory v) ms fs
     → list_any (λ naming. nat_eq n naming.0) (flat_map memory_namings (zip ms fs)) ≡ list_any (λ memory. list_any (nat_eq n) memory.layers) ms
 any_memories n [] [] fits = refl
 any_memories n [] (f ∷ fs) fits = absurd fits

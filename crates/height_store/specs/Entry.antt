@@ -63,7 +63,7 @@ module _ (files : Files) where
     | inr apart ↦ layer_among n pages numbers layers (sym (rw apart refl) ∙ among) there.1
   ]
 
-  layer_named : (n : ℕ) (ms : List MarkMemory) (memories : List (Bytes × ℕ)) (layers : List (List Layer)) → list_any (λ memory. list_any (nat_eq n) memory.layers) ms ≡ true → AllZip FitsMemory ms memories
+  layer_named : {v : ℕ} (n : ℕ) (ms : List MarkMemory) (memories : List (Bytes × ℕ)) (layers : List (List Layer)) → list_any (λ memory. list_any (nat_eq n) memory.layers) ms ≡ true → AllZip (FitsMemory v) ms memories
       → AllZip (AreLayersOf files) (zip ms memories) layers → (pages : ℕ) × (l : Layer) × IsLayerOf files pages n l
   layer_named n [] memories layers named fits there = absurd (false≢true named)
   layer_named n (m ∷ ms) [] layers named fits there = absurd fits
