@@ -24,17 +24,17 @@ FitsCount m count = length m.sums ≡ part_count CHUNK_PAGES count
 
 -- ---- all files
 
-file_rows : {v : ℕ} (n : ℕ) (ms : List MarkMemory) (fs : List (Bytes × ℕ)) (last : FileSums) → AllZip (FitsMemory v) ms fs
+file_rows : (v n : ℕ) (ms : List MarkMemory) (fs : List (Bytes × ℕ)) (last : FileSums) → AllZip (FitsMemory v) ms fs
     → chunk_rows n (memory_sums fs (map (λ m. m.sums) ms) ++ last ∷ []) ≡ memory_rows n ms (pages_of fs) ++ rows_of (n + length fs) last.size last.hashes
-file_rows n [] [] last fit = let e : n ≡ n + 0 = omega arith in append-nil (rows_of n last.size last.hashes) ∙ ap (λ (k : ℕ). rows_of k last.size last.hashes) e
-file_rows n [] (f ∷ fs) last fit = absurd fit
-file_rows n (m ∷ ms) [] last fit = absurd fit
-file_rows n (m ∷ ms) (f ∷ fs) last fit =
+file_rows v n [] [] last fit = let e : n ≡ n + 0 = omega arith in append-nil (rows_of n last.size last.hashes) ∙ ap (λ (k : ℕ). rows_of k last.size last.hashes) e
+file_rows v n [] (f ∷ fs) last fit = absurd fit
+file_rows v n (m ∷ ms) [] last fit = absurd fit
+file_rows v n (m ∷ ms) (f ∷ fs) last fit =
     let own : List ChunkRow = rows_of n (f.1 * PAGE_SIZE) m.sums in
     let one : suc n ≡ n + 1 = omega arith in
     let e : n + 1 + length fs ≡ n + suc (length fs) = omega arith in
     ap (λ (k : ℕ). own ++ chunk_rows k (memory_sums fs (map (λ m. m.sums) ms) ++ last ∷ [])) one
-    ∙ ap (λ (rows : List ChunkRow). own ++ rows) (file_rows (n + 1) ms fs last fit.1)
+    ∙ ap (λ (rows : List ChunkRow). own ++ rows) (file_rows v (n + 1) ms fs last fit.1)
     ∙ sym (append_assoc own (memory_rows (n + 1) ms (pages_of fs)) (rows_of (n + 1 + length fs) last.size last.hashes))
     ∙ ap (λ (k : ℕ). (own ++ memory_rows (n + 1) ms (pages_of fs)) ++ rows_of k last.size last.hashes) e
 
@@ -56,19 +56,19 @@ mark_rows m s mems pages n size hashes good mems_are pages_are n_is size_is hash
     ∙ ap (λ (k : ℕ). memory_rows 0 m.memories (pages_of fs) ++ rows_of (0 + length fs) k hashes) (size_is ∙ ap (λ (text : Bytes). length text) good.system_spelled)
     ∙ ap (λ (l : List (Option Bytes)). memory_rows 0 m.memories (pages_of fs) ++ rows_of (0 + length fs) (length (system_text s)) l)
     (hashes_are ∙ ap (map Some) good.system_sums ∙ each_has_row (parts CHUNK_SIZE m.system) ∙ ap (chunk_hashes 1) good.system_spelled)
-    ∙ sym (file_rows 0 m.memories fs (sums_of (system_file s)) good.memories_fit)
+    ∙ sym (file_rows m.version 0 m.memories fs (sums_of (system_file s)) good.memories_fit)
 
-counts_fit : {v : ℕ} (ms : List MarkMemory) (fs : List (Bytes × ℕ)) → AllZip (FitsMemory v) ms fs → AllZip FitsCount ms (pages_of fs)
-counts_fit [] [] fit = tt
-counts_fit [] (f ∷ fs) fit = absurd fit
-counts_fit (m ∷ ms) [] fit = absurd fit
-counts_fit (m ∷ ms) (f ∷ fs) fit = (fit.0.each_chunk, counts_fit ms fs fit.1)
+counts_fit : (v : ℕ) (ms : List MarkMemory) (fs : List (Bytes × ℕ)) → AllZip (FitsMemory v) ms fs → AllZip FitsCount ms (pages_of fs)
+counts_fit v [] [] fit = tt
+counts_fit v [] (f ∷ fs) fit = absurd fit
+counts_fit v (m ∷ ms) [] fit = absurd fit
+counts_fit v (m ∷ ms) (f ∷ fs) fit = (fit.0.each_chunk, counts_fit v ms fs fit.1)
 
 -- each memory has as many hashes as its pages give
 pub memories_fit : (m : Mark) (s : SystemPart) (mems : List MarkMemory) (pages : List ℕ) → IsMark m s → mems ≡ m.memories → pages ≡ pages_of (memories_in s) → AllZip FitsCount mems pages
 memories_fit m s mems pages good mems_are pages_are =
     subst (λ (l : List MarkMemory). AllZip FitsCount l pages) (sym mems_are)
-    (subst (λ (l : List ℕ). AllZip FitsCount m.memories l) (sym pages_are) (counts_fit m.memories (memories_in s) good.memories_fit))
+    (subst (λ (l : List ℕ). AllZip FitsCount m.memories l) (sym pages_are) (counts_fit m.version m.memories (memories_in s) good.memories_fit))
 
 part_count_most : (n len : ℕ) → 0 < n → part_count n len ≤ len
 part_count_most n len pos = grind (arith, div_ceil_times len n pos)

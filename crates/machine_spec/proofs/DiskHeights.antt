@@ -1,5 +1,5 @@
 -- The heights that files of bytes open at are heights at which a machine may begin.
-use Rattle.std.proofs.Common.{◌≡◌, ℕ, zero, suc, ◌+◌, ◌*◌, ◌/◌, ◌<◌, ◌==◌, List, [], ◌∷◌, map, reverse, length, drop, zip, position, slice_index, Option, Some, None, option_map, unwrap_or, refl, sym, ap, subst, ◌∙◌, IsTrue, arith, add-one, length-append, length-take, length-drop}
+use Rattle.std.proofs.Common.{◌≡◌, ℕ, ◌+◌, ◌*◌, ◌/◌, ◌<◌, List, [], ◌∷◌, map, length, zip, slice_index, Option, unwrap_or, refl, sym, ap, subst, ◌∙◌, IsTrue, arith, add-one}
 use Rattle.std.proofs.lemmas.Bool.{eqb-true}
 use Rattle.std.specs.List.{AllByRecursion, AllZip}
 use Rattle.std.specs.List.Sorted.{IsStrictlyIncreasing}

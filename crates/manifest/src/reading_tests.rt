@@ -208,14 +208,19 @@ fn canisters_stand_in_the_order_of_their_ids_and_fit_together(rt: HostRuntime) -
     let alloc = rt.alloc();
     let text = hex_bytes(alloc, TEXT)?;
     assert_eq!(rt; text.bytes().len(), 227);
-    for (digits, size, place) in [
-        (b"01".as_slice(), 0, None),
-        (b"10".as_slice(), 0, Some(128)),
-        (b"00".as_slice(), 0, Some(128)),
-        (b"0".as_slice(), 4096, Some(175)),
-        (b"0".as_slice(), (1 << 28) + 4096, Some(29)),
-        (b"012".as_slice(), 1 << 28, Some(261)),
+    for (version, digits, size, place) in [
+        (1, b"01".as_slice(), 0, None),
+        (1, b"10".as_slice(), 0, Some(128)),
+        (1, b"00".as_slice(), 0, Some(128)),
+        (1, b"0".as_slice(), 4096, Some(175)),
+        (1, b"0".as_slice(), (1 << 28) + 4096, Some(29)),
+        (1, b"012".as_slice(), 1 << 28, Some(261)),
+        (2, b"01".as_slice(), 1 << 29, None),
+        (2, b"0".as_slice(), (1 << 29) + 4096, Some(29)),
+        (2, b"012".as_slice(), 1 << 29, Some(261)),
     ] {
+        let text = changed(alloc, text.bytes(), 7, &[version])?;
+        assert_eq!(rt; text.bytes().len(), 227);
         let other = with_canisters(alloc, text.bytes(), digits, size)?;
         assert_eq!(rt; place_of(alloc, other.bytes()), place);
     }

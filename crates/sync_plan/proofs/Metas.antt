@@ -1,5 +1,5 @@
 -- What the text of a meta-manifest begins with, and that its hash is its root hash.
-use Rattle.std.proofs.Common.{◌≡◌, ◌∙◌, ◌^◌, ℕ, Bool, true, false, ◌&&◌, ◌++◌, drop, Option, Some, None, Ok, refl, sym, ap, arith, append_assoc}
+use Rattle.std.proofs.Common.{◌≡◌, ◌∙◌, ◌^◌, ℕ, Bool, true, false, ◌&&◌, ◌++◌, length, drop, Option, Some, None, Ok, refl, sym, ap, arith, append_assoc}
 use Rattle.std.specs.Prelude.{codes}
 use Rattle.std.specs.Int.{w32}
 use Rattle.std.specs.List.{flat_map}

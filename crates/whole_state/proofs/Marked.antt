@@ -1,16 +1,14 @@
 -- The mark of a state whose memories are written whole.
-use Rattle.std.proofs.Common.{◌≡◌, ◌≢◌, ℕ, suc, ◌+◌, ◌-◌, ◌*◌, ◌<◌, ◌≤◌, ◌^◌, ◌==◌, ◌⊎◌, List, [], ◌∷◌, ◌++◌, length, map, Option, drop, AllPairs, inl, inr, refl, sym, ap, subst, ◌∙◌, arith, append_assoc}
-use Rattle.std.specs.List.{enumerate_from, AllByRecursion, AllZip}
+use Rattle.std.proofs.Common.{◌≡◌, ◌≢◌, ℕ, ◌*◌, ◌<◌, ◌≤◌, ◌^◌, ◌==◌, ◌⊎◌, List, [], ◌∷◌, length, map, Option, AllPairs, inl, inr, refl, sym, ap, subst, ◌∙◌, arith}
+use Rattle.std.specs.List.{AllByRecursion, AllZip}
 use Rattle.std.proofs.lemmas.Bool.{cases_Bool, false≢true, eqb-true}
-use Rattle.std.proofs.lemmas.List.{append-nil, length-map, length-append, drop_at}
+use Rattle.std.proofs.lemmas.List.{length-map}
 use Rattle.sha2.proofs.Facts256.{length-sha256}
 use Rattle.format_spec.specs.Bytes.{Bytes, part_count, parts}
-use Rattle.format_spec.specs.Hashes.{ChunkSum, chunk_hash}
-use Rattle.format_spec.specs.declared.limits.TheConstants.{CHUNK_SIZE, CHUNK_PAGES, PAGE_SIZE, MAX_HEIGHT}
+use Rattle.format_spec.specs.Hashes.{chunk_hash}
+use Rattle.format_spec.specs.declared.limits.TheConstants.{CHUNK_SIZE, CHUNK_PAGES, PAGE_SIZE}
 use Rattle.format_spec.proofs.Cuts.{heads}
-use Rattle.state_spec.specs.State.{State, SystemPart, IsSystem, system_of}
-use Rattle.state_spec.specs.SystemText.{system_text}
-use Rattle.state_spec.specs.Files.{system_name, memories_in}
+use Rattle.state_spec.specs.State.{State, system_of}
 use Rattle.state_spec.specs.Manifest.{Manifest, sum_of, chunk_hashes, file_sums, manifest_from}
 use Rattle.state_spec.specs.Root.{root_of, root_of_meta, meta_of}
 use Rattle.store_spec.specs.Mark.{MarkMemory, IsSum, FitsMemory}

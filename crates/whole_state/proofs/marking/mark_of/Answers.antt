@@ -1,4 +1,4 @@
-use Rattle.std.proofs.Common.{◌∙◌, ℕ, List, length, map, ap, refl, sym, subst, Vec, Global, Option}
+use Rattle.std.proofs.Common.{◌∙◌, ℕ, List, map, ap, Vec, Global, Option}
 use Rattle.std.proofs.lemmas.Result.{IfOk-weaker}
 use Rattle.format_spec.specs.Bytes.{Bytes}
 use Rattle.state_spec.specs.Files.{memories_in}
