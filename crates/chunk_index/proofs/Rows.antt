@@ -1,17 +1,18 @@
 -- An index of rows, and one row more.
 use Rattle.std.proofs.Common.{append_assoc, ◌≡◌, ℕ, suc, ◌+◌, ◌*◌, ◌/◌, ◌<◌, ◌&&◌, ◌==◌, Bool, true, false, cond, List, [], ◌∷◌, ◌++◌, length, map, take, get_or, Option, None, Some, is_some, refl, sym, ap, ◌∙◌, subst, arith}
 use Rattle.std.proofs.lemmas.Bool.Decides.{nat_tests}
-use Rattle.std.specs.List.{enumerate_from, find}
+use Rattle.std.specs.List.{enumerate_from, flat_map, find}
 use Rattle.std.specs.Option.{option_map, option_or}
-use Rattle.std.proofs.lemmas.List.{take_more, map_push, length-take}
+use Rattle.std.proofs.lemmas.List.{take_more, map-append, length-take}
 use Rattle.std.proofs.lemmas.List.Folds.{find-append}
+use Rattle.std.proofs.lemmas.List.Concat.{flat_map-append}
 use Rattle.format_spec.specs.Bytes.{Bytes, same_bytes}
 use Rattle.format_spec.specs.Hashes.{ChunkSum}
 use Rattle.format_spec.specs.declared.limits.TheConstants.{CHUNK_SIZE}
 use Rattle.format_spec.proofs.Readings.{same_bytes_is}
-use Rattle.state_spec.specs.Manifest.{ChunkRow, chunk_size_at, chunk_offset}
+use Rattle.state_spec.specs.Manifest.{ChunkRow, chunk_size_at, row_of}
 use Rattle.chunk_index.specs.declared.index.Place.{Place}
-use Rattle.chunk_index.specs.Index.{Places, Indexes, is_chunk, place_of, first_place, row_at, rows_of, place_in}
+use Rattle.chunk_index.specs.Index.{Places, Indexes, is_chunk, place_of, first_place, row_at, rows_at, rows_of, place_in}
 
 -- ---- the first place
 
@@ -94,29 +95,31 @@ enumerate_push {X = X} n (y ∷ xs) x =
     let e : n + 1 + length xs ≡ n + suc (length xs) = omega arith in
     ap (λ (es : List (ℕ × X)). (n, y) ∷ es) (enumerate_push (n + 1) xs x ∙ ap (λ (k : ℕ). enumerate_from (n + 1) xs ++ (k, x) ∷ []) e)
 
-pub rows_more : (file size i : ℕ) (hash : Bytes) (hashes : List Bytes) → i < length hashes → hash ≡ get_or hashes i hash
-    → rows_of file size (take (i + 1) hashes) ≡ rows_of file size (take i hashes) ++ row_at (chunk_size_at size i) hash (record { file = file; chunk = i }) ∷ []
-rows_more file size i hash hashes lt is =
+pub rows_more : (file size i : ℕ) (sum : Option Bytes) (hashes : List (Option Bytes)) → i < length hashes → sum ≡ get_or hashes i sum
+    → rows_of file size (take (i + 1) hashes) ≡ rows_of file size (take i hashes) ++ rows_at (chunk_size_at size i) sum (record { file = file; chunk = i })
+rows_more file size i sum hashes lt is =
     let front = take i hashes in
     let place : 0 + length front ≡ i = omega (arith, length-take i hashes) in
-    let more : take (i + 1) hashes ≡ front ++ hash ∷ [] = take_more hashes i hash lt ∙ ap (λ (h : Bytes). front ++ h ∷ []) (sym is) in
-    let pairs : enumerate_from 0 (take (i + 1) hashes) ≡ enumerate_from 0 front ++ (i, hash) ∷ [] =
-    ap (enumerate_from 0) more ∙ enumerate_push 0 front hash ∙ ap (λ (k : ℕ). enumerate_from 0 front ++ (k, hash) ∷ []) place in
-    ap (λ (es : List (ℕ × Bytes)). map in_file (map sum_at es)) pairs
-    ∙ ap (map in_file) (map_push sum_at (enumerate_from 0 front) (i, hash))
-    ∙ map_push in_file (map sum_at (enumerate_from 0 front)) (sum_at (i, hash))
+    let more : take (i + 1) hashes ≡ front ++ sum ∷ [] = take_more hashes i sum lt ∙ ap (λ (h : Option Bytes). front ++ h ∷ []) (sym is) in
+    let pairs : enumerate_from 0 (take (i + 1) hashes) ≡ enumerate_from 0 front ++ (i, sum) ∷ [] =
+    ap (enumerate_from 0) more ∙ enumerate_push 0 front sum ∙ ap (λ (k : ℕ). enumerate_from 0 front ++ (k, sum) ∷ []) place in
+    ap (λ (es : List (ℕ × Option Bytes)). map in_file (flat_map (row_of size) es)) pairs
+    ∙ ap (map in_file) (flat_map-append (row_of size) (enumerate_from 0 front) ((i, sum) ∷ []))
+    ∙ map-append in_file (flat_map (row_of size) (enumerate_from 0 front)) (flat_map (row_of size) ((i, sum) ∷ []))
+    ∙ ap (λ (rows : List ChunkRow). rows_of file size front ++ rows) (own sum)
   where
-    sum_at : ℕ × Bytes → ChunkSum
-    sum_at e = record { size = chunk_size_at size e.0; offset = chunk_offset e.0; hash = e.1 }
-
     in_file : ChunkSum → ChunkRow
     in_file sum = record { file = file; sum = sum }
 
+    own : (sum : Option Bytes) → map in_file (flat_map (row_of size) ((i, sum) ∷ [])) ≡ rows_at (chunk_size_at size i) sum (record { file = file; chunk = i })
+    own None = refl
+    own (Some hash) = refl
+
 -- one turn of the loop
-pub turn : (file size i : ℕ) (hash : Bytes) (hashes : List Bytes) (rows : List ChunkRow) (old new : Places) → i < length hashes → hash ≡ get_or hashes i hash
-    → ((rs : List ChunkRow) → Indexes old rs → Indexes new (rs ++ row_at (chunk_size_at size i) hash (record { file = file; chunk = i }) ∷ []))
+pub turn : (file size i : ℕ) (sum : Option Bytes) (hashes : List (Option Bytes)) (rows : List ChunkRow) (old new : Places) → i < length hashes → sum ≡ get_or hashes i sum
+    → ((rs : List ChunkRow) → Indexes old rs → Indexes new (rs ++ rows_at (chunk_size_at size i) sum (record { file = file; chunk = i })))
     → Indexes old (rows ++ rows_of file size (take i hashes)) → Indexes new (rows ++ rows_of file size (take (i + 1) hashes))
-turn file size i hash hashes rows old new lt is put so_far =
+turn file size i sum hashes rows old new lt is put so_far =
     subst (Indexes new)
-    (append_assoc rows (rows_of file size (take i hashes)) (row_at (chunk_size_at size i) hash (record { file = file; chunk = i }) ∷ []) ∙ ap (λ (rs : List ChunkRow). rows ++ rs) (sym (rows_more file size i hash hashes lt is)))
+    (append_assoc rows (rows_of file size (take i hashes)) (rows_at (chunk_size_at size i) sum (record { file = file; chunk = i })) ∙ ap (λ (rs : List ChunkRow). rows ++ rs) (sym (rows_more file size i sum hashes lt is)))
     (put (rows ++ rows_of file size (take i hashes)) so_far)

@@ -1,5 +1,5 @@
 -- Where chunks are, by their sizes and hashes.
-use Rattle.std.specs.Prelude.{◌≡◌, ℕ, ◌*◌, ◌/◌, ◌==◌, ◌&&◌, Bool, List, [], map, find, Option}
+use Rattle.std.specs.Prelude.{◌≡◌, ℕ, ◌*◌, ◌/◌, ◌==◌, ◌&&◌, Bool, List, [], ◌∷◌, map, find, Option, Some, None}
 use Rattle.std.specs.Option.{option_map}
 use Rattle.std.specs.Map.{lookup}
 use Rattle.format_spec.specs.Bytes.{Bytes, same_bytes}
@@ -23,13 +23,18 @@ place_of r = record { file = r.file; chunk = r.sum.offset / CHUNK_SIZE }
 abbrev pub first_place : List ChunkRow → ℕ → Bytes → Option Place
 first_place rows size hash = option_map place_of (find (λ r. is_chunk size hash r.sum) rows)
 
--- the rows of a file of this number and size, whose chunks have these hashes
-abbrev pub rows_of : ℕ → ℕ → List Bytes → List ChunkRow
+-- the rows of a file of this number and size, whose chunks have these hashes: None for a chunk that has no row
+abbrev pub rows_of : ℕ → ℕ → List (Option Bytes) → List ChunkRow
 rows_of file size hashes = map (λ sum. record { file = file; sum = sum }) (chunk_sums (record { name = []; size = size; hashes = hashes }))
 
 -- one row: a chunk of this size and hash at this place
 abbrev pub row_at : ℕ → Bytes → Place → ChunkRow
 row_at size hash place = record { file = place.file; sum = record { size = size; offset = place.chunk * CHUNK_SIZE; hash = hash } }
+
+-- the row of a chunk with this sum, and none where it has none
+abbrev pub rows_at : ℕ → Option Bytes → Place → List ChunkRow
+rows_at size None place = []
+rows_at size (Some hash) place = row_at size hash place ∷ []
 
 -- ---- an index
 

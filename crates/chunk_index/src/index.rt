@@ -2,7 +2,7 @@
 
 ghost use Rattle.std.specs.Prelude.{◌≡◌, ◌≤◌, ◌<◌, ◌^◌, ◌++◌, ◌∷◌, [], length, List, IfOk, OnOk};
 ghost use Rattle.state_spec.specs.Manifest.{ChunkRow, chunk_size_at};
-ghost use Rattle.chunk_index.specs.Index.{Indexes, place_in, row_at, rows_of};
+ghost use Rattle.chunk_index.specs.Index.{Indexes, place_in, row_at, rows_of, rows_at};
 
 use byte_codec::NoMemory;
 use format_spec::{CHUNK_SIZE, HASH_SIZE};
@@ -53,22 +53,23 @@ impl ChunkIndex {
     }
 
     /// The index with the chunks of one file more, which comes behind the others: a file of this number and size, whose
-    /// chunks of 1,048,576 bytes have these hashes. NoMemory where memory runs out; the index is given up then.
+    /// chunks of 1,048,576 bytes have these hashes: None is a chunk that has no row, and isn't found. NoMemory where memory
+    /// runs out; the index is given up then.
     pub fn with_file(
         mut self,
         file: u32,
         size: u64,
-        hashes: &[Hash32],
+        hashes: &[Option<Hash32>],
     ) -> Result<ChunkIndex, NoMemory>
         requires { length hashes.now ≤ 2 ^ 32 }
         ensures { (rows : List ChunkRow) → Indexes self rows → IfOk result (λ index. Indexes index (rows ++ rows_of file size hashes.now)) }
     {
-        for (i, hash) in hashes.iter().enumerate() {
+        for (i, sum) in hashes.iter().enumerate() {
             let place = Place {
                 file,
                 chunk: i as u32,
             };
-            put(&mut self.places, size_at(size, i), hash, place)?;
+            put_row(&mut self.places, size_at(size, i), sum, place)?;
         }
         Ok(self)
     }
@@ -89,6 +90,21 @@ fn size_at(size: u64, i: usize) -> u32
 {
     let left = size.saturating_sub(i as u64 * CHUNK_SIZE as u64);
     left.min(CHUNK_SIZE as u64) as u32
+}
+
+// Adds the row of a chunk with this sum, if it has one.
+fn put_row(
+    places: &mut BTreeMap<ChunkKey, Place>,
+    size: u32,
+    sum: &Option<Hash32>,
+    place: Place,
+) -> Result<(), NoMemory>
+    ensures { OnOk result ((rows : List ChunkRow) → Indexes places.old.entries rows → Indexes places.new.entries (rows ++ rows_at size sum.now place)) }
+{
+    match sum {
+        Some(hash) => put(places, size, hash, place),
+        None => Ok(()),
+    }
 }
 
 // Adds a chunk, which comes behind those that the places have.

@@ -6,7 +6,6 @@ use Rattle.std.proofs.lemmas.List.{map_push, length-drop, take_all}
 use Rattle.format_spec.specs.Bytes.{Bytes, parts, part_count}
 use Rattle.format_spec.specs.Hashes.{chunk_hash, chunk_string}
 use Rattle.sha2.specs.Sha256.{digest_bytes, final_hash, initial_hash_256, sha256}
-use Rattle.state_spec.specs.Manifest.{chunk_hashes}
 use Rattle.hash_domain.specs.Counted.{HasFirst}
 
 -- one number more
@@ -34,8 +33,8 @@ first_more hashes new hash bytes k pushed is so_far =
     ap (λ r. map chunk_hash (map (chunk bytes) r)) range ∙ ap (map chunk_hash) (map_push (chunk bytes) (range_with_len 0 k) k) ∙ map_push chunk_hash rows (chunk bytes k) in
     pushed ∙ rw (so_far, is) refl ∙ sym more
 
--- the hashes of all of them are the definition
-pub first_all : (hashes : List Bytes) (bytes : Bytes) (k : ℕ) → k ≡ part_count 1048576 (length bytes) → HasFirst hashes bytes k → hashes ≡ chunk_hashes bytes
+-- the hashes of all of them are those of the parts
+pub first_all : (hashes : List Bytes) (bytes : Bytes) (k : ℕ) → k ≡ part_count 1048576 (length bytes) → HasFirst hashes bytes k → hashes ≡ map chunk_hash (parts 1048576 bytes)
 unfolding HasFirst parts
 first_all hashes bytes k count held = held ∙ ap (λ n. map chunk_hash (map (chunk bytes) (range_with_len 0 n))) count
 

@@ -1,2 +1,4 @@
 pub mod Feeding
 pub mod Counting
+pub mod Zeros
+pub mod Summing

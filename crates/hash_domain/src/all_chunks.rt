@@ -1,9 +1,9 @@
 //! The hashes of the chunks of a file.
 
-ghost use Rattle.std.specs.Prelude.{◌≡◌, ℕ, ◌+◌, ◌*◌, ◌^◌, ◌<◌, ◌≤◌, length, min, slice_index, IfOk, OnOk};
-ghost use Rattle.format_spec.specs.Bytes.{part_count};
+ghost use Rattle.std.specs.Prelude.{◌≡◌, ℕ, ◌+◌, ◌*◌, ◌^◌, ◌<◌, ◌≤◌, length, map, min, slice_index, IfOk, OnOk};
+ghost use Rattle.format_spec.specs.Bytes.{parts, part_count};
+ghost use Rattle.format_spec.specs.Hashes.{chunk_hash as hash_of_chunk};
 ghost use Rattle.format_spec.specs.declared.limits.TheConstants.{CHUNK_SIZE as chunk_size};
-ghost use Rattle.state_spec.specs.Manifest.{chunk_hashes as hashes_of_chunks};
 ghost use Rattle.hash_domain.specs.Counted.{HasFirst};
 
 use crate::chunks::chunk_hash;
@@ -20,7 +20,7 @@ const FEWEST: usize = 5;
 
 /// The hashes of the chunks of these bytes, eight whole chunks at a time. NoMemory where memory runs out.
 pub fn chunk_hashes(alloc: Global, bytes: &[u8]) -> Result<Vec<Hash32>, NoMemory>
-    ensures { IfOk result (λ hashes. hashes.items ≡ hashes_of_chunks bytes.now) }
+    ensures { IfOk result (λ hashes. hashes.items ≡ map hash_of_chunk (parts chunk_size bytes.now)) }
 {
     let count = bytes.len().div_ceil(CHUNK_SIZE);
     let mut hashes = Vec::with_capacity(alloc, count)?;

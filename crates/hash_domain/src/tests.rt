@@ -1,6 +1,6 @@
 use crate::{
-    ChunkHasher, ChunkSum, Hash32, chunk_hash, file_hash, piece_hash, plain_hash, root_hash,
-    tree_empty, tree_fork, tree_label, tree_leaf,
+    ChunkHasher, ChunkSum, Hash32, chunk_hash, file_hash, is_zeros, piece_hash, plain_hash,
+    root_hash, sum_of, tree_empty, tree_fork, tree_label, tree_leaf,
 };
 use std::process::Abort;
 
@@ -25,6 +25,18 @@ fn chunks_hash_as_in_another_program(rt: HostRuntime) {
         &chunk_hash(&[0; 4096]),
         b"\x17\xbb\x16\xd7\x03\xf4\xf5\x88\xec\xf3\xca\xfe\x21\xc2\x64\x8b\xe1\xc6\x7b\x05\x61\x7b\x62\x29\x61\x95\x92\x2f\x19\xf8\xb4\x4e",
     );
+}
+
+#[test]
+fn a_chunk_of_zeros_has_a_sum_in_version_1_alone(rt: HostRuntime) {
+    let mut chunk = [0; 4097];
+    assert!(rt; is_zeros(&chunk));
+    assert!(rt; is_zeros(&[]));
+    assert!(rt; sum_of(2, &chunk).is_none());
+    assert!(rt; sum_of(1, &chunk) == Some(chunk_hash(&chunk)));
+    chunk[4096] = 128;
+    assert!(rt; !is_zeros(&chunk));
+    assert!(rt; sum_of(2, &chunk) == Some(chunk_hash(&chunk)));
 }
 
 #[test]

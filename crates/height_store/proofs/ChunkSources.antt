@@ -96,9 +96,9 @@ with_height height m = (height, m)
 known_manifest : (h : StoredHeight) (p : Published) → KnowsHeight h p → with_height h.mark.height (manifest_in h.mark (part_of h.system)) ≡ with_height p.height (manifest_of p.state)
 known_manifest h p known =
     ap (λ (n : ℕ). with_height n (manifest_in h.mark (part_of h.system))) known.height
-    ∙ ap (λ (v : ℕ). with_height p.height (manifest_from v (file_sums (part_of h.system) (map (λ m. m.sums) h.mark.memories)))) known.good.parts.mark.version
-    ∙ ap (λ (hashes : List (List Bytes)). with_height p.height (manifest_from 1 (file_sums (part_of h.system) hashes))) (sums_are h.mark.memories (memory_bytes p.state) known.sums)
-    ∙ ap (with_height p.height) (of_state p.state (part_of h.system) (memory_bytes p.state) known.sizes known.version known.parts refl)
+    ∙ ap (λ (hashes : List (List (Option Bytes))). with_height p.height (manifest_from h.mark.version (file_sums (part_of h.system) hashes)))
+    (sums_are h.mark.version h.mark.memories (memory_bytes p.state) known.sums)
+    ∙ ap (with_height p.height) (of_state h.mark.version p.state (part_of h.system) (memory_bytes p.state) known.sizes known.version known.parts refl)
 
 pub known_manifests : (hs : List StoredHeight) (ps : List Published) → AllZip KnowsHeight hs ps → manifests_in hs ≡ manifests_of (map (λ p. (p.height, p.state)) ps)
 known_manifests [] [] each = refl

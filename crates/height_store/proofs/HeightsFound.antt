@@ -45,22 +45,22 @@ any_layers : (n pages : ℕ) (layers : List ℕ) → list_any (λ (naming : ℕ 
 any_layers n pages [] = refl
 any_layers n pages (x ∷ layers) = ap (λ b. nat_eq n x || b) (any_layers n pages layers)
 
-any_memories : (n : ℕ) (ms : List MarkMemory) (fs : List (Bytes × ℕ)) → AllZip FitsMemory ms fs
+any_memories : (v n : ℕ) (ms : List MarkMemory) (fs : List (Bytes × ℕ)) → AllZip (FitsMemory v) ms fs
     → list_any (λ naming. nat_eq n naming.0) (flat_map memory_namings (zip ms fs)) ≡ list_any (λ memory. list_any (nat_eq n) memory.layers) ms
-any_memories n [] [] fits = refl
-any_memories n [] (f ∷ fs) fits = absurd fits
-any_memories n (m ∷ ms) [] fits = absurd fits
-any_memories n (m ∷ ms) (f ∷ fs) fits =
+any_memories v n [] [] fits = refl
+any_memories v n [] (f ∷ fs) fits = absurd fits
+any_memories v n (m ∷ ms) [] fits = absurd fits
+any_memories v n (m ∷ ms) (f ∷ fs) fits =
     list_any-append (λ naming. nat_eq n naming.0) (memory_namings (m, f)) (flat_map memory_namings (zip ms fs))
     ∙ ap (λ b. b || list_any (λ naming. nat_eq n naming.0) (flat_map memory_namings (zip ms fs))) (any_layers n f.1 m.layers)
-    ∙ ap (λ b. list_any (nat_eq n) m.layers || b) (any_memories n ms fs fits.1)
+    ∙ ap (λ b. list_any (nat_eq n) m.layers || b) (any_memories v n ms fs fits.1)
 
 any_named : (n : ℕ) (hs : List StoredHeight) → AllByRecursion IsHeight hs
     → list_any (λ naming. nat_eq n naming.0) (namings (map parts_of (map read_of hs))) ≡ is_named hs n
 any_named n [] good = refl
 any_named n (h ∷ hs) good =
     list_any-append (λ naming. nat_eq n naming.0) _ (namings (map parts_of (map read_of hs)))
-    ∙ ap (λ b. b || list_any (λ naming. nat_eq n naming.0) (namings (map parts_of (map read_of hs)))) (any_memories n h.mark.memories _ good.0.parts.mark.memories_fit)
+    ∙ ap (λ b. b || list_any (λ naming. nat_eq n naming.0) (namings (map parts_of (map read_of hs)))) (any_memories h.mark.version n h.mark.memories _ good.0.parts.mark.memories_fit)
     ∙ ap (λ b. list_any (λ memory. list_any (nat_eq n) memory.layers) h.mark.memories || b) (any_named n hs good.1)
 
 -- ---- lists over the marks and over their heights

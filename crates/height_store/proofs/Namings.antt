@@ -48,7 +48,7 @@ rows_zip (m ∷ ms) (f ∷ fs) = ap (λ (l : List (ℕ × ℕ)). map (λ (n : �
 -- a mark has as many memories as its state
 pub as_many : (m : Mark) (s : SystemPart) (mems : List MarkMemory) (pages : List ℕ) → IsMark m s → mems ≡ m.memories → pages ≡ map (λ memory. memory.1) (memories_in s) → length mems ≡ length pages
 as_many m s mems pages good is are =
-    ap (λ (l : List MarkMemory). length l) is ∙ sym (AllZip-long FitsMemory m.memories (memories_in s) good.memories_fit)
+    ap (λ (l : List MarkMemory). length l) is ∙ sym (AllZip-long (FitsMemory m.version) m.memories (memories_in s) good.memories_fit)
     ∙ sym (length-map (memories_in s) (λ (f : Bytes × ℕ). f.1)) ∙ ap (λ (l : List ℕ). length l) (sym are)
 
 pub rows_of_mark : (m : Mark) (s : SystemPart) (mems : List MarkMemory) (pages : List ℕ) → mems ≡ m.memories → pages ≡ map (λ memory. memory.1) (memories_in s) → rows_of mems pages ≡ mark_namings (m, s)

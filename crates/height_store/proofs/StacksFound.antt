@@ -1,5 +1,5 @@
 -- The page files of each memory of a mark.
-use Rattle.std.proofs.Common.{◌≡◌, ℕ, ◌<◌, ◌≤◌, zero, suc, true, nat_eq, List, [], ◌∷◌, ◌++◌, length, map, get_or, refl, sym, ◌∙◌, ap, subst, arith}
+use Rattle.std.proofs.Common.{◌≡◌, ℕ, ◌<◌, ◌≤◌, zero, suc, true, IsTrue, nat_eq, List, [], ◌∷◌, ◌++◌, length, map, get_or, refl, sym, ◌∙◌, ap, subst, arith}
 use Rattle.std.specs.List.{list_any, flat_map, zip, AllByRecursion, AllZip, Contains}
 use Rattle.std.proofs.lemmas.List.{map-append}
 use Rattle.std.proofs.lemmas.List.Elements.{All-from_recursion, All-contains}
@@ -8,7 +8,7 @@ use Rattle.format_spec.specs.declared.limits.TheConstants.{MAX_LAYERS}
 use Rattle.format_spec.proofs.Lists.{all_push, all_parts}
 use Rattle.state_spec.specs.State.{SystemPart}
 use Rattle.state_spec.specs.Files.{memories_in}
-use Rattle.store_spec.specs.Mark.{Mark, MarkMemory, FitsMemory, IsMark}
+use Rattle.store_spec.specs.Mark.{Mark, MarkMemory, FitsMemory, IsMark, is_opened}
 use Rattle.disk_model.specs.Files.{Files}
 use Rattle.page_file.specs.Files.{NumberedFile, IsAsKnown}
 use Rattle.height_store.specs.Bad.{memory_namings, mark_namings, namings}
@@ -27,17 +27,17 @@ module _ (files : List NumberedFile) where
   named_layers [] pages all = tt
   named_layers (n ∷ layers) pages all = (all.0, named_layers layers pages all.1)
 
-  named_memories : (ms : List MarkMemory) (fs : List (Bytes × ℕ)) → AllZip FitsMemory ms fs → AllByRecursion (λ (naming : ℕ × ℕ). IsNamed naming.0) (flat_map memory_namings (zip ms fs)) → AllByRecursion (λ m. AllByRecursion IsNamed m.layers) ms
-  named_memories [] fs fit all = tt
-  named_memories (m ∷ ms) [] fit all = absurd fit
-  named_memories (m ∷ ms) (f ∷ fs) fit all =
+  named_memories : (v : ℕ) (ms : List MarkMemory) (fs : List (Bytes × ℕ)) → AllZip (FitsMemory v) ms fs → AllByRecursion (λ (naming : ℕ × ℕ). IsNamed naming.0) (flat_map memory_namings (zip ms fs)) → AllByRecursion (λ m. AllByRecursion IsNamed m.layers) ms
+  named_memories v [] fs fit all = tt
+  named_memories v (m ∷ ms) [] fit all = absurd fit
+  named_memories v (m ∷ ms) (f ∷ fs) fit all =
       let parts = all_parts (λ (naming : ℕ × ℕ). IsNamed naming.0) (map (λ (n : ℕ). (n, f.1)) m.layers) (flat_map memory_namings (zip ms fs)) all in
-      (named_layers m.layers f.1 parts.0, named_memories ms fs fit.1 parts.1)
+      (named_layers m.layers f.1 parts.0, named_memories v ms fs fit.1 parts.1)
 
   -- every number that a mark's memories name is that of a file
   pub are_named : (m : Mark) (s : SystemPart) (mems : List MarkMemory) → IsMark m s → mems ≡ m.memories → AllByRecursion (λ naming. list_any (nat_eq naming.0) (numbers_of files) ≡ true) (mark_namings (m, s))
       → AllByRecursion (λ m. AllByRecursion (λ number. list_any (nat_eq number) (numbers_of files) ≡ true) m.layers) mems
-  are_named m s mems good is all = subst (AllByRecursion (λ (m : MarkMemory). AllByRecursion IsNamed m.layers)) (sym is) (named_memories m.memories (memories_in s) good.memories_fit all)
+  are_named m s mems good is all = subst (AllByRecursion (λ (m : MarkMemory). AllByRecursion IsNamed m.layers)) (sym is) (named_memories m.version m.memories (memories_in s) good.memories_fit all)
 
   fits_layers : (stack : List NumberedFile) (pages : ℕ) → AllByRecursion (Contains files) stack → AllByRecursion Fits (map (λ n. (n, pages)) (numbers_of stack)) → AllByRecursion (λ file. file.index.memory ≤ pages) stack
   fits_layers [] pages among fits = tt
@@ -50,26 +50,26 @@ module _ (files : List NumberedFile) where
   tail_same : (x y : List ℕ) (xs ys : List (List ℕ)) → x ∷ xs ≡ y ∷ ys → xs ≡ ys
   tail_same x y xs ys e = cc
 
-  fits_memories : (stacks : List (List NumberedFile)) (ms : List MarkMemory) (fs : List (Bytes × ℕ)) → AllZip FitsMemory ms fs → map numbers_of stacks ≡ map (λ m. m.layers) ms
+  fits_memories : (v : ℕ) (stacks : List (List NumberedFile)) (ms : List MarkMemory) (fs : List (Bytes × ℕ)) → AllZip (FitsMemory v) ms fs → map numbers_of stacks ≡ map (λ m. m.layers) ms
       → AllByRecursion (AllByRecursion (Contains files)) stacks → AllByRecursion Fits (flat_map memory_namings (zip ms fs)) → AllZip FitsPages stacks fs
-  fits_memories [] [] [] fit same among fits = tt
-  fits_memories [] [] (f ∷ fs) fit same among fits = absurd fit
-  fits_memories [] (m ∷ ms) fs fit same among fits = absurd (cc)
-  fits_memories (stack ∷ stacks) [] fs fit same among fits = absurd (cc)
-  fits_memories (stack ∷ stacks) (m ∷ ms) [] fit same among fits = absurd fit
-  fits_memories (stack ∷ stacks) (m ∷ ms) (f ∷ fs) fit same among fits =
+  fits_memories v [] [] [] fit same among fits = tt
+  fits_memories v [] [] (f ∷ fs) fit same among fits = absurd fit
+  fits_memories v [] (m ∷ ms) fs fit same among fits = absurd (cc)
+  fits_memories v (stack ∷ stacks) [] fs fit same among fits = absurd (cc)
+  fits_memories v (stack ∷ stacks) (m ∷ ms) [] fit same among fits = absurd fit
+  fits_memories v (stack ∷ stacks) (m ∷ ms) (f ∷ fs) fit same among fits =
       let head = head_same (numbers_of stack) m.layers (map numbers_of stacks) (map (λ (m : MarkMemory). m.layers) ms) same in
       let parts = all_parts Fits (map (λ (n : ℕ). (n, f.1)) m.layers) (flat_map memory_namings (zip ms fs)) fits in (
         fits_layers stack f.1 among.0 (subst (λ (l : List ℕ). AllByRecursion Fits (map (λ (n : ℕ). (n, f.1)) l)) (sym head) parts.0),
-        fits_memories stacks ms fs fit.1 (tail_same (numbers_of stack) m.layers (map numbers_of stacks) (map (λ (m : MarkMemory). m.layers) ms) same) among.1 parts.1,
+        fits_memories v stacks ms fs fit.1 (tail_same (numbers_of stack) m.layers (map numbers_of stacks) (map (λ (m : MarkMemory). m.layers) ms) same) among.1 parts.1,
       )
 
   -- what was found for the memories of a mark fits it
-  pub fits_mark : (m : Mark) (s : SystemPart) (mems : List MarkMemory) (stacks : List (List NumberedFile)) → IsMark m s → mems ≡ m.memories
+  pub fits_mark : (m : Mark) (s : SystemPart) (mems : List MarkMemory) (stacks : List (List NumberedFile)) → IsMark m s → IsTrue (is_opened m.version) → mems ≡ m.memories
       → map numbers_of stacks ≡ map (λ mem. mem.layers) mems → AllByRecursion (AllByRecursion (Contains files)) stacks → FitNamings files (mark_namings (m, s)) → FitsMark m s stacks
-  fits_mark m s mems stacks good is same among fits =
+  fits_mark m s mems stacks good opened is same among fits =
       let numbers = same ∙ ap (map (λ (m : MarkMemory). m.layers)) is in
-      record { mark = good; numbers = numbers; fits = fits_memories stacks m.memories (memories_in s) good.memories_fit numbers among fits }
+      record { mark = good; opened = opened; numbers = numbers; fits = fits_memories m.version stacks m.memories (memories_in s) good.memories_fit numbers among fits }
 
   kept_stack : (all : Files) (stack : List NumberedFile) → AllByRecursion (IsAsKnown all) files → AllByRecursion (Contains files) stack → AllByRecursion (IsAsKnown all) stack
   kept_stack all [] kept among = tt
@@ -79,13 +79,13 @@ module _ (files : List NumberedFile) where
   kept_stacks all [] kept among = tt
   kept_stacks all (stack ∷ stacks) kept among = (kept_stack all stack kept among.0, kept_stacks all stacks kept among.1)
 
-few_memories : (ms : List MarkMemory) (fs : List (Bytes × ℕ)) → AllZip FitsMemory ms fs → AllByRecursion (λ m. length m.layers ≤ MAX_LAYERS) ms
-few_memories [] fs fit = tt
-few_memories (m ∷ ms) [] fit = absurd fit
-few_memories (m ∷ ms) (f ∷ fs) fit = (fit.0.few, few_memories ms fs fit.1)
+few_memories : (v : ℕ) (ms : List MarkMemory) (fs : List (Bytes × ℕ)) → AllZip (FitsMemory v) ms fs → AllByRecursion (λ m. length m.layers ≤ MAX_LAYERS) ms
+few_memories v [] fs fit = tt
+few_memories v (m ∷ ms) [] fit = absurd fit
+few_memories v (m ∷ ms) (f ∷ fs) fit = (fit.0.few, few_memories v ms fs fit.1)
 
 pub are_few : (m : Mark) (s : SystemPart) (mems : List MarkMemory) → IsMark m s → mems ≡ m.memories → AllByRecursion (λ m. length m.layers ≤ MAX_LAYERS) mems
-are_few m s mems good is = subst (AllByRecursion (λ (m : MarkMemory). length m.layers ≤ MAX_LAYERS)) (sym is) (few_memories m.memories (memories_in s) good.memories_fit)
+are_few m s mems good is = subst (AllByRecursion (λ (m : MarkMemory). length m.layers ≤ MAX_LAYERS)) (sym is) (few_memories m.version m.memories (memories_in s) good.memories_fit)
 
 -- ---- the marks one by one
 

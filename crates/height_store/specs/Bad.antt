@@ -1,5 +1,5 @@
 -- Why a disk does not open: the first mark by height that isn't valid, or the first page file by number that isn't.
-use Rattle.std.specs.Prelude.{◌≡◌, ℕ, ◌≤◌, ◌<◌, ◌⊎◌, nat_le, if◌then◌else◌, List, ◌∷◌, ◌++◌, length, map, sum_by, zip, Option, Some, None}
+use Rattle.std.specs.Prelude.{◌≡◌, ℕ, ◌≤◌, ◌<◌, ◌⊎◌, nat_le, if◌then◌else◌, List, ◌∷◌, ◌++◌, length, map, sum_by, zip, Option, Some, None, IsTrue}
 use Rattle.std.specs.List.{flat_map, AllByRecursion}
 use Rattle.format_spec.specs.Bytes.{Bytes}
 use Rattle.format_spec.specs.declared.limits.TheConstants.{MAX_PUBLISHED}
@@ -7,7 +7,7 @@ use Rattle.state_spec.specs.State.{SystemPart}
 use Rattle.state_spec.specs.Files.{memories_in}
 use Rattle.page_spec.specs.PageFile.{PageIndex}
 use Rattle.store_spec.specs.declared.limits.TheConstants.{MAX_MARK}
-use Rattle.store_spec.specs.Mark.{Mark, MarkMemory, IsMarkText}
+use Rattle.store_spec.specs.Mark.{Mark, MarkMemory, IsMarkText, is_opened}
 use Rattle.disk_model.specs.declared.name.Kind.TheVariants as kind
 use Rattle.disk_model.specs.declared.name.Name.TheVariants as name
 use Rattle.disk_model.specs.Files.{Files, IsListing}
@@ -15,11 +15,12 @@ use Rattle.disk_model.specs.View.{DiskView}
 use Rattle.disk_model.specs.OnlyReads.{OnlyReads}
 use Rattle.page_file.specs.Files.{HasPages}
 
--- the mark of this height is this one, of a state with these parts
+-- the mark of this height is this one, of a state with these parts and of a version that stores open
 pub record SpellsMark (files : Files) (height : ℕ) (m : Mark) (s : SystemPart) : Type 0 where
   pub text : Bytes
   pub there : files (name.Mark height) ≡ Some text
   pub spelled : IsMarkText height text m s
+  pub opened : IsTrue (is_opened m.version)
 
 abbrev pub HasGoodMark : Files → ℕ → Type 0
 HasGoodMark files height = (m : Mark) × (s : SystemPart) × SpellsMark files height m s

@@ -63,14 +63,14 @@ module _ (files : Files) where
     | inr apart ↦ layer_among n pages numbers layers (sym (rw apart refl) ∙ among) there.1
   ]
 
-  layer_named : (n : ℕ) (ms : List MarkMemory) (memories : List (Bytes × ℕ)) (layers : List (List Layer)) → list_any (λ memory. list_any (nat_eq n) memory.layers) ms ≡ true → AllZip FitsMemory ms memories
+  layer_named : (v n : ℕ) (ms : List MarkMemory) (memories : List (Bytes × ℕ)) (layers : List (List Layer)) → list_any (λ memory. list_any (nat_eq n) memory.layers) ms ≡ true → AllZip (FitsMemory v) ms memories
       → AllZip (AreLayersOf files) (zip ms memories) layers → (pages : ℕ) × (l : Layer) × IsLayerOf files pages n l
-  layer_named n [] memories layers named fits there = absurd (false≢true named)
-  layer_named n (m ∷ ms) [] layers named fits there = absurd fits
-  layer_named n (m ∷ ms) (memory ∷ memories) [] named fits there = absurd there
-  layer_named n (m ∷ ms) (memory ∷ memories) (l ∷ layers) named fits there = elim (cases_Bool (list_any (nat_eq n) m.layers)) [
+  layer_named v n [] memories layers named fits there = absurd (false≢true named)
+  layer_named v n (m ∷ ms) [] layers named fits there = absurd fits
+  layer_named v n (m ∷ ms) (memory ∷ memories) [] named fits there = absurd there
+  layer_named v n (m ∷ ms) (memory ∷ memories) (l ∷ layers) named fits there = elim (cases_Bool (list_any (nat_eq n) m.layers)) [
     | inl here ↦ let found = layer_among n memory.1 m.layers l here there.0 in (memory.1, found.0, found.1)
-    | inr apart ↦ layer_named n ms memories layers (sym (rw apart refl) ∙ named) fits.1 there.1
+    | inr apart ↦ layer_named v n ms memories layers (sym (rw apart refl) ∙ named) fits.1 there.1
   ]
 
 mark_not_empty : (image : Files) (n : ℕ) → image (name.Mark n) ≡ Some [] → StandsForSome image → ⊥
@@ -84,7 +84,7 @@ page_not_empty image n h named good there empty stands =
     let found = height_among image h.mark.height stands.0 (stands.1.marks.each h.mark.height ∙ ap is_some there) stands.1.each in
     let given = found.2.0 in
     let mark = (mark_given image h.mark (part_of h.system) found.0 good.parts.mark found.1 there given).0 in
-    let layer = layer_named image n given.mark.memories (memories_in given.system) given.layers (ap (λ (m : Mark). mark_names m n) mark ∙ named) given.spelled.good.memories_fit given.layers_there in
+    let layer = layer_named image given.mark.version n given.mark.memories (memories_in given.system) given.layers (ap (λ (m : Mark). mark_names m n) mark ∙ named) given.spelled.good.memories_fit given.layers_there in
     no_page_file layer.1.index layer.1.pages (some_is [] layer.2.text (sym empty ∙ layer.2.there) ∙ layer.2.good.spelled)
 
 -- These heights' marks are on the disk.

@@ -56,7 +56,7 @@ pub record IsMadeOf (files : Files) (m : Mark) (s : SystemPart) (stacks : List (
   pub there : AllZip (AreLayers files) stacks layers
   pub same_state : SameState p.state (state_from m.version p.height s (memories_from s layers))
   pub same_layers : p.layers ≡ map (map (λ l. l.index.numbers)) layers
-  pub true_sums : AllZip HasTrueSums m.memories (memories_from s layers)
+  pub true_sums : AllZip (HasTrueSums m.version) m.memories (memories_from s layers)
 
 -- the mark of a height is there too
 pub record ShowsHeight (files : Files) (h : StoredHeight) (p : Published) : Type 0 where

@@ -13,16 +13,16 @@ use Rattle.state_spec.specs.Root.{root_of}
 use Rattle.height_store.specs.Store.{StoredHeight, IsHeight, height_at}
 
 -- What is known of a published height without its disk: the live state that a store which opens at it has, but for the
--- bytes of its memories, and the hashes of their chunks.
+-- bytes of its memories, and the sums of their chunks.
 pub record KnowsHeight (h : StoredHeight) (p : Published) : Type 0 where
   pub good : IsHeight h
   pub height : h.mark.height ≡ p.height
-  pub version : p.state.version ≡ 1
+  pub version : p.state.version ≡ h.mark.version
   pub parts : system_of p.state ≡ part_of h.system
   pub system : kept_of (opened_state p) ≡ h.system
   pub bytes : memory_bytes (opened_state p) ≡ memory_bytes p.state
   pub sizes : map (λ bytes. length bytes) (memory_bytes p.state) ≡ map (λ m. m.1 * PAGE_SIZE) (memories_in (part_of h.system))
-  pub sums : AllZip HasTrueSums h.mark.memories (memory_bytes p.state)
+  pub sums : AllZip (HasTrueSums h.mark.version) h.mark.memories (memory_bytes p.state)
   pub root : h.mark.root ≡ root_of p.state
   pub same_root : root_of (opened_state p) ≡ root_of p.state
 

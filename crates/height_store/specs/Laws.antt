@@ -26,13 +26,14 @@ use Rattle.page_file.specs.Files.{NumberedFile}
 use Rattle.height_store.specs.Standing.{heights_shown, marks_open}
 use Rattle.height_store.specs.Store.{Store, StoredHeight, IsHeight, height_at, heights_in, mark_names, is_named, is_needed}
 use Rattle.height_store.specs.Kept.{HasStacks, IsReadable, IsWritable, MatchesFiles, IsMadeOf, ShowsHeight, ShowsHeights, KeepsHeights}
-use Rattle.height_store.specs.Shown.{or_left, or_right, listing_apart, stacks_apart, heights_given, same_heights, same_count}
+use Rattle.height_store.specs.Shown.{or_left, or_right, listing_apart, stacks_apart, heights_given, heights_opened, same_heights, same_count}
 
 -- Files that have the marks and page files of some heights stand for them.
 pub shown_stands : (files : Files) (hs : List StoredHeight) (ps : List Published) → ShowsHeights files hs ps → StandsFor files ps
 shown_stands files hs ps shows = record {
   marks = subst (IsListing kind.Mark files) (same_heights files hs ps shows.each) shows.listed;
   few = subst (λ (count : ℕ). count ≤ MAX_PUBLISHED) (same_count files hs ps shows.each) shows.few;
+  versions = heights_opened files hs ps shows.each;
   each = heights_given files hs ps shows.each;
 }
 

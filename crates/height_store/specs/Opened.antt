@@ -1,9 +1,9 @@
 -- What opening a disk gives.
-use Rattle.std.specs.Prelude.{◌≡◌, ℕ, ◌+◌, ◌≤◌, Bool, ◌&&◌, not, false, nat_eq, List, length, map, sum_by, Option, Some, None}
+use Rattle.std.specs.Prelude.{◌≡◌, ℕ, ◌+◌, ◌≤◌, Bool, ◌&&◌, not, false, nat_eq, List, length, map, sum_by, Option, Some, None, IsTrue}
 use Rattle.std.specs.List.{AllByRecursion, list_any}
 use Rattle.state_spec.specs.State.{SystemPart}
 use Rattle.sys_state.specs.System.{System, part_of}
-use Rattle.store_spec.specs.Mark.{Mark, IsMark, mark_text}
+use Rattle.store_spec.specs.Mark.{Mark, IsMark, mark_text, is_opened}
 use Rattle.page_spec.specs.PageFile.{index_length}
 use Rattle.disk_model.specs.declared.name.Kind.{Kind}
 use Rattle.disk_model.specs.declared.name.Name.{Name}
@@ -16,9 +16,10 @@ pub record ReadMark : Type 0 where
   pub mark : Mark
   pub system : System
 
--- it is one of a state with these parts, whose canisters were born at its height
+-- it is one of a state with these parts, of a version that stores open; its canisters were born at its height
 pub record IsReadMark (m : ReadMark) : Type 0 where
   pub good : IsMark m.mark (part_of m.system)
+  pub opened : IsTrue (is_opened m.mark.version)
   pub births : AllByRecursion (λ c. c.1.birth ≡ m.mark.height) m.system.canisters
 
 abbrev pub parts_of : ReadMark → Mark × SystemPart

@@ -1,5 +1,5 @@
 -- A disk with a bad mark or a bad page file does not open.
-use Rattle.std.specs.Prelude.{◌≡◌, ◌⊎◌, ℕ, List, [], ◌∷◌, ◌++◌, length, map, zip, Some}
+use Rattle.std.specs.Prelude.{◌≡◌, ◌⊎◌, ℕ, List, [], ◌∷◌, ◌++◌, length, map, zip, Some, IsTrue}
 use Rattle.std.specs.List.{flat_map, AllByRecursion, AllZip}
 use Rattle.std.proofs.Common.{inl, inr, sym, ◌∙◌, ap, subst, arith, length-append}
 use Rattle.std.proofs.lemmas.List.{length-map}
@@ -8,14 +8,15 @@ use Rattle.format_spec.specs.declared.limits.TheConstants.{MAX_PUBLISHED}
 use Rattle.format_spec.proofs.Cuts.{heads}
 use Rattle.state_spec.specs.State.{SystemPart}
 use Rattle.state_spec.specs.Files.{memories_in}
-use Rattle.store_spec.specs.Image.{Published, IsLayerOf, AreLayersOf, GivesHeight, heights_of, Opens}
+use Rattle.store_spec.specs.Image.{Published, IsLayerOf, AreLayersOf, GivesHeight, memories_from, heights_of, IsOpened, Opens}
 use Rattle.page_spec.specs.Layers.{Layer}
-use Rattle.store_spec.specs.Mark.{Mark, MarkMemory}
+use Rattle.store_spec.specs.Mark.{Mark, MarkMemory, is_opened}
 use Rattle.store_spec.proofs.Images.{listing_once}
 use Rattle.disk_model.specs.declared.name.Kind.TheVariants as kind
 use Rattle.disk_model.specs.Files.{Files}
 use Rattle.height_store.specs.Bad.{SpellsMark, HasGoodMark, IsFirstBadMark, IsFirstBadPage, IsGoodNaming, memory_namings, mark_namings, namings}
 use Rattle.height_store.specs.Standing.{mark_given}
+use Rattle.height_store.specs.Shown.{same_made}
 
 -- ---- lists
 
@@ -30,13 +31,19 @@ at_split P (y ∷ before) x after all = at_split P before x after all.1
 module _ (files : Files) where
   -- ---- marks
 
-  good_mark : (n : ℕ) (p : Published) → n ≡ p.height → GivesHeight files p → HasGoodMark files n
-  good_mark n p same given = (given.mark, given.system, subst (λ (k : ℕ). SpellsMark files k given.mark given.system) (sym same) (record { text = given.text; there = given.there; spelled = given.spelled }))
+  good_mark : (n : ℕ) (p : Published) → n ≡ p.height → IsOpened p → GivesHeight files p → HasGoodMark files n
+  good_mark n p same opened given =
+      let version = same_made p.state given.mark.version p.height given.system (memories_from given.system given.layers) given.same_state in (
+        given.mark,
+        given.system,
+        subst (λ (k : ℕ). SpellsMark files k given.mark given.system) (sym same)
+            (record { text = given.text; there = given.there; spelled = given.spelled; opened = subst (λ (v : ℕ). IsTrue (is_opened v)) version opened }),
+      )
 
-  good_marks : (ns : List ℕ) (ps : List Published) → ns ≡ heights_of ps → AllByRecursion (GivesHeight files) ps → AllByRecursion (HasGoodMark files) ns
-  good_marks [] ps same given = tt
-  good_marks (n ∷ ns) [] same given = absurd cc
-  good_marks (n ∷ ns) (p ∷ ps) same given = let parts = heads n p.height ns (heights_of ps) same in (good_mark n p parts.0 given.0, good_marks ns ps parts.1 given.1)
+  good_marks : (ns : List ℕ) (ps : List Published) → ns ≡ heights_of ps → AllByRecursion IsOpened ps → AllByRecursion (GivesHeight files) ps → AllByRecursion (HasGoodMark files) ns
+  good_marks [] ps same opened given = tt
+  good_marks (n ∷ ns) [] same opened given = absurd cc
+  good_marks (n ∷ ns) (p ∷ ps) same opened given = let parts = heads n p.height ns (heights_of ps) same in (good_mark n p parts.0 opened.0 given.0, good_marks ns ps parts.1 opened.1 given.1)
 
   pub bad_mark_refused : (n : ℕ) → IsFirstBadMark files n → Opens files → ⊥
   bad_mark_refused n bad opens = by bad.bad
@@ -46,7 +53,7 @@ module _ (files : Files) where
 
       by : (length bad.before ≡ MAX_PUBLISHED) ⊎ (HasGoodMark files n → ⊥) → ⊥
       by (inl full) = absurd (omega (arith, full, opens.1.few, ap length same, length-append bad.before (n ∷ bad.after), length-map opens.0 (λ (p : Published). p.height)))
-      by (inr none) = none (at_split (HasGoodMark files) bad.before n bad.after (good_marks (bad.before ++ n ∷ bad.after) opens.0 same opens.1.each))
+      by (inr none) = none (at_split (HasGoodMark files) bad.before n bad.after (good_marks (bad.before ++ n ∷ bad.after) opens.0 same opens.1.versions opens.1.each))
 
   -- ---- page files
 

@@ -1,15 +1,16 @@
 -- The layers of a mark's memories, by the page files that it names.
-use Rattle.std.specs.Prelude.{◌≡◌, ℕ, suc, ◌≤◌, Bool, true, false, ◌||◌, List, [], ◌∷◌, map, length, zip, nat_eq, is_some, refl}
+use Rattle.std.specs.Prelude.{◌≡◌, ℕ, suc, ◌≤◌, Bool, true, false, ◌||◌, List, [], ◌∷◌, map, length, zip, nat_eq, is_some, IsTrue, refl}
 use Rattle.std.specs.List.{AllByRecursion, AllZip, list_any}
 use Rattle.std.proofs.Common.{sym, ◌∙◌, ap, subst, eq-eqb}
 use Rattle.std.proofs.lemmas.Bool.{false≢true}
 use Rattle.format_spec.specs.Bytes.{Bytes}
 use Rattle.format_spec.proofs.Cuts.{heads}
+use Rattle.state_spec.specs.State.{State, SystemPart, SameState, state_from}
 use Rattle.state_spec.specs.Files.{memories_in}
 use Rattle.sys_state.specs.System.{part_of}
-use Rattle.store_spec.specs.Image.{Published, IsLayerOf, AreLayersOf, GivesTrueHeight, heights_of}
+use Rattle.store_spec.specs.Image.{Published, IsLayerOf, AreLayersOf, GivesTrueHeight, memories_from, heights_of, IsOpened}
 use Rattle.page_spec.specs.Layers.{Layer}
-use Rattle.store_spec.specs.Mark.{MarkMemory, mark_text}
+use Rattle.store_spec.specs.Mark.{MarkMemory, mark_text, is_opened}
 use Rattle.page_spec.specs.PageFile.{PageIndex, IsPageFile}
 use Rattle.disk_model.specs.declared.name.Kind.TheVariants as kind
 use Rattle.disk_model.specs.declared.name.Name.TheVariants as name
@@ -63,6 +64,13 @@ module _ (f g : Files) where
         stacks_apart stacks ms layers parts.1 (λ n among. same n (or_right (list_any (nat_eq n) m.layers) (named n) among)) there.1,
       )
 
+-- ---- versions
+
+-- a state that is made of parts and memories, but for births and rounds, is of the version given
+pub same_made : (s : State) (version birth : ℕ) (parts : SystemPart) (memories : List Bytes) → SameState s (state_from version birth parts memories) → s.version ≡ version
+unfolding state_from
+same_made s version birth parts memories same = ap (λ (t : State). t.version) same
+
 -- ---- layers of stacks are those of the mark
 
 module _ (files : Files) where
@@ -115,6 +123,15 @@ module _ (files : Files) where
   heights_given [] (p ∷ ps) each = absurd each
   heights_given (h ∷ hs) [] each = absurd each
   heights_given (h ∷ hs) (p ∷ ps) each = (height_given h p each.0, heights_given hs ps each.1)
+
+  pub heights_opened : (hs : List StoredHeight) (ps : List Published) → AllZip (ShowsHeight files) hs ps → AllByRecursion IsOpened ps
+  heights_opened [] [] each = tt
+  heights_opened [] (p ∷ ps) each = absurd each
+  heights_opened (h ∷ hs) [] each = absurd each
+  heights_opened (h ∷ hs) (p ∷ ps) each = (
+    subst (λ (v : ℕ). IsTrue (is_opened v)) (sym (same_made p.state h.mark.version p.height (part_of h.system) (memories_from (part_of h.system) each.0.made.layers) each.0.made.same_state)) each.0.made.good.opened,
+    heights_opened hs ps each.1,
+  )
 
   pub same_heights : (hs : List StoredHeight) (ps : List Published) → AllZip (ShowsHeight files) hs ps → heights_in hs ≡ heights_of ps
   same_heights [] [] each = refl

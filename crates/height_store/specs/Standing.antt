@@ -1,5 +1,5 @@
 -- The heights that files stand for are those of the marks in a store.
-use Rattle.std.specs.Prelude.{◌≡◌, ℕ, suc, ◌≤◌, List, [], ◌∷◌, map, length, zip, Some, refl}
+use Rattle.std.specs.Prelude.{◌≡◌, ℕ, suc, ◌≤◌, List, [], ◌∷◌, map, length, zip, Some, IsTrue, refl}
 use Rattle.std.specs.List.{AllByRecursion, AllZip}
 use Rattle.std.proofs.Common.{sym, ◌∙◌, ap, subst}
 use Rattle.format_spec.specs.Bytes.{Bytes}
@@ -8,9 +8,9 @@ use Rattle.format_spec.proofs.Cuts.{heads}
 use Rattle.state_spec.specs.State.{SystemPart, state_from}
 use Rattle.state_spec.specs.Files.{memories_in}
 use Rattle.sys_state.specs.System.{part_of}
-use Rattle.store_spec.specs.Image.{Published, IsLayerOf, AreLayersOf, memories_from, GivesHeight, GivesTrueHeight, heights_of, OpensAt, StandsFor}
+use Rattle.store_spec.specs.Image.{Published, IsLayerOf, AreLayersOf, memories_from, GivesHeight, GivesTrueHeight, heights_of, IsOpened, OpensAt, StandsFor}
 use Rattle.page_spec.specs.Layers.{Layer}
-use Rattle.store_spec.specs.Mark.{Mark, MarkMemory, IsMark, IsMarkText, mark_text}
+use Rattle.store_spec.specs.Mark.{Mark, MarkMemory, IsMark, IsMarkText, mark_text, is_opened}
 use Rattle.page_spec.specs.PageFile.{PageIndex, IsPageFile}
 use Rattle.store_spec.proofs.Images.{listing_once}
 use Rattle.store_spec.proofs.Marks.{mark_once}
@@ -26,6 +26,11 @@ use Rattle.height_store.specs.Shown.{stacks_of}
 
 pub some_is : (a b : Bytes) → Some a ≡ Some b → a ≡ b
 some_is a b e = cc
+
+-- a height of a state that is made of parts and memories is of the version given
+opened_by : (version birth : ℕ) (s : SystemPart) (memories : List Bytes) → IsTrue (is_opened version) → IsTrue (is_opened (state_from version birth s memories).version)
+unfolding state_from
+opened_by version birth s memories is = is
 
 module _ (files : Files) where
   -- ---- what a mark's layers are, the page files of the stacks have
@@ -115,7 +120,7 @@ module _ (files : Files) where
   stacks_layers [] kept = ([], tt)
   stacks_layers (stack ∷ stacks) kept = let first = stack_layers stack kept.0 in let more = stacks_layers stacks kept.1 in (first.0 ∷ more.0, (first.1, more.1))
 
-  height_opens : (h : StoredHeight) → IsHeight h → HasMark files h → HasStacks files h → (p : Published) × (h.mark.height ≡ p.height) × GivesHeight files p
+  height_opens : (h : StoredHeight) → IsHeight h → HasMark files h → HasStacks files h → (p : Published) × (h.mark.height ≡ p.height) × IsOpened p × GivesHeight files p
   height_opens h good there kept =
       let found = stacks_layers h.stacks kept in
       let system = part_of h.system in
@@ -123,6 +128,7 @@ module _ (files : Files) where
       let p : Published = record { height = h.mark.height; state = state_from h.mark.version h.mark.height system (memories_from system layers); layers = map (map (λ l. l.index.numbers)) layers } in (
         p,
         refl,
+        opened_by h.mark.version h.mark.height system (memories_from system layers) good.parts.opened,
         record {
           text = mark_text h.mark;
           there = there;
@@ -136,12 +142,12 @@ module _ (files : Files) where
         },
       )
 
-  pub heights_open : (hs : List StoredHeight) → AllByRecursion IsHeight hs → AllByRecursion (HasMark files) hs → AllByRecursion (HasStacks files) hs → (ps : List Published) × (heights_in hs ≡ heights_of ps) × AllByRecursion (GivesHeight files) ps
-  heights_open [] good marks kept = ([], refl, tt)
+  pub heights_open : (hs : List StoredHeight) → AllByRecursion IsHeight hs → AllByRecursion (HasMark files) hs → AllByRecursion (HasStacks files) hs → (ps : List Published) × (heights_in hs ≡ heights_of ps) × AllByRecursion IsOpened ps × AllByRecursion (GivesHeight files) ps
+  heights_open [] good marks kept = ([], refl, tt, tt)
   heights_open (h ∷ hs) good marks kept =
       let first = height_opens h good.0 marks.0 kept.0 in
       let more = heights_open hs good.1 marks.1 kept.1 in
-      (first.0 ∷ more.0, (λ i. first.1 i ∷ more.1 i), (first.2, more.2))
+      (first.0 ∷ more.0, (λ i. first.1 i ∷ more.1 i), (first.2, more.2), (first.3, more.3))
 
   pub marks_open : (hs : List StoredHeight) → AllByRecursion IsHeight hs → length hs ≤ MAX_PUBLISHED → IsListing kind.Mark files (heights_in hs) → AllByRecursion (HasMark files) hs → AllByRecursion (HasStacks files) hs → (ps : List Published) × OpensAt files ps
   marks_open hs good few listed marks kept =
@@ -150,6 +156,7 @@ module _ (files : Files) where
         record {
           marks = subst (IsListing kind.Mark files) found.1 listed;
           few = subst (λ (count : ℕ). count ≤ MAX_PUBLISHED) (sym (equally_many hs found.0 found.1)) few;
-          each = found.2;
+          versions = found.2;
+          each = found.3;
         },
       )

@@ -1,5 +1,5 @@
 -- What a store holds of its published heights.
-use Rattle.std.specs.Prelude.{◌≡◌, ℕ, ◌≤◌, ◌<◌, ◌==◌, Bool, true, false, ◌||◌, [], ◌∷◌, ◌++◌, nat_eq, nat_lt, count_by, ◌+◌, List, length, map, filter, not, find, slice_get, Option}
+use Rattle.std.specs.Prelude.{◌≡◌, ℕ, ◌≤◌, ◌<◌, ◌==◌, Bool, true, false, ◌||◌, [], ◌∷◌, ◌++◌, nat_eq, nat_lt, count_by, ◌+◌, List, length, map, filter, not, find, slice_get, Option, IsTrue}
 use Rattle.std.specs.Option.{option_and_then}
 use Rattle.std.specs.List.{list_any, AllByRecursion, AllZip}
 use Rattle.std.specs.List.Sorted.{IsStrictlyIncreasing}
@@ -9,7 +9,7 @@ use Rattle.height_store.specs.declared.limits.TheConstants.{MAX_GIVEN}
 use Rattle.state_spec.specs.State.{SystemPart}
 use Rattle.state_spec.specs.Files.{memories_in}
 use Rattle.sys_state.specs.System.{System, part_of}
-use Rattle.store_spec.specs.Mark.{Mark, IsMark}
+use Rattle.store_spec.specs.Mark.{Mark, IsMark, is_opened}
 use Rattle.page_file.specs.Files.{NumberedFile}
 use Rattle.disk_model.specs.declared.name.Name.{Name}
 use Rattle.disk_model.specs.declared.name.Name.TheVariants as name
@@ -56,9 +56,10 @@ numbers_of stack = map (λ file. file.number) stack
 abbrev pub FitsPages : List NumberedFile → Bytes × ℕ → Type 0
 FitsPages stack m = AllByRecursion (λ file. file.index.memory ≤ m.1) stack
 
--- a mark of a state with these parts, and the page files that it names
+-- a mark of a state with these parts, of a version that stores open, and the page files that it names
 pub record FitsMark (m : Mark) (s : SystemPart) (stacks : List (List NumberedFile)) : Type 0 where
   pub mark : IsMark m s
+  pub opened : IsTrue (is_opened m.version)
   pub numbers : map numbers_of stacks ≡ map (λ memory. memory.layers) m.memories
   pub fits : AllZip FitsPages stacks (memories_in s)
 

@@ -1,6 +1,6 @@
 //! Chunks of published heights, found by their sizes and hashes.
 
-ghost use Rattle.std.specs.Prelude.{◌≡◌, ◌≤◌, ℕ, List, length, map, IfOk};
+ghost use Rattle.std.specs.Prelude.{◌≡◌, ◌≤◌, ℕ, List, length, map, Some, IfOk};
 ghost use Rattle.std.specs.List.{AllZip};
 ghost use Rattle.format_spec.specs.Bytes.{part_count};
 ghost use Rattle.format_spec.specs.declared.limits.TheConstants.{CHUNK_PAGES};
@@ -61,7 +61,19 @@ pub(crate) fn index_of(alloc: Global, mark: &Mark, sys: &SysState) -> Result<Chu
     let pages = memory_pages(alloc, sys)?;
     let index = index_of_memories(alloc, &mark.mems, &pages)?;
     let size = mark.system.bytes().len() as u64;
-    index.with_file(pages.len() as u32, size, &mark.system_sums)
+    let sums = sums_of(alloc, &mark.system_sums)?;
+    index.with_file(pages.len() as u32, size, &sums)
+}
+
+// The sums of chunks that have these hashes.
+fn sums_of(alloc: Global, hashes: &[Hash32]) -> Result<Vec<Option<Hash32>>, NoMemory>
+    ensures { IfOk result (λ sums. sums.items ≡ map Some hashes.now) }
+{
+    let mut sums = Vec::with_capacity(alloc, hashes.len())?;
+    for hash in hashes {
+        sums.push(Some(*hash))?;
+    }
+    Ok(sums)
 }
 
 // The index of the chunks of memories of so many pages each.

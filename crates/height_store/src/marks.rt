@@ -4,7 +4,7 @@ ghost use Rattle.std.specs.Prelude.{◌≡◌, ◌≤◌, ◌⊎◌, ℕ, map, s
 ghost use Rattle.format_spec.specs.declared.limits.TheConstants.{MAX_PUBLISHED};
 ghost use Rattle.state_spec.specs.State.{SystemPart};
 ghost use Rattle.sys_state.specs.System.{part_of};
-ghost use Rattle.store_spec.specs.Mark.{Mark as Marked, IsMarkText, mark_text};
+ghost use Rattle.store_spec.specs.Mark.{Mark as Marked, IsMarkText, mark_text, is_opened};
 ghost use Rattle.disk_model.specs.declared.name.Kind.TheVariants as kind;
 ghost use Rattle.disk_model.specs.declared.name.Name.TheVariants as name;
 ghost use Rattle.disk_model.specs.Files.{IsListing};
@@ -42,7 +42,7 @@ impl Model for OpenedMark {
 }
 
 /// Reads the marks of these heights, which are all that the disk has, in order.
-/// BadMark for the first that isn't a valid mark of its height or is the seventeenth.
+/// BadMark for the first that isn't a valid mark of its height, is of version 2 or is the seventeenth.
 pub(crate) fn read_marks<D: Disk>(
     alloc: Global,
     disk: &mut D,
@@ -107,14 +107,21 @@ fn read_text<D: Disk>(
     }
 }
 
-// The mark of this height that the bytes spell, with what its system text spells. BadMark where they spell none.
+// The mark of this height that the bytes spell, with what its system text spells. BadMark where they spell none, or one of a
+// version that no store opens.
 fn spelled_mark(alloc: Global, height: u64, text: &[u8]) -> Result<OpenedMark, StoreError>
     ensures spelled { IfOk result (λ m. IsMarkText height text.now m.mark (part_of m.system)) }
-    ensures bad { (n : ℕ) → IsErrOf result (StoreError.BadMark n) → (m : Marked) (s : SystemPart) → IsMarkText height text.now m s → ⊥ }
+    ensures opened { IfOk result (λ m. IsTrue (is_opened m.mark.version)) }
+    ensures bad { (n : ℕ) → IsErrOf result (StoreError.BadMark n) → (m : Marked) (s : SystemPart) → IsMarkText height text.now m s → IsTrue (is_opened m.version) → ⊥ }
     ensures others { IfErr result (λ e. (e ≡ StoreError.BadMark height) ⊎ (e ≡ StoreError.Memory)) }
 {
     match Mark::decode_both(alloc, height, text) {
-        Ok((mark, sys)) => Ok(OpenedMark { mark, sys }),
+        Ok((mark, sys)) => {
+            if mark.version != 1 {
+                return Err(StoreError::BadMark(height));
+            }
+            Ok(OpenedMark { mark, sys })
+        }
         Err(MarkError::BadMark(_)) => Err(StoreError::BadMark(height)),
         Err(MarkError::Memory) => Err(StoreError::Memory),
     }

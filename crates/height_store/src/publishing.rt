@@ -28,8 +28,8 @@ use mark_file::{Mark, MarkError};
 use std::alloc::Global;
 
 impl HeightStore {
-    /// Publishes a height: writes its mark as a draft, seals it, and gives it the mark's name. The mark is one of a state,
-    /// above all heights that are published, of which there are fewer than 16; there is a stack for each memory, with the
+    /// Publishes a height: writes its mark as a draft, seals it, and gives it the mark's name. The mark is one of a state of
+    /// version 1, above all heights that are published, of which there are fewer than 16; there is a stack for each memory, with the
     /// page files that the mark names.
     ///
     /// A crash at any moment leaves the heights before or those after; after Ok it leaves those after. That is said of a disk

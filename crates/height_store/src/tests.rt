@@ -20,6 +20,10 @@ const INDEX: &str =
 const SECOND: &str =
     "49434d4b00000001000000000000000200000024494353590000000100000000000000000000000101000000000000010000000000000000000000010000000000000000beedb2d1fe14d2a1f2a55ea7b1430bc260ce57831e5309b336f370db1bbb1af2000000009d635b144968103bac92fba2f13725393b48f45b945a53c45e01239cfa5c120900d20df6c93dbc5257167f2f6dee380e2b050f12d93f87910c02adf4db8eb77881ec2e8cdbcc96c386efead79fa921fd886f87236e1b59a48a7f6de9cfb48a94";
 
+// The mark of the same state in version 2: a value of the same program.
+const IN_SECOND: &str =
+    "49434d4b0000000200000000000000010000002449435359000000010000000000000000000000010100000000000001000000000000000000000001000000000000000001beedb2d1fe14d2a1f2a55ea7b1430bc260ce57831e5309b336f370db1bbb1af2000000009d635b144968103bac92fba2f13725393b48f45b945a53c45e01239cfa5c120907e11a7015b0664fd03f3429858a142d846d542125c5656a0217321a6704d2d9b37b2afeb3a92c8edb32cfc097b6e091d3575f5a76ed0517617611857666d6bb";
+
 const PAGE_HASH: &str = "beedb2d1fe14d2a1f2a55ea7b1430bc260ce57831e5309b336f370db1bbb1af2";
 
 const SYSTEM_HASH: &str = "9d635b144968103bac92fba2f13725393b48f45b945a53c45e01239cfa5c1209";
@@ -146,6 +150,13 @@ fn bad_files_are_named(rt: HostRuntime) -> Result<(), Fail> {
     assert!(rt; refusal_of(alloc, &mut moved) == Some(StoreError::BadMark(3)));
     let mut bare = disk_of(alloc, 1, 0, false)?;
     assert!(rt; refusal_of(alloc, &mut bare) == Some(StoreError::BadPage(0)));
+    let mut mark = [0; 201];
+    decode_to_slice(IN_SECOND, &mut mark)?;
+    let mut second = MemDisk::new(alloc, Vec::new(alloc), None);
+    second.create(alloc, Name::Mark(1))?;
+    second.append(alloc, Name::Mark(1), &mark)?;
+    second.seal(alloc, Name::Mark(1))?;
+    assert!(rt; refusal_of(alloc, &mut second) == Some(StoreError::BadMark(1)));
     Ok(())
 }
 

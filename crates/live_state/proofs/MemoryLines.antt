@@ -15,7 +15,6 @@ use Rattle.state_spec.proofs.Memories.{grow_pages, write_pages, write_bytes, wri
 use Rattle.sys_state.specs.Calls as calls
 use Rattle.state_spec.specs.Places.{place_of, Stands}
 use Rattle.state_spec.proofs.FileOrder.{length-in_turn, in_turn-append}
-use Rattle.sys_state.specs.System as systems
 use Rattle.sys_state.specs.System.{System, record_of}
 use Rattle.sys_state.specs.declared.error.SysError.{SysError}
 use Rattle.sys_state.specs.declared.error.SysError.TheVariants as errors

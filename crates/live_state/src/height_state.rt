@@ -22,6 +22,7 @@ use crate::canisters::{create_canister, remove_canister};
 use crate::memories::{copy_memories, grow_memory, write_memory};
 use crate::refusals::reply_to;
 use byte_codec::{Blob, NoMemory};
+use format_spec::VERSION;
 use hash_domain::Hash32;
 use hash_tree::StateTree;
 use manifest::{Manifest, count, from_scratch};
@@ -209,7 +210,7 @@ impl HeightState {
         ensures fits { IfOk result FitsText }
     {
         let system = self.sys.encode(alloc)?;
-        from_scratch(alloc, system.bytes(), &self.sys, &self.memories)
+        from_scratch(alloc, system.bytes(), &self.sys, &self.memories, VERSION)
     }
 
     /// The root hash of the manifest of the state, all of whose bytes are hashed.

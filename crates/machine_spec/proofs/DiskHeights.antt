@@ -1,23 +1,25 @@
 -- The heights that files of bytes open at are heights at which a machine may begin.
-use Rattle.std.proofs.Common.{◌≡◌, ℕ, zero, suc, ◌+◌, ◌*◌, ◌/◌, ◌<◌, ◌==◌, List, [], ◌∷◌, map, reverse, length, drop, zip, position, slice_index, Option, Some, None, option_map, unwrap_or, refl, sym, ap, subst, arith, add-one, length-append, length-take, length-drop}
+use Rattle.std.proofs.Common.{◌≡◌, ℕ, ◌+◌, ◌*◌, ◌/◌, ◌<◌, List, [], ◌∷◌, map, length, zip, slice_index, Option, unwrap_or, refl, sym, ap, subst, ◌∙◌, IsTrue, arith, add-one}
+use Rattle.std.proofs.lemmas.Bool.{eqb-true}
 use Rattle.std.specs.List.{AllByRecursion, AllZip}
 use Rattle.std.specs.List.Sorted.{IsStrictlyIncreasing}
 use Rattle.format_spec.specs.Bytes.{Bytes, IsBytes}
 use Rattle.format_spec.specs.declared.limits.TheConstants.{PAGE_SIZE}
+use Rattle.format_spec.specs.Versions.{is_version}
 use Rattle.format_spec.proofs.Lists.{all_weaker}
-use Rattle.state_spec.specs.State.{CanisterPart, IsByteCanister, IsMemory, IsState, IsSystem, SystemPart, canisters_from, state_from, system_of}
+use Rattle.state_spec.specs.State.{State, CanisterPart, IsByteCanister, IsMemory, IsState, IsSystem, SystemPart, canisters_from, state_from, system_of}
 use Rattle.state_spec.specs.SystemText.{system_text}
 use Rattle.state_spec.specs.Files.{memory_pages}
 use Rattle.disk_model.specs.declared.name.Name.TheVariants as name
 use Rattle.disk_model.specs.Files.{Files}
 use Rattle.disk_model.specs.OfBytes.{AreOfBytes}
-use Rattle.store_spec.specs.Image.{Published, IsLayerOf, AreLayersOf, GivesHeight, OpensAt, GivesTrueHeight, StandsFor, heights_of, memories_from}
+use Rattle.store_spec.specs.Image.{Published, IsOpened, IsLayerOf, AreLayersOf, GivesHeight, OpensAt, GivesTrueHeight, StandsFor, heights_of, memories_from}
 use Rattle.page_spec.specs.Layers.{Layer, memory_from}
 use Rattle.page_spec.specs.Whole.{IsWhole, length-memory_from}
 use Rattle.store_spec.specs.Mark.{MarkMemory, FitsMemory}
 use Rattle.machine_spec.specs.Sound.{Ascend, AreHeights, MayBegin}
 use Rattle.machine_spec.proofs.Canisters.{Canisters}
-use Rattle.machine_spec.proofs.Opened.{same_valid}
+use Rattle.machine_spec.proofs.Opened.{same_valid, same_version}
 use Rattle.machine_spec.proofs.TextBytes.{file_bytes, mark_bytes, memory_bytes}
 use Rattle.machine_spec.proofs.Valid.{part}
 use Rattle.state_spec.proofs.TextBytes.{HasBytes, system_bytes}
@@ -83,17 +85,17 @@ whole_pages n bytes is = record { whole_pages = omega (arith, is.long) }
 as_many : (n : ℕ) (bytes : Bytes) → IsOf n bytes → length bytes / PAGE_SIZE ≡ n
 as_many n bytes is = omega (arith, is.long)
 
-built : (files : Files) → AreOfBytes files → (h : ℕ) (cs : Parts) (ms : List MarkMemory) (ls : List (List Layer)) → AllByRecursion HasBytes cs → AllZip FitsMemory ms (memory_pages cs) → AllZip (AreLayersOf files) (zip ms (memory_pages cs)) ls
+built : (files : Files) → AreOfBytes files → (h version : ℕ) (cs : Parts) (ms : List MarkMemory) (ls : List (List Layer)) → AllByRecursion HasBytes cs → AllZip (FitsMemory version) ms (memory_pages cs) → AllZip (AreLayersOf files) (zip ms (memory_pages cs)) ls
     → Built h cs ls
-built files all h [] [] [] strings fits there = record { same = refl; whole = tt; bytes = tt }
-built files all h [] [] (l ∷ ls) strings fits there = absurd there
-built files all h [] (m ∷ ms) ls strings fits there = absurd fits
-built files all h (c ∷ cs) [] ls strings fits there = absurd fits
-built files all h (c ∷ cs) (a ∷ []) ls strings fits there = absurd fits.1
-built files all h (c ∷ cs) (a ∷ b ∷ ms) [] strings fits there = absurd there
-built files all h (c ∷ cs) (a ∷ b ∷ ms) (x ∷ []) strings fits there = absurd there.1
-built files all h (c ∷ cs) (a ∷ b ∷ ms) (x ∷ y ∷ ls) strings fits there =
-    let rest = built files all h cs ms ls strings.1 fits.1.1 there.1.1 in
+built files all h version [] [] [] strings fits there = record { same = refl; whole = tt; bytes = tt }
+built files all h version [] [] (l ∷ ls) strings fits there = absurd there
+built files all h version [] (m ∷ ms) ls strings fits there = absurd fits
+built files all h version (c ∷ cs) [] ls strings fits there = absurd fits
+built files all h version (c ∷ cs) (a ∷ []) ls strings fits there = absurd fits.1
+built files all h version (c ∷ cs) (a ∷ b ∷ ms) [] strings fits there = absurd there
+built files all h version (c ∷ cs) (a ∷ b ∷ ms) (x ∷ []) strings fits there = absurd there.1
+built files all h version (c ∷ cs) (a ∷ b ∷ ms) (x ∷ y ∷ ls) strings fits there =
+    let rest = built files all h version cs ms ls strings.1 fits.1.1 there.1.1 in
     let heap = one_memory files all a.layers c.1.heap x there.0 in
     let stable = one_memory files all b.layers c.1.stable y there.1.0 in
     let heap_pages = as_many c.1.heap (memory_from c.1.heap x) heap in
@@ -106,12 +108,12 @@ built files all h (c ∷ cs) (a ∷ b ∷ ms) (x ∷ y ∷ ls) strings fits ther
 
 -- ---- a height
 
-made_valid : (files : Files) → AreOfBytes files → (h version : ℕ) (s : SystemPart) (ms : List MarkMemory) (ls : List (List Layer)) → version ≡ 1 → IsSystem version s → IsBytes (system_text s)
-    → AllZip FitsMemory ms (memory_pages s.canisters) → AllZip (AreLayersOf files) (zip ms (memory_pages s.canisters)) ls → IsState (state_from version h s (memories_from s ls))
+made_valid : (files : Files) → AreOfBytes files → (h version : ℕ) (s : SystemPart) (ms : List MarkMemory) (ls : List (List Layer)) → IsTrue (is_version version) → IsSystem version s → IsBytes (system_text s)
+    → AllZip (FitsMemory version) ms (memory_pages s.canisters) → AllZip (AreLayersOf files) (zip ms (memory_pages s.canisters)) ls → IsState (state_from version h s (memories_from s ls))
 unfolding state_from system_of
 made_valid files all h version s ms ls is good text fits there =
     let strings = system_bytes s text in
-    let b = built files all h s.canisters ms ls strings.0 fits there in
+    let b = built files all h version s.canisters ms ls strings.0 fits there in
     let same : system_of (state_from version h s (memories_from s ls)) ≡ s = λ i. record { time = s.time; canisters = b.same i; entries = s.entries } in
     record {
       version = is;
@@ -120,22 +122,30 @@ made_valid files all h version s ms ls is good text fits there =
       bytes = record { canisters = b.bytes; entries = strings.1 };
     }
 
-given_begins : (files : Files) → AreOfBytes files → (p : Published) → GivesHeight files p → MayBegin p
-given_begins files all p g =
+given_begins : (files : Files) → AreOfBytes files → (p : Published) → IsOpened p → GivesHeight files p → MayBegin p
+given_begins files all p opened g =
     let text : IsBytes g.text = subst (λ (o : Option Bytes). IsBytes (unwrap_or o [])) g.there (all (name.Mark p.height)) in
+    let first : p.state.version ≡ 1 = eqb-true p.state.version 1 opened in
+    let given : State = state_from g.mark.version p.height g.system (memories_from g.system g.layers) in
     let system : IsBytes (system_text g.system) = subst IsBytes g.spelled.good.system_spelled (mark_bytes g.mark (subst IsBytes g.spelled.spelled text)) in
     record {
       from_one = omega (arith, g.spelled.good.from_one, g.spelled.of_height);
-      valid = same_valid (state_from g.mark.version p.height g.system (memories_from g.system g.layers)) p.state (sym g.same_state)
-          (made_valid files all p.height g.mark.version g.system g.mark.memories g.layers g.spelled.good.version g.spelled.good.system_good system g.spelled.good.memories_fit g.layers_there);
+      valid = same_valid given p.state (sym g.same_state)
+          (made_valid files all p.height g.mark.version g.system g.mark.memories g.layers g.spelled.good.version g.spelled.good.system_good system g.spelled.good.memories_fit g.layers_there)
+          (sym (same_version p.state given g.same_state) ∙ first);
+      version = first;
     }
+
+each_begins : (files : Files) → AreOfBytes files → (ps : List Published) → AllByRecursion IsOpened ps → AllByRecursion (GivesHeight files) ps → AllByRecursion MayBegin ps
+each_begins files all [] opened given = tt
+each_begins files all (p ∷ ps) opened given = (given_begins files all p opened.0 given.0, each_begins files all ps opened.1 given.1)
 
 pub opened_heights : (files : Files) (ps : List Published) → AreOfBytes files → OpensAt files ps → AreHeights ps
 opened_heights files ps all o = record {
   ascend = ascend_of (heights_of ps) o.marks.ascending;
   few = o.few;
-  each = all_weaker (GivesHeight files) MayBegin (given_begins files all) ps o.each;
+  each = each_begins files all ps o.versions o.each;
 }
 
 pub standing_heights : (files : Files) (ps : List Published) → AreOfBytes files → StandsFor files ps → AreHeights ps
-standing_heights files ps all h = opened_heights files ps all (record { marks = h.marks; few = h.few; each = all_weaker (GivesTrueHeight files) (GivesHeight files) (λ p t. t.0) ps h.each })
+standing_heights files ps all h = opened_heights files ps all (record { marks = h.marks; few = h.few; versions = h.versions; each = all_weaker (GivesTrueHeight files) (GivesHeight files) (λ p t. t.0) ps h.each })

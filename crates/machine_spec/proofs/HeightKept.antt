@@ -132,7 +132,7 @@ checkpoint_sound m k s last high few =
       published = record {
         ascend = subst Ascend (sym (map_longer (λ (p : Published). p.height) m.published p)) (later_one Below (heights_of m.published) k.0 s.published.ascend (to_map (λ p. p.height) (λ x. x < k.0) m.published over));
         few = omega (arith, few, length-append m.published (p ∷ []));
-        each = all_join MayBegin m.published (p ∷ []) s.published.each (record { from_one = positive; valid = whole.valid }, tt);
+        each = all_join MayBegin m.published (p ∷ []) s.published.each (record { from_one = positive; valid = whole.valid; version = whole.version }, tt);
       };
       above = all_join (λ p. p.height < m.height) m.published (p ∷ []) s.above (under, tt);
       few_in_memory = s.few_in_memory;

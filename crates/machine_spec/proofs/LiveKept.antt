@@ -70,13 +70,13 @@ pub time_kept : (m : Machine) (n : ℕ) → IsCommand (commands.Time n) → IsSo
 time_kept m n c s =
     let old : IsState m.live = s.live.valid in
     with_memories m (record m.live { time = n }) s
-    (record { valid = valid_from (record m.live { time = n }) old.version c.types (canisters_of m.live old) (entries_of m.live old); rounds = s.live.rounds }) (λ P all. all)
+    (record { valid = valid_from (record m.live { time = n }) s.live.version c.types (canisters_of m.live old s.live.version) (entries_of m.live old s.live.version); version = s.live.version; rounds = s.live.rounds }) (λ P all. all)
 
 entries_kept : (m : Machine) (es : List (List Bytes × Bytes)) → AreEntries es → IsSound m → IsSound (record m { live = record m.live { entries = es } })
 entries_kept m es good s =
     let old : IsState m.live = s.live.valid in
     with_memories m (record m.live { entries = es }) s
-    (record { valid = valid_from (record m.live { entries = es }) old.version (time_of m.live old) (canisters_of m.live old) good; rounds = s.live.rounds }) (λ P all. all)
+    (record { valid = valid_from (record m.live { entries = es }) s.live.version (time_of m.live old s.live.version) (canisters_of m.live old s.live.version) good; version = s.live.version; rounds = s.live.rounds }) (λ P all. all)
 
 pub put_kept : (m : Machine) (path : List Bytes) (value : Bytes) → IsCommand (commands.Put path value) → IsSound m → IsSound (put_step m path value).after
 put_kept m path value c s =
@@ -87,7 +87,7 @@ put_kept m path value c s =
     ∷ []
     ) m (λ m. now_live m (record m.live { entries = put path_cmp path value m.live.entries })) s (λ none.
     entries_kept m (put path_cmp path value m.live.entries)
-    (entry_set m.live.entries (entries_of m.live s.live.valid) path value none.0 none.1.0 none.1.1.0 c.types.0 c.types.1 c.types.2 c.form) s)
+    (entry_set m.live.entries (entries_of m.live s.live.valid s.live.version) path value none.0 none.1.0 none.1.1.0 c.types.0 c.types.1 c.types.2 c.form) s)
 
 pub del_kept : (m : Machine) (path : List Bytes) → IsSound m → IsSound (del_step m path).after
 del_kept m path s =
@@ -98,7 +98,7 @@ del_kept m path s =
     entries_kept m (without path_cmp path m.live.entries) (gone (find path_cmp path m.live.entries) refl none.0) s)
   where
     gone : (o : Option Bytes) → find path_cmp path m.live.entries ≡ o → not (is_some o) ≡ false → AreEntries (without path_cmp path m.live.entries)
-    gone (Some value) e there = entry_gone m.live.entries (entries_of m.live s.live.valid) path value e
+    gone (Some value) e there = entry_gone m.live.entries (entries_of m.live s.live.valid s.live.version) path value e
     gone None e there = absurd cc
 
 -- ---- a canister
@@ -107,18 +107,19 @@ del_kept m path s =
 with_canisters : (m : Machine) (cs : Canisters) → IsSound m → AreGood cs → IsState (record m.live { canisters = cs })
 with_canisters m cs s good =
     let old : IsState m.live = s.live.valid in
-    valid_from (record m.live { canisters = cs }) old.version (time_of m.live old) good (entries_of m.live old)
+    valid_from (record m.live { canisters = cs }) s.live.version (time_of m.live old s.live.version) good (entries_of m.live old s.live.version)
 
 -- a canister of the same memories
 same_memories : (m : Machine) (id : Bytes) (c d : Canister) → canister_in m.live id ≡ Some c → IsSound m
     → (IsGood (id, c) → IsGood (id, d)) → pages_in (part_of d) ≡ pages_in (part_of c)
     → ((P : NamedMemory → Type 0) → AllByRecursion P (named_memories ((id, c) ∷ [])) → AllByRecursion P (named_memories ((id, d) ∷ []))) → IsSound (record m { live = with_canister m.live id d })
 same_memories m id c d found s step size same =
-    let good : AreGood m.live.canisters = canisters_of m.live s.live.valid in
+    let good : AreGood m.live.canisters = canisters_of m.live s.live.valid s.live.version in
     let all : (P : NamedMemory → Type 0) → AllByRecursion P (memories_of m.live) → AllByRecursion P (memories_of (with_canister m.live id d)) =
     λ P h. with_one P id d m.live.canisters h (same P (of_found P id c m.live.canisters found h)) in
     with_memories m (with_canister m.live id d) s (record {
       valid = with_canisters m (put bytes_cmp id d m.live.canisters) s (changed id c d m.live.canisters good found step (omega (arith, good.room, size)));
+      version = s.live.version;
       rounds = all (λ n. HasPageRounds n.memory) s.live.rounds;
     }) all
 
@@ -138,7 +139,8 @@ pub drop_kept : (m : Machine) (id : Bytes) → IsSound m → IsSound (drop_step 
 drop_kept m id s = if_some IsSound (canister_in m.live id) NoCanister m (λ c. now_live m (without_canister m.live id)) s (λ c found.
     let all : (P : NamedMemory → Type 0) → AllByRecursion P (memories_of m.live) → AllByRecursion P (memories_of (without_canister m.live id)) = λ P h. without_one P id m.live.canisters h in
     with_memories m (without_canister m.live id) s (record {
-      valid = with_canisters m (without bytes_cmp id m.live.canisters) s (removed id m.live.canisters (canisters_of m.live s.live.valid));
+      valid = with_canisters m (without bytes_cmp id m.live.canisters) s (removed id m.live.canisters (canisters_of m.live s.live.valid s.live.version));
+      version = s.live.version;
       rounds = all (λ n. HasPageRounds n.memory) s.live.rounds;
     }) all)
 
@@ -153,7 +155,8 @@ canister_kept m id fits s =
     let cs = m.live.canisters in
     with_live m (with_canister m.live id c) s (record {
       valid = with_canisters m (put bytes_cmp id c cs) s
-          (created id c cs (canisters_of m.live s.live.valid) (newborn_good id m.height fits.types.0 fits.types.1) refl (leb-false MAX_CANISTERS (length cs) none.1.0));
+          (created id c cs (canisters_of m.live s.live.valid s.live.version) (newborn_good id m.height fits.types.0 fits.types.1) refl (leb-false MAX_CANISTERS (length cs) none.1.0));
+      version = s.live.version;
       rounds = with_one (λ n. HasPageRounds n.memory) id c cs s.live.rounds (no_rounds, (no_rounds, tt));
     }) (with_one (IsBornBy m.height) id c cs (live_within m s) (record { birth = omega arith; rounds = tt }, (record { birth = omega arith; rounds = tt }, tt))))
 
@@ -172,7 +175,8 @@ changed_kept m id mem c new found s follows sum rounds low =
     λ P h f. with_one P id d cs h (with_other P id c mem new (of_found P id c cs found h) f) in
     with_live m (with_canister m.live id d) s (record {
       valid = with_canisters m (put bytes_cmp id d cs) s
-          (changed id c d cs (canisters_of m.live s.live.valid) found (with_new id c mem new follows) (omega (arith, sum, all_pages_are m.live, new_pages c mem new)));
+          (changed id c d cs (canisters_of m.live s.live.valid s.live.version) found (with_new id c mem new follows) (omega (arith, sum, all_pages_are m.live, new_pages c mem new)));
+      version = s.live.version;
       rounds = one (λ n. HasPageRounds n.memory) s.live.rounds rounds;
     }) (one (IsBornBy m.height) (live_within m s) (λ born. record { birth = born.birth; rounds = low born.rounds }))
 
@@ -189,8 +193,8 @@ grow_kept m id mem n s =
     ∷ []
     ) m (λ m. now_live m (with_canister m.live id (with_memory c mem (grow (memory_of c mem) n)))) s (λ none.
     let old : Memory = memory_of c mem in
-    let few : pages_of old + n ≤ memory_limit 1 = subst (λ (v : ℕ). pages_of old + n ≤ memory_limit v) s.live.valid.version (ltb-false (memory_limit m.live.version) (pages_of old + n) none.0) in
-    let sum : state_pages m.live + n ≤ state_limit 1 = subst (λ (v : ℕ). state_pages m.live + n ≤ state_limit v) s.live.valid.version (ltb-false (state_limit m.live.version) (state_pages m.live + n) none.1.0) in
+    let few : pages_of old + n ≤ memory_limit 1 = subst (λ (v : ℕ). pages_of old + n ≤ memory_limit v) s.live.version (ltb-false (memory_limit m.live.version) (pages_of old + n) none.0) in
+    let sum : state_pages m.live + n ≤ state_limit 1 = subst (λ (v : ℕ). state_pages m.live + n ≤ state_limit v) s.live.version (ltb-false (state_limit m.live.version) (state_pages m.live + n) none.1.0) in
     changed_kept m id mem c (grow old n) found s
     (record { whole = grow_good old n; bytes = grow_bytes old n; few = λ _. omega (arith, few, grow_pages old n) })
     (omega (arith, sum, grow_pages old n)) (grow_keeps_rounds old n)
@@ -211,9 +215,9 @@ write_kept m id mem at bytes fits s =
     let old : Memory = memory_of c mem in
     let size : ℕ = pages_with old at (length bytes) in
     let within : at + length bytes ≤ memory_limit 1 * PAGE_SIZE =
-    subst (λ (v : ℕ). at + length bytes ≤ memory_limit v * PAGE_SIZE) s.live.valid.version (ltb-false (memory_limit m.live.version * PAGE_SIZE) (at + length bytes) none.0) in
+    subst (λ (v : ℕ). at + length bytes ≤ memory_limit v * PAGE_SIZE) s.live.version (ltb-false (memory_limit m.live.version * PAGE_SIZE) (at + length bytes) none.0) in
     let sum : state_pages m.live + (size - pages_of old) ≤ state_limit 1 =
-    subst (λ (v : ℕ). state_pages m.live + (size - pages_of old) ≤ state_limit v) s.live.valid.version (ltb-false (state_limit m.live.version) (state_pages m.live + (size - pages_of old)) none.1.0) in
+    subst (λ (v : ℕ). state_pages m.live + (size - pages_of old) ≤ state_limit v) s.live.version (ltb-false (state_limit m.live.version) (state_pages m.live + (size - pages_of old)) none.1.0) in
     let now : pages_of (write m.height old at bytes) ≡ size = written_pages m.height old at bytes in
     changed_kept m id mem c (write m.height old at bytes) found s
     (record {
@@ -221,5 +225,5 @@ write_kept m id mem at bytes fits s =
       bytes = λ were. write_IsBytes m.height old at bytes were fits.types;
       few = λ few. subst (λ (n : ℕ). n ≤ memory_limit 1) (sym now) (written_few old at (length bytes) within few);
     })
-    (omega (arith, sum, now, all_pages_are m.live, (canisters_of m.live s.live.valid).room)) (write_keeps_rounds m.height old at bytes)
+    (omega (arith, sum, now, all_pages_are m.live, (canisters_of m.live s.live.valid s.live.version).room)) (write_keeps_rounds m.height old at bytes)
     (write_each_round (λ r. r.1 ≤ m.height) m.height (memory_of c mem) at bytes (λ p. omega arith))))

@@ -46,11 +46,12 @@ fresh_good h c g = record {
   bytes = record { id = g.bytes.id; wasm = g.bytes.wasm; certified = g.bytes.certified; heap = g.bytes.heap; stable = g.bytes.stable };
 }
 
-pub opened_whole : (p : Published) → IsState p.state → IsWholeState (opened_state p)
-opened_whole p valid =
-    let good = over_good (λ c. canister_from p.height (part_of c) c.heap.bytes c.stable.bytes) (λ c. refl) (fresh_good p.height) p.state.canisters (canisters_of p.state valid) in
+pub opened_whole : (p : Published) → IsState p.state → p.state.version ≡ 1 → IsWholeState (opened_state p)
+opened_whole p valid is =
+    let good = over_good (λ c. canister_from p.height (part_of c) c.heap.bytes c.stable.bytes) (λ c. refl) (fresh_good p.height) p.state.canisters (canisters_of p.state valid is) in
     subst IsWholeState (sym (opened_is p)) (record {
-      valid = valid_from (record p.state { canisters = map (fresh p.height) p.state.canisters }) valid.version (time_of p.state valid) good (entries_of p.state valid);
+      valid = valid_from (record p.state { canisters = map (fresh p.height) p.state.canisters }) is (time_of p.state valid is) good (entries_of p.state valid is);
+      version = is;
       rounds = fresh_rounds p.height p.state.canisters;
     })
 
@@ -87,20 +88,24 @@ good_again c g = record {
   bytes = record { id = g.bytes.id; wasm = g.bytes.wasm; certified = g.bytes.certified; heap = g.bytes.heap; stable = g.bytes.stable };
 }
 
-bare_valid : (s : State) → IsState s → IsState (without_history s)
-bare_valid s valid =
-    valid_from (without_history s) valid.version (time_of s valid) (over_good canister_without_history (λ c. refl) bare_good s.canisters (canisters_of s valid)) (entries_of s valid)
+bare_valid : (s : State) → IsState s → s.version ≡ 1 → IsState (without_history s)
+bare_valid s valid is =
+    valid_from (without_history s) is (time_of s valid is) (over_good canister_without_history (λ c. refl) bare_good s.canisters (canisters_of s valid is)) (entries_of s valid is)
 
-valid_again : (s : State) → IsState (without_history s) → IsState s
-valid_again s valid =
+valid_again : (s : State) → IsState (without_history s) → s.version ≡ 1 → IsState s
+valid_again s valid is =
     let t : State = without_history s in
-    valid_from s valid.version (time_of t valid) (back_good canister_without_history (λ c. refl) good_again s.canisters (canisters_of t valid)) (entries_of t valid)
+    valid_from s is (time_of t valid is) (back_good canister_without_history (λ c. refl) good_again s.canisters (canisters_of t valid is)) (entries_of t valid is)
 
-pub same_valid : (s t : State) → SameState s t → IsState s → IsState t
-same_valid s t same valid = valid_again t (subst IsState same (bare_valid s valid))
+pub same_version : (s t : State) → SameState s t → s.version ≡ t.version
+same_version s t same = ap (λ (u : State). u.version) same
+
+pub same_valid : (s t : State) → SameState s t → IsState s → s.version ≡ 1 → IsState t
+same_valid s t same valid is = valid_again t (subst IsState same (bare_valid s valid is)) (sym (same_version s t same) ∙ is)
 
 pub begins_alike : (p q : Published) → SamePublished p q → MayBegin p → MayBegin q
 begins_alike p q same may = record {
   from_one = subst (λ (h : ℕ). 1 ≤ h) same.height may.from_one;
-  valid = same_valid p.state q.state same.state may.valid;
+  valid = same_valid p.state q.state same.state may.valid may.version;
+  version = sym (same_version p.state q.state same.state) ∙ may.version;
 }

@@ -22,7 +22,7 @@ resumed_sound : (m : Machine) (p : Published) → AreHeights m.published → new
 resumed_sound m p h e =
     let may : MayBegin p = last_holds MayBegin None m.published p tt h.each e in
     record {
-      live = opened_whole p may.valid;
+      live = opened_whole p may.valid may.version;
       memory = tt;
       within = (opened_within p (p.height + 1) (omega arith), tt);
       ascends = ((omega arith, tt), (tt, tt));
@@ -56,7 +56,7 @@ start_is_sound ps h = by (newest ps) refl
   where
     by : (o : Option Published) → newest ps ≡ o → IsSound (resumed_at o (anew ps))
     by None e = record {
-      live = record { valid = empty_valid; rounds = tt };
+      live = record { valid = empty_valid; version = refl; rounds = tt };
       memory = tt;
       within = (tt, tt);
       ascends = ((omega arith, tt), (tt, tt));

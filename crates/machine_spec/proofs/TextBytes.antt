@@ -17,11 +17,11 @@ pub mark_bytes : (m : Mark) → IsBytes (mark_text m) → IsBytes m.system
 unfolding mark_text
 mark_bytes m h =
     let x : Bytes = codes "ICMK" ++ be32 m.version ++ be64 m.height ++ be32 (length m.system) in
-    let y : Bytes = x ++ m.system ++ flat_map mark_memory_text m.memories in
+    let y : Bytes = x ++ m.system ++ flat_map (mark_memory_text m.version) m.memories in
     let a = cut_bytes (mark_body m) (sha256 (mark_body m)) h in
     let b = cut_bytes (y ++ hashes_text m.system_sums) m.root a.0 in
     let d = cut_bytes y (hashes_text m.system_sums) b.0 in
-    let e = cut_bytes (x ++ m.system) (flat_map mark_memory_text m.memories) d.0 in
+    let e = cut_bytes (x ++ m.system) (flat_map (mark_memory_text m.version) m.memories) d.0 in
     (cut_bytes x m.system e.0).1
 
 -- ---- pages

@@ -1,4 +1,4 @@
--- A valid state by its canisters, one by one, and its entries.
+-- A valid state of version 1 by its canisters, one by one, and its entries.
 use Rattle.std.proofs.Common.{◌≡◌, ℕ, ◌+◌, ◌^◌, ◌<◌, ◌≤◌, Bool, true, false, not, cond, List, [], ◌∷◌, ◌++◌, map, filter, length, Some, refl, sym, ap, subst, ◌∙◌, arith, length-append}
 use Rattle.std.proofs.lemmas.List.{length-map, map-append}
 use Rattle.std.proofs.lemmas.List.Sums.{sum_by-append}
@@ -10,7 +10,7 @@ use Rattle.std.specs.declared.cmp.Ordering.{Ordering}
 use Rattle.std.specs.declared.cmp.Ordering.TheVariants.{Less, Equal, Greater}
 use Rattle.format_spec.specs.Bytes.{Bytes, bytes_cmp}
 use Rattle.format_spec.specs.declared.limits.TheConstants.{MAX_CANISTERS}
-use Rattle.format_spec.specs.Versions.{state_limit}
+use Rattle.format_spec.specs.Versions.{is_version, state_limit}
 use Rattle.state_spec.specs.State.{State, Canister, CanisterPart, FitsCanister, IsSystem, IsMemory, IsByteCanister, AreEntries, IsState, all_pages, pages_in, part_of, system_of, without}
 use Rattle.state_spec.proofs.Keys.{ids_apart, ids_total, is_sorted-over}
 use Rattle.state_spec.proofs.Places.{parted, put_stands, sorted_put, sorted_without}
@@ -28,7 +28,7 @@ Entry = List Bytes × Bytes
 abbrev pub part : Named → Bytes × CanisterPart
 part c = (c.0, part_of c.1)
 
--- what is so of each canister of a valid state
+-- what is so of each canister of a valid state of version 1
 pub record IsGood (c : Named) : Type 0 where
   pub fits : FitsCanister 1 (part c)
   pub heap : IsMemory c.1.heap
@@ -64,18 +64,18 @@ all_bytes : (cs : Canisters) → AllByRecursion IsGood cs → AllByRecursion IsB
 all_bytes [] all = tt
 all_bytes (c ∷ cs) all = (all.0.bytes, all_bytes cs all.1)
 
-of_version : (s : State) → IsState s → IsSystem 1 (system_of s)
-of_version s valid = subst (λ (v : ℕ). IsSystem v (system_of s)) valid.version valid.system
+of_version : (s : State) → IsState s → s.version ≡ 1 → IsSystem 1 (system_of s)
+of_version s valid is = subst (λ (v : ℕ). IsSystem v (system_of s)) is valid.system
 
-module _ (s : State) (valid : IsState s) where
+module _ (s : State) (valid : IsState s) (is : s.version ≡ 1) where
   pub time_of : s.time < 2 ^ 64
   unfolding system_of
-  time_of = (of_version s valid).time
+  time_of = (of_version s valid is).time
 
   pub canisters_of : AreGood s.canisters
   unfolding system_of
   canisters_of =
-      let all : IsSystem 1 (system_of s) = of_version s valid in
+      let all : IsSystem 1 (system_of s) = of_version s valid is in
       record {
         few = omega (arith, all.few_canisters, length-map s.canisters part);
         sorted = sym (is_sorted-over bytes_cmp part_of s.canisters) ∙ all.ids_ascend;
@@ -86,7 +86,7 @@ module _ (s : State) (valid : IsState s) where
   pub entries_of : AreEntries s.entries
   unfolding system_of
   entries_of =
-      let all : IsSystem 1 (system_of s) = of_version s valid in
+      let all : IsSystem 1 (system_of s) = of_version s valid is in
       record {
         few = all.few_entries;
         paths_ascend = all.paths_ascend;
@@ -97,7 +97,7 @@ module _ (s : State) (valid : IsState s) where
 
 pub valid_from : (s : State) → s.version ≡ 1 → s.time < 2 ^ 64 → AreGood s.canisters → AreEntries s.entries → IsState s
 unfolding system_of
-valid_from s version time good entries =
+valid_from s is time good entries =
     let all : IsSystem 1 (system_of s) = record {
       time = time;
       few_canisters = omega (arith, good.few, length-map s.canisters part);
@@ -110,8 +110,8 @@ valid_from s version time good entries =
       entries_fit = entries.fit;
     } in
     record {
-      version = version;
-      system = subst (λ (v : ℕ). IsSystem v (system_of s)) (sym version) all;
+      version = ap is_version is;
+      system = subst (λ (v : ℕ). IsSystem v (system_of s)) (sym is) all;
       memories = all_whole s.canisters good.each;
       bytes = record { canisters = all_bytes s.canisters good.each; entries = entries.bytes };
     }

@@ -1,5 +1,5 @@
 -- How many bytes a line appends to the disk, and how many it reads at most.
-use Rattle.std.specs.Prelude.{ℕ, ◌-◌, ◌*◌, ◌||◌, if◌then◌else◌, nat_le, length, sum_by, Option, None}
+use Rattle.std.specs.Prelude.{ℕ, ◌*◌, ◌||◌, if◌then◌else◌, nat_le, length, sum_by, Option, None}
 use Rattle.std.specs.List.{last_or}
 use Rattle.std.specs.Option.{option_map_or}
 use Rattle.format_spec.specs.declared.limits.TheConstants.{PAGE_SIZE, MAX_PUBLISHED}
@@ -19,7 +19,7 @@ use Rattle.machine_spec.specs.StoreSteps.{is_low, is_newest}
 
 -- a published height of which all is written: a page file a memory that isn't empty, and the mark
 unfoldable pub whole_bytes : State → ℕ
-whole_bytes s = whole_length (length (system_text (system_of s))) (memory_bytes s)
+whole_bytes s = whole_length s.version (length (system_text (system_of s))) (memory_bytes s)
 
 -- a checkpoint writes the newest height in memory, where it isn't refused
 abbrev pub checkpoint_bytes : Machine → ℕ

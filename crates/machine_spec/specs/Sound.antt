@@ -1,5 +1,5 @@
 -- What is so of every machine that a script leads to.
-use Rattle.std.specs.Prelude.{ℕ, ◌≤◌, ◌<◌, List, [], ◌∷◌, ◌++◌, length, map}
+use Rattle.std.specs.Prelude.{◌≡◌, ℕ, ◌≤◌, ◌<◌, List, [], ◌∷◌, ◌++◌, length, map}
 use Rattle.std.specs.List.{AllByRecursion}
 use Rattle.format_spec.specs.declared.limits.TheConstants.{MAX_HEIGHTS, MAX_PUBLISHED}
 use Rattle.state_spec.specs.State.{State, IsState, HasPageRounds}
@@ -10,9 +10,10 @@ use Rattle.machine_spec.specs.Machine.{Machine, start}
 use Rattle.machine_spec.specs.States.{NamedMemory, memories_of}
 use Rattle.machine_spec.specs.Step.{step}
 
--- a valid state, with rounds of pages that are there
+-- a valid state of version 1, as yet, with rounds of pages that are there
 pub record IsWholeState (s : State) : Type 0 where
   pub valid : IsState s
+  pub version : s.version ≡ 1
   pub rounds : AllByRecursion (λ n. HasPageRounds n.memory) (memories_of s)
 
 -- a canister is born, and its pages are written, at this height or before
@@ -37,6 +38,7 @@ Ascend ns = EachLater (λ (a : ℕ) (b : ℕ). a < b) ns
 pub record MayBegin (p : Published) : Type 0 where
   pub from_one : 1 ≤ p.height
   pub valid : IsState p.state
+  pub version : p.state.version ≡ 1
 
 pub record AreHeights (ps : List Published) : Type 0 where
   pub ascend : Ascend (heights_of ps)

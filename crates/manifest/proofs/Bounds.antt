@@ -1,12 +1,12 @@
 -- How long names and lists of a state within the limits are.
-use Rattle.std.proofs.Common.{◌≡◌, ℕ, suc, ◌+◌, ◌*◌, ◌<◌, ◌≤◌, List, [], ◌∷◌, ◌++◌, length, map, ◌∙◌, arith}
+use Rattle.std.proofs.Common.{◌≡◌, ℕ, suc, ◌+◌, ◌*◌, ◌<◌, ◌≤◌, List, [], ◌∷◌, ◌++◌, length, map, Option, arith}
 use Rattle.std.specs.Prelude.{codes}
 use Rattle.std.specs.List.{AllByRecursion}
 use Rattle.std.proofs.lemmas.List.{length-map, length-append}
 use Rattle.hex.specs.Hex.{encode_lower, lower_digits}
 use Rattle.hex.proofs.HexLemmas.{length-encode_with}
-use Rattle.format_spec.specs.Bytes.{Bytes, part_count, parts}
-use Rattle.format_spec.specs.Hashes.{ChunkSum, chunk_hash}
+use Rattle.format_spec.specs.Bytes.{Bytes, part_count}
+use Rattle.format_spec.specs.Hashes.{ChunkSum}
 use Rattle.format_spec.specs.declared.limits.TheConstants.{CHUNK_SIZE, PAGE_SIZE}
 use Rattle.format_spec.specs.Versions.{memory_limit}
 use Rattle.format_spec.proofs.StateLimits.{memory_limit-2}
@@ -20,8 +20,8 @@ use Rattle.state_spec.proofs.SystemSizes.{id_size, system_size}
 use Rattle.sys_state.specs.declared.record.CanisterRecord.{CanisterRecord}
 use Rattle.sys_state.specs.System.{System, IsWithinLimits, part_of_record}
 use Rattle.manifest.specs.Fits.{FitsText, FitSums}
-use Rattle.manifest.proofs.Growing.{length-sums_from}
-use Rattle.format_spec.proofs.Parts.{parts_length}
+use Rattle.manifest.proofs.Growing.{few_sums}
+use Rattle.state_spec.proofs.RowSizes.{length-chunk_hashes}
 
 abbrev part_in : Bytes × CanisterRecord → Bytes × CanisterPart
 part_in d = (d.0, part_of_record d.1)
@@ -46,14 +46,14 @@ name_size id memory short few =
 few_chunks : (pages n : ℕ) → pages ≤ memory_limit 2 → n ≡ part_count CHUNK_SIZE (pages * PAGE_SIZE) → n ≤ 512
 few_chunks pages n few is = omega (arith, few, is, memory_limit-2)
 
-small_memories : (cs : List (Bytes × CanisterPart)) (ls : List (List Bytes)) → AllByRecursion (FitsCanister 2) cs → map (λ (l : List Bytes). length l) ls ≡ map (λ (m : Bytes × ℕ). part_count CHUNK_SIZE (m.1 * PAGE_SIZE)) (memory_pages cs)
+small_memories : (cs : List (Bytes × CanisterPart)) (ls : List (List (Option Bytes))) → AllByRecursion (FitsCanister 2) cs → map (λ (l : List (Option Bytes)). length l) ls ≡ map (λ (m : Bytes × ℕ). part_count CHUNK_SIZE (m.1 * PAGE_SIZE)) (memory_pages cs)
     → AllByRecursion Small (memory_sums (memory_pages cs) ls) × (length (memory_sums (memory_pages cs) ls) ≤ 2 * length cs)
 small_memories cs ls fit e =
-    by_two heap_pages stable_pages (λ (l : List Bytes). length l) (λ (m : Bytes × ℕ). part_count CHUNK_SIZE (m.1 * PAGE_SIZE))
-    (λ (cs : List (Bytes × CanisterPart)) (ls : List (List Bytes)). AllByRecursion (FitsCanister 2) cs → AllByRecursion Small (memory_sums (memory_pages cs) ls) × (length (memory_sums (memory_pages cs) ls) ≤ 2 * length cs))
+    by_two heap_pages stable_pages (λ (l : List (Option Bytes)). length l) (λ (m : Bytes × ℕ). part_count CHUNK_SIZE (m.1 * PAGE_SIZE))
+    (λ (cs : List (Bytes × CanisterPart)) (ls : List (List (Option Bytes))). AllByRecursion (FitsCanister 2) cs → AllByRecursion Small (memory_sums (memory_pages cs) ls) × (length (memory_sums (memory_pages cs) ls) ≤ 2 * length cs))
     (λ fit. (tt, omega arith)) more cs ls e fit
   where
-    more : (c : Bytes × CanisterPart) (cs : List (Bytes × CanisterPart)) (a b : List Bytes) (ls : List (List Bytes)) → length a ≡ part_count CHUNK_SIZE (c.1.heap * PAGE_SIZE) → length b ≡ part_count CHUNK_SIZE (c.1.stable * PAGE_SIZE)
+    more : (c : Bytes × CanisterPart) (cs : List (Bytes × CanisterPart)) (a b : List (Option Bytes)) (ls : List (List (Option Bytes))) → length a ≡ part_count CHUNK_SIZE (c.1.heap * PAGE_SIZE) → length b ≡ part_count CHUNK_SIZE (c.1.stable * PAGE_SIZE)
         → (AllByRecursion (FitsCanister 2) cs → AllByRecursion Small (memory_sums (memory_pages cs) ls) × (length (memory_sums (memory_pages cs) ls) ≤ 2 * length cs))
         → AllByRecursion (FitsCanister 2) (c ∷ cs) → AllByRecursion Small (memory_sums (memory_pages (c ∷ cs)) (a ∷ b ∷ ls)) × (length (memory_sums (memory_pages (c ∷ cs)) (a ∷ b ∷ ls)) ≤ 2 * length (c ∷ cs))
     more c cs a b ls heap stable before fit =
@@ -72,33 +72,34 @@ rows_few : (n : ℕ) (fs : List FileSums) → AllByRecursion Small fs → length
 rows_few n [] small = omega arith
 rows_few n (f ∷ fs) small =
     let own : List ChunkRow = map (λ (c : ChunkSum). record { file = n; sum = c }) (chunk_sums f) in
-    let len : length own ≡ length f.hashes = length-map (chunk_sums f) (λ (c : ChunkSum). record { file = n; sum = c }) ∙ length-sums_from f.size f.hashes in
-    omega (arith, rows_few (suc n) fs small.1, length-append own (chunk_rows (suc n) fs), len, small.0.hashes)
+    let len : length own ≡ length (chunk_sums f) = length-map (chunk_sums f) (λ (c : ChunkSum). record { file = n; sum = c }) in
+    let few : length (chunk_sums f) ≤ length f.hashes = few_sums f.size f.hashes in
+    omega (arith, rows_few (suc n) fs small.1, length-append own (chunk_rows (suc n) fs), len, few, small.0.hashes)
 
 names_short : (fs : List FileSums) → AllByRecursion Small fs → AllByRecursion (λ row. length row.name < 256) (map file_row fs)
 names_short [] small = tt
 names_short (f ∷ fs) small = (small.0.name, names_short fs small.1)
 
-pub few_memories : (s : SystemPart) (hashes : List (List Bytes)) → IsSystem 2 s → FitSums s hashes → length (memory_sums (memories_in s) hashes) ≤ 2048
+pub few_memories : (s : SystemPart) (hashes : List (List (Option Bytes))) → IsSystem 2 s → FitSums s hashes → length (memory_sums (memories_in s) hashes) ≤ 2048
 few_memories s hashes good fit =
     let few = (small_memories s.canisters hashes good.canisters_fit fit).1 in
     let count : length s.canisters ≤ 1024 = good.few_canisters in
     omega (arith, few, count)
 
-pub few_system_chunks : (s : SystemPart) → IsSystem 2 s → length (chunk_hashes (system_text s)) ≤ 64
+pub few_system_chunks : (s : SystemPart) → IsSystem 2 s → length (chunk_hashes 1 (system_text s)) ≤ 64
 few_system_chunks s good =
     let text : Bytes = system_text s in
     let size : length text ≤ 67108864 = (system_size 2 s good).1 in
-    let chunks : length (chunk_hashes text) ≡ part_count CHUNK_SIZE (length text) = length-map (parts CHUNK_SIZE text) chunk_hash ∙ parts_length CHUNK_SIZE text in
+    let chunks : length (chunk_hashes 1 text) ≡ part_count CHUNK_SIZE (length text) = length-chunk_hashes 1 text in
     omega (arith, chunks, size)
 
-pub fits_text : (s : SystemPart) (hashes : List (List Bytes)) → IsSystem 2 s → FitSums s hashes → FitsText (manifest_from 1 (file_sums s hashes))
+pub fits_text : (v : ℕ) (s : SystemPart) (hashes : List (List (Option Bytes))) → IsSystem 2 s → FitSums s hashes → FitsText (manifest_from v (file_sums s hashes))
 unfolding manifest_from file_sums
-fits_text s hashes good fit =
+fits_text v s hashes good fit =
     let ms = small_memories s.canisters hashes good.canisters_fit fit in
     let text : Bytes = system_text s in
-    let chunks : length (chunk_hashes text) ≤ 64 = few_system_chunks s good in
-    let last : FileSums = record { name = system_name; size = length text; hashes = chunk_hashes text } in
+    let chunks : length (chunk_hashes 1 text) ≤ 64 = few_system_chunks s good in
+    let last : FileSums = record { name = system_name; size = length text; hashes = chunk_hashes 1 text } in
     let last_small : Small last = record { name = omega arith; hashes = omega (arith, chunks) } in
     let fs : List FileSums = memory_sums (memories_in s) hashes ++ last ∷ [] in
     let small : AllByRecursion Small fs = all_join Small (memory_sums (memories_in s) hashes) (last ∷ []) ms.0 (last_small, tt) in

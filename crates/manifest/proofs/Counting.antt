@@ -1,13 +1,13 @@
 -- What the manifest of a state counts, by the sizes of its parts.
-use Rattle.std.proofs.Common.{◌≡◌, ℕ, suc, ◌+◌, ◌*◌, ◌≤◌, List, [], ◌∷◌, ◌++◌, length, map, take, codes, Some, refl, sym, ap, subst, ◌∙◌, arith}
+use Rattle.std.proofs.Common.{◌≡◌, ℕ, suc, ◌+◌, ◌*◌, ◌≤◌, List, [], ◌∷◌, ◌++◌, length, map, take, codes, Option, Some, None, refl, sym, ap, subst, ◌∙◌, arith}
 use Rattle.std.specs.Prelude.{slice_get}
 use Rattle.std.specs.List.{flat_map, AllByRecursion, enumerate_from}
 use Rattle.std.proofs.lemmas.List.{length-map, length-append, take_more}
 use Rattle.std.proofs.lemmas.Option.{slice_get_within, get_or_from_slice_get}
 use Rattle.sha2.proofs.Facts256.{length-sha256}
-use Rattle.format_spec.proofs.Cuts.{Are32, chunks_32, heads}
+use Rattle.format_spec.proofs.Cuts.{heads}
 use Rattle.format_spec.specs.Bytes.{Bytes, be32, part_count, parts}
-use Rattle.format_spec.specs.Hashes.{ChunkSum, file_hash}
+use Rattle.format_spec.specs.Hashes.{ChunkSum, chunk_hash, file_hash}
 use Rattle.format_spec.specs.declared.limits.TheConstants.{CHUNK_SIZE, PAGE_SIZE, PIECE_SIZE}
 use Rattle.format_spec.specs.Versions.{memory_limit}
 use Rattle.format_spec.proofs.StateLimits.{memory_limit-2}
@@ -15,7 +15,7 @@ use Rattle.format_spec.proofs.Lists.{all_join}
 use Rattle.state_spec.specs.State.{State, SystemPart, CanisterPart, FitsCanister, system_of, memory_bytes}
 use Rattle.state_spec.specs.SystemText.{system_text}
 use Rattle.state_spec.specs.Files.{heap_name, stable_name, memory_pages, memories_in, system_name}
-use Rattle.state_spec.specs.Manifest.{Manifest, FileSums, FileRow, ChunkRow, chunk_sums, chunk_rows, file_row, memory_sums, file_sums, manifest_from, manifest_of, chunk_hashes, chunk_size_at, chunk_offset}
+use Rattle.state_spec.specs.Manifest.{Manifest, FileSums, FileRow, ChunkRow, chunk_sums, chunk_rows, file_row, memory_sums, file_sums, manifest_from, manifest_of, chunk_hashes, sum_of, row_of}
 use Rattle.state_spec.specs.ManifestText.{manifest_text, file_row_text, chunk_row_text}
 use Rattle.state_spec.specs.Root.{pieces_of}
 use Rattle.state_spec.proofs.SystemSizes.{id_size, system_size}
@@ -24,7 +24,6 @@ use Rattle.sys_state.specs.System.{System, IsWithinLimits, part_of, kept_of}
 use Rattle.manifest.specs.declared.counts.Counts.{Counts}
 use Rattle.manifest.specs.Counts.{counts_by, counts_in, sized_counts, rows_size, chunks_in}
 use Rattle.manifest.specs.Fits.{FitMemories}
-use Rattle.manifest.proofs.Growing.{length-sums_from}
 use Rattle.manifest.proofs.Memories.{named}
 use Rattle.sys_state.proofs.OfState.{parts_of_state}
 use Rattle.manifest.proofs.States.{of_state}
@@ -47,8 +46,26 @@ abbrev chunks_total : List FileSums → ℕ
 chunks_total [] = 0
 chunks_total (f ∷ fs) = length f.hashes + chunks_total fs
 
+-- each chunk has its hash
+abbrev Is32 : Option Bytes → Type 0
+Is32 None = ⊥
+Is32 (Some hash) = length hash ≡ 32
+
+abbrev Are32 : List (Option Bytes) → Type 0
+Are32 hashes = AllByRecursion Is32 hashes
+
 abbrev Hashed : FileSums → Type 0
 Hashed f = Are32 f.hashes
+
+chunks_32 : (cs : List Bytes) → Are32 (map (sum_of 1) cs)
+unfolding chunk_hash
+chunks_32 [] = tt
+chunks_32 (c ∷ cs) = (length-sha256 _, chunks_32 cs)
+
+each_row : (size k : ℕ) (hs : List (Option Bytes)) → Are32 hs → length (flat_map (row_of size) (enumerate_from k hs)) ≡ length hs
+each_row size k [] h = refl
+each_row size k (None ∷ hs) h = absurd h.0
+each_row size k (Some x ∷ hs) h = ap suc (each_row size (k + 1) hs h.1)
 
 files_text : (fs : List FileSums) → length (flat_map file_row_text (map file_row fs)) ≡ rows_total fs
 files_text [] = refl
@@ -57,12 +74,12 @@ files_text (f ∷ fs) = omega (arith, file_text f, files_text fs, length-append 
 abbrev own_rows : ℕ → FileSums → List ChunkRow
 own_rows n f = map (λ c. record { file = n; sum = c }) (chunk_sums f)
 
-own_count : (n : ℕ) (f : FileSums) → length (own_rows n f) ≡ length f.hashes
-own_count n f = length-map (chunk_sums f) (λ c. record { file = n; sum = c }) ∙ length-sums_from f.size f.hashes
+own_count : (n : ℕ) (f : FileSums) → Hashed f → length (own_rows n f) ≡ length f.hashes
+own_count n f h = length-map (chunk_sums f) (λ c. record { file = n; sum = c }) ∙ each_row f.size 0 f.hashes h
 
-rows_count : (n : ℕ) (fs : List FileSums) → length (chunk_rows n fs) ≡ chunks_total fs
-rows_count n [] = refl
-rows_count n (f ∷ fs) = omega (arith, own_count n f, rows_count (suc n) fs, length-append (own_rows n f) (chunk_rows (suc n) fs))
+rows_count : (n : ℕ) (fs : List FileSums) → AllByRecursion Hashed fs → length (chunk_rows n fs) ≡ chunks_total fs
+rows_count n [] h = refl
+rows_count n (f ∷ fs) h = omega (arith, own_count n f h.0, rows_count (suc n) fs h.1, length-append (own_rows n f) (chunk_rows (suc n) fs))
 
 all_text : (rs : List ChunkRow) → AllByRecursion (λ r. length r.sum.hash ≡ 32) rs → length (flat_map chunk_row_text rs) ≡ 48 * length rs
 all_text [] h = refl
@@ -71,10 +88,10 @@ all_text (r ∷ rs) h = omega (arith, length-chunk_row_text r h.0, all_text rs h
 abbrev Long : ChunkRow → Type 0
 Long r = length r.sum.hash ≡ 32
 
-own_hashed : (n size k : ℕ) (hs : List Bytes) → Are32 hs
-    → AllByRecursion Long (map (λ (c : ChunkSum). record { file = n; sum = c }) (map (λ (e : ℕ × Bytes). record { size = chunk_size_at size e.0; offset = chunk_offset e.0; hash = e.1 }) (enumerate_from k hs)))
+own_hashed : (n size k : ℕ) (hs : List (Option Bytes)) → Are32 hs → AllByRecursion Long (map (λ (c : ChunkSum). record { file = n; sum = c }) (flat_map (row_of size) (enumerate_from k hs)))
 own_hashed n size k [] h = tt
-own_hashed n size k (x ∷ hs) h = (h.0, own_hashed n size (k + 1) hs h.1)
+own_hashed n size k (None ∷ hs) h = absurd h.0
+own_hashed n size k (Some x ∷ hs) h = (h.0, own_hashed n size (k + 1) hs h.1)
 
 rows_hashed : (n : ℕ) (fs : List FileSums) → AllByRecursion Hashed fs → AllByRecursion Long (chunk_rows n fs)
 rows_hashed n [] h = tt
@@ -101,7 +118,7 @@ counted fs hashed =
     let four' : length (be32 (length chunks)) ≡ 4 = refl in
     record {
       files_are = length-map fs file_row;
-      chunks_are = rows_count 0 fs;
+      chunks_are = rows_count 0 fs hashed;
       bytes_are = omega (
         arith,
         eight,
@@ -113,7 +130,7 @@ counted fs hashed =
         length-append d (flat_map chunk_row_text chunks),
         files_text fs,
         all_text chunks (rows_hashed 0 fs hashed),
-        rows_count 0 fs,
+        rows_count 0 fs hashed,
       );
     }
 
@@ -126,16 +143,16 @@ record Totals (fs : List FileSums) (ms : List (Bytes × ℕ)) (size : ℕ) : Typ
   hashed : AllByRecursion Hashed fs
 
 totals : (ms : List (Bytes × ℕ)) (bs : List Bytes) (text : Bytes) → map (λ (b : Bytes). length b) bs ≡ map (λ (m : Bytes × ℕ). m.1 * PAGE_SIZE) ms
-    → Totals (memory_sums ms (map chunk_hashes bs) ++ record { name = system_name; size = length text; hashes = chunk_hashes text } ∷ []) ms (length text)
+    → Totals (memory_sums ms (map (chunk_hashes 1) bs) ++ record { name = system_name; size = length text; hashes = chunk_hashes 1 text } ∷ []) ms (length text)
 totals [] [] text e =
-    let one : length (chunk_hashes text) ≡ part_count CHUNK_SIZE (length text) = length-chunk_hashes text in
+    let one : length (chunk_hashes 1 text) ≡ part_count CHUNK_SIZE (length text) = length-chunk_hashes 1 text in
     record { count = refl; rows = refl; chunks = omega (arith, one); hashed = (chunks_32 (parts CHUNK_SIZE text), tt) }
 totals [] (b ∷ bs) text e = absurd cc
 totals (m ∷ ms) [] text e = absurd cc
 totals (m ∷ ms) (b ∷ bs) text e =
     let h = heads (length b) (m.1 * PAGE_SIZE) (map (λ (x : Bytes). length x) bs) (map (λ (x : Bytes × ℕ). x.1 * PAGE_SIZE) ms) e in
     let t = totals ms bs text h.1 in
-    let own : length (chunk_hashes b) ≡ part_count CHUNK_SIZE (m.1 * PAGE_SIZE) = length-chunk_hashes b ∙ ap (part_count CHUNK_SIZE) h.0 in
+    let own : length (chunk_hashes 1 b) ≡ part_count CHUNK_SIZE (m.1 * PAGE_SIZE) = length-chunk_hashes 1 b ∙ ap (part_count CHUNK_SIZE) h.0 in
     record {
       count = omega (arith, t.count);
       rows = omega (arith, t.rows);
@@ -150,10 +167,10 @@ state_counted p s text is one parts-are fit =
     let ms = memories_in p in
     let bs = memory_bytes s in
     let t = totals ms bs (system_text p) fit in
-    let fs : List FileSums = file_sums p (map chunk_hashes bs) in
+    let fs : List FileSums = file_sums p (map (chunk_hashes 1) bs) in
     let c = counted fs t.hashed in
     let at : (m : Manifest) → manifest_from 1 fs ≡ m → Counted m (length fs) (rows_total fs) (chunks_total fs) = λ m e. subst (λ (x : Manifest). Counted x (length fs) (rows_total fs) (chunks_total fs)) e c in
-    let here = at (manifest_of s) (of_state s p bs fit one parts-are refl) in
+    let here = at (manifest_of s) (of_state 1 s p bs fit one parts-are refl) in
     let size : length text ≡ length (system_text p) = ap length is in
     record {
       files_are = here.files_are ∙ t.count;

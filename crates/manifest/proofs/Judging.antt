@@ -1,15 +1,14 @@
 -- The hashes of files against their chunk rows, file by file.
-use Rattle.std.proofs.Common.{take-add, ◌≡◌, ℕ, zero, suc, ◌+◌, ◌-◌, ◌*◌, ◌<◌, ◌≤◌, Bool, true, false, cond, List, [], ◌∷◌, ◌++◌, length, map, take, drop, get_or, Some, None, refl, sym, ap, subst, ◌∙◌, eq-eqb, ne_eqb, arith}
+use Rattle.std.proofs.Common.{take-add, ◌≡◌, ℕ, zero, suc, ◌+◌, ◌-◌, ◌*◌, ◌<◌, ◌≤◌, Bool, true, false, cond, List, [], ◌∷◌, ◌++◌, length, map, take, drop, get_or, Some, None, refl, sym, ap, subst, ◌∙◌, eq-eqb, ne_eqb, inl, inr, arith}
 use Rattle.std.specs.Prelude.{◌==◌, filter}
-use Rattle.std.specs.List.{AllByRecursion, range_with_len}
-use Rattle.std.proofs.lemmas.List.{length-map, length-append, length-drop, take-append-drop, drop-drop, drop_more, drop_all, append-nil}
-use Rattle.std.proofs.lemmas.List.FromFn.{length-range_with_len}
-use Rattle.format_spec.specs.Bytes.{Bytes, be64, part_count, same_bytes, short_string}
+use Rattle.std.specs.List.{AllByRecursion, prefix_len}
+use Rattle.std.proofs.lemmas.List.{length-append, take_all, length-drop, take-append-drop, drop-drop, drop_more, drop_all, append-nil}
+use Rattle.format_spec.specs.Bytes.{Bytes, be64, same_bytes, short_string}
+use Rattle.format_spec.proofs.Lists.{cases_eqb}
 use Rattle.format_spec.specs.Hashes.{ChunkSum, file_hash}
-use Rattle.format_spec.specs.declared.limits.TheConstants.{CHUNK_SIZE}
 use Rattle.state_spec.specs.Manifest.{FileRow, ChunkRow, sums_in}
-use Rattle.state_spec.specs.ManifestText.{Slot, slots, slots_of, slot_of, wrong_hash, file_row_text}
-use Rattle.manifest.proofs.Slotting.{slot_at}
+use Rattle.state_spec.specs.ManifestText.{wrong_hash, file_row_text}
+use Rattle.manifest.specs.Reading.{InOrder}
 
 -- ---- the rows of one file
 
@@ -39,47 +38,40 @@ own_sums n before own after low here high =
     ∙ filter_join n own after ∙ ap (λ (rs : List ChunkRow). filter (λ (r : ChunkRow). r.file == n) own ++ rs) (none_of n after high)
     ∙ append-nil (filter (λ (r : ChunkRow). r.file == n) own) ∙ all_of n own here)
 
--- by their slots
-row_at : (r : ChunkRow) (rows : List ChunkRow) (s : Slot) (ss : List Slot) → map slot_of (r ∷ rows) ≡ s ∷ ss → (r.file ≡ s.file) × (map slot_of rows ≡ ss)
-row_at r rows s ss e = let head : slot_of r ≡ s = cc in (ap (λ (x : Slot). x.file) head, cc)
+-- ---- rows in order
 
-rows_in : (n size k a : ℕ) (rows : List ChunkRow) → map slot_of rows ≡ map (slot_at n size) (range_with_len a k) → AllByRecursion (λ r. r.file ≡ n) rows
-rows_in n size zero a [] e = tt
-rows_in n size zero a (r ∷ rows) e = absurd cc
-rows_in n size (suc k) a [] e = absurd cc
-rows_in n size (suc k) a (r ∷ rows) e =
-    let p = row_at r rows (slot_at n size a) (map (slot_at n size) (range_with_len (a + 1) k)) e in
-    (p.0, rows_in n size k (a + 1) rows p.1)
+-- how many at the front are of this file
+abbrev pub own_count : ℕ → List ChunkRow → ℕ
+own_count n rows = prefix_len (λ (r : ChunkRow). r.file == n) rows
 
-slots_high : (n m : ℕ) (fs : List FileRow) → n < m → AllByRecursion (λ s. n < s.file) (slots m fs)
-slots_high n m [] lt = tt
-slots_high n m (f ∷ fs) lt = join (map (slot_at m f.size) (range_with_len 0 (part_count CHUNK_SIZE f.size))) (slots (suc m) fs) (one (part_count CHUNK_SIZE f.size) 0) (slots_high n (suc m) fs (omega arith))
-  where
-    one : (k a : ℕ) → AllByRecursion (λ s. n < s.file) (map (slot_at m f.size) (range_with_len a k))
-    one zero a = tt
-    one (suc k) a = (lt, one k (a + 1))
+record Split (n end k : ℕ) (rows : List ChunkRow) : Type 0 where
+  own : AllByRecursion (λ r. r.file ≡ n) (take k rows)
+  behind : InOrder (suc n) end (drop k rows)
+  fits : k ≤ length rows
 
-    join : (xs ys : List Slot) → AllByRecursion (λ s. n < s.file) xs → AllByRecursion (λ s. n < s.file) ys → AllByRecursion (λ s. n < s.file) (xs ++ ys)
-    join [] ys h k = k
-    join (x ∷ xs) ys h k = (h.0, join xs ys h.1 k)
+split : (n end : ℕ) (rows : List ChunkRow) → InOrder n end rows → Split n end (own_count n rows) rows
+split n end [] h = record { own = tt; behind = tt; fits = omega arith }
+split n end (r ∷ rows) h = elim (cases_eqb r.file n) [
+  | inl same ↦
+      let more = split n end rows (subst (λ (k : ℕ). InOrder k end rows) same.0 h.2) in
+      let fits = more.fits in
+      let one : 1 + own_count n rows ≡ suc (own_count n rows) = omega arith in
+      subst (λ (k : ℕ). Split n end k (r ∷ rows)) (sym (ap (λ (b : Bool). cond b (1 + own_count n rows) 0) same.1 ∙ one))
+      (record { own = (same.0, more.own); behind = more.behind; fits = omega (arith, fits) })
+  | inr other ↦
+      let low : n ≤ r.file = h.0 in
+      let apart = other.0 in
+      subst (λ (k : ℕ). Split n end k (r ∷ rows)) (sym (ap (λ (b : Bool). cond b (1 + own_count n rows) 0) other.1))
+      (record { own = tt; behind = (omega (arith, low, apart), h.1, h.2); fits = omega arith })
+]
 
-rows_high : (n : ℕ) (rows : List ChunkRow) (ss : List Slot) → map slot_of rows ≡ ss → AllByRecursion (λ s. n < s.file) ss → AllByRecursion (λ r. (r.file ≡ n) → ⊥) rows
-rows_high n [] ss e high = tt
-rows_high n (r ∷ rows) [] e high = absurd cc
-rows_high n (r ∷ rows) (s ∷ ss) e high =
-    let p = row_at r rows s ss e in
-    let above : n < s.file = high.0 in
-    ((λ same. omega (arith, p.0, same)), rows_high n rows ss p.1 high.1)
+rows_high : (n m end : ℕ) (rows : List ChunkRow) → n < m → InOrder m end rows → AllByRecursion (λ r. (r.file ≡ n) → ⊥) rows
+rows_high n m end [] lt h = tt
+rows_high n m end (r ∷ rows) lt h =
+    let low : m ≤ r.file = h.0 in
+    ((λ same. omega (arith, low, same, lt)), rows_high n r.file end rows (omega (arith, low, lt)) h.2)
 
 -- ---- how far the files are judged
-
-cut_at : (xs ys : List Slot) (rows : List ChunkRow) → map slot_of rows ≡ xs ++ ys → (map slot_of (take (length xs) rows) ≡ xs) × (map slot_of (drop (length xs) rows) ≡ ys) × (length xs ≤ length rows)
-cut_at [] ys rows e = (refl, e, omega arith)
-cut_at (x ∷ xs) ys [] e = absurd cc
-cut_at (x ∷ xs) ys (r ∷ rows) e =
-    let head : slot_of r ≡ x = cc in
-    let c = cut_at xs ys rows (row_at r rows x (xs ++ ys) e).1 in
-    ((λ i. head i ∷ c.0 i), c.1, (let le = c.2 in omega arith))
 
 weaker : (n : ℕ) (rows : List ChunkRow) → AllByRecursion (λ r. r.file < n) rows → AllByRecursion (λ r. r.file < n + 1) rows
 weaker n [] h = tt
@@ -99,7 +91,7 @@ join_low n (x ∷ xs) ys h k = (h.0, join_low n xs ys h.1 k)
 
 pub record Judged (files : List FileRow) (chunks : List ChunkRow) (n at begin : ℕ) : Type 0 where
   pub so_far : wrong_hash n at (drop n files) chunks ≡ wrong_hash 0 12 files chunks
-  pub rest : map slot_of (drop begin chunks) ≡ slots n (drop n files)
+  pub rest : InOrder n (length files) (drop begin chunks)
   pub before : AllByRecursion (λ r. r.file < n) (take begin chunks)
   pub at_small : at ≤ 12 + 300 * n
   pub within : begin ≤ length chunks
@@ -109,24 +101,14 @@ module _ (files : List FileRow) (chunks : List ChunkRow) (n at begin : ℕ) (jud
   left_is = drop_more files n row more ∙ ap (λ (r : FileRow). r ∷ drop (n + 1) files) (sym here)
 
   abbrev k : ℕ
-  k = part_count CHUNK_SIZE row.size
+  k = own_count n (drop begin chunks)
 
-  slots_are : map slot_of (drop begin chunks) ≡ slots_of n row.size ++ slots (suc n) (drop (n + 1) files)
-  slots_are = judged.rest ∙ ap (slots n) left_is
-
-  count_is : length (slots_of n row.size) ≡ k
-  count_is = length-map (range_with_len 0 k) (slot_at n row.size) ∙ length-range_with_len 0 k
-
-  cut_here : (map slot_of (take k (drop begin chunks)) ≡ slots_of n row.size) × (map slot_of (drop k (drop begin chunks)) ≡ slots (suc n) (drop (n + 1) files)) × (k ≤ length (drop begin chunks))
-  cut_here = subst (λ (m : ℕ). (map slot_of (take m (drop begin chunks)) ≡ slots_of n row.size) × (map slot_of (drop m (drop begin chunks)) ≡ slots (suc n) (drop (n + 1) files)) × (m ≤ length (drop begin chunks))) count_is
-      (cut_at (slots_of n row.size) (slots (suc n) (drop (n + 1) files)) (drop begin chunks) slots_are)
+  split_here : Split n (length files) k (drop begin chunks)
+  split_here = split n (length files) (drop begin chunks) judged.rest
 
   -- the rows are there
   pub rows_room : begin + k ≤ length chunks
-  rows_room = let c = cut_here.2 in let w = judged.within in omega (arith, length-drop begin chunks)
-
-  own_are : AllByRecursion (λ r. r.file ≡ n) (take k (drop begin chunks))
-  own_are = rows_in n row.size k 0 (take k (drop begin chunks)) cut_here.0
+  rows_room = let c = split_here.fits in let w = judged.within in omega (arith, length-drop begin chunks)
 
   whole_is : chunks ≡ take begin chunks ++ (take k (drop begin chunks) ++ drop k (drop begin chunks))
   whole_is = sym (take-append-drop begin chunks) ∙ ap (λ (rs : List ChunkRow). take begin chunks ++ rs) (sym (take-append-drop k (drop begin chunks)))
@@ -135,8 +117,8 @@ module _ (files : List FileRow) (chunks : List ChunkRow) (n at begin : ℕ) (jud
   pub sums_here : sums_in n chunks ≡ map (λ (r : ChunkRow). r.sum) (take k (drop begin chunks))
   sums_here =
       ap (sums_in n) whole_is
-      ∙ own_sums n (take begin chunks) (take k (drop begin chunks)) (drop k (drop begin chunks)) (other n (take begin chunks) judged.before) own_are
-      (rows_high n (drop k (drop begin chunks)) (slots (suc n) (drop (n + 1) files)) cut_here.1 (slots_high n (suc n) (drop (n + 1) files) (omega arith)))
+      ∙ own_sums n (take begin chunks) (take k (drop begin chunks)) (drop k (drop begin chunks)) (other n (take begin chunks) judged.before) split_here.own
+      (rows_high n (suc n) (length files) (drop k (drop begin chunks)) (omega arith) split_here.behind)
 
   module _ (own : List ChunkSum) (shown : own ≡ map (λ (r : ChunkRow). r.sum) (take k (drop begin chunks))) where
     judged_by : (b : Bool) → same_bytes row.hash (file_hash own) ≡ b → same_bytes row.hash (file_hash (sums_in n chunks)) ≡ b
@@ -159,8 +141,8 @@ module _ (files : List FileRow) (chunks : List ChunkRow) (n at begin : ℕ) (jud
           so_far = ap (λ (m : ℕ). wrong_hash m (at + 9 + length row.name + 32) (drop (n + 1) files) chunks) next
               ∙ ap (λ (p : ℕ). wrong_hash (suc n) p (drop (n + 1) files) chunks) place
               ∙ sym (ap (λ (fs : List FileRow). wrong_hash n at fs chunks) left_is ∙ rw (judged_by true good) refl) ∙ judged.so_far;
-          rest = ap (map slot_of) (sym (drop-drop k begin chunks)) ∙ cut_here.1 ∙ ap (λ (m : ℕ). slots m (drop (n + 1) files)) (sym next);
-          before = subst (AllByRecursion (λ r. r.file < n + 1)) (sym (take-add begin k chunks)) (join_low (n + 1) (take begin chunks) (take k (drop begin chunks)) (weaker n (take begin chunks) judged.before) (low n (take k (drop begin chunks)) own_are));
+          rest = subst (InOrder (n + 1) (length files)) (drop-drop k begin chunks) (subst (λ (m : ℕ). InOrder m (length files) (drop k (drop begin chunks))) (sym next) split_here.behind);
+          before = subst (AllByRecursion (λ r. r.file < n + 1)) (sym (take-add begin k chunks)) (join_low (n + 1) (take begin chunks) (take k (drop begin chunks)) (weaker n (take begin chunks) judged.before) (low n (take k (drop begin chunks)) split_here.own));
           at_small = omega arith;
           within = rows_room;
         }
@@ -187,3 +169,6 @@ pub taken_rows : (chunks : List ChunkRow) (begin count k : ℕ) (sums : List Chu
 taken_rows chunks begin count k sums is shown =
     let same : begin + count - begin ≡ k = omega arith in
     shown ∙ ap (λ (m : ℕ). map (λ (r : ChunkRow). r.sum) (take m (drop begin chunks))) same
+
+pub count_here : (n begin count : ℕ) (chunks : List ChunkRow) → count ≡ own_count n (take (length chunks - begin) (drop begin chunks)) → count ≡ own_count n (drop begin chunks)
+count_here n begin count chunks is = is ∙ ap (own_count n) (take_all (length chunks - begin) (drop begin chunks) (omega (arith, length-drop begin chunks)))

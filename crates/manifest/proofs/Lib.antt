@@ -9,6 +9,10 @@ pub mod FileLoops
 pub mod Slotting
 pub mod ChunkLoops
 pub mod Judging
+pub mod Fronts
+pub mod Offsets
+pub mod RowLoops
+pub mod InParts
 pub mod PieceLoops
 pub mod Metas
 pub mod Counting

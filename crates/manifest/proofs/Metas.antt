@@ -8,12 +8,13 @@ use Rattle.std.proofs.lemmas.List.{length-drop}
 use Rattle.format_spec.specs.Bytes.{Bytes}
 use Rattle.format_spec.specs.Fields.{Cursor, Reading, gives, value_at_end, and_then, ◌>>=◌, field, number, each}
 use Rattle.format_spec.specs.declared.limits.TheConstants.{MAX_PIECES}
-use Rattle.format_spec.proofs.Readings.{read_ok}
+use Rattle.format_spec.proofs.Readings.{read_ok, ok_is}
 use Rattle.state_spec.specs.Root.{MetaManifest, as_option, read_meta, meta_fields}
 use Rattle.byte_codec.specs.declared.error.FieldError.{FieldError}
 use Rattle.byte_codec.specs.declared.error.FieldError.TheVariants.{Bad, Memory}
 use Rattle.byte_codec.specs.Gives.{Fails, NeedsNoMemory}
-use Rattle.manifest.specs.Reading.{piece_count}
+use Rattle.manifest.specs.Reading.{meta_head}
+use Rattle.format_spec.specs.Versions.{is_version}
 use Rattle.format_spec.proofs.Cuts.{next_hash}
 
 abbrev read_end : ℕ → List Bytes → Reading MetaManifest
@@ -69,32 +70,41 @@ behind_count version n = each next_hash n [] >>= read_end version
 abbrev behind_version : ℕ → Reading MetaManifest
 behind_version version = counted >>= behind_count version
 
-module _ (count : ℕ) (d : Cursor) where
-  from_count : (version : ℕ) (r : Result (ℕ × Cursor) ℕ) → r ≡ Ok (count, d) → is_read (value_at_end (and_then r (behind_count version))) ≡ (length d.rest == 32 * count)
-  from_count version r e = rw e (hashes_fill version count [] d)
+abbrev with_version : ℕ → ℕ → Reading (ℕ × ℕ)
+with_version version count = gives (version, count)
 
-  from_version : (r : Result (ℕ × Cursor) ℕ) → and_then r (λ _. counted) ≡ Ok (count, d) → is_read (value_at_end (and_then r behind_version)) ≡ (length d.rest == 32 * count)
+abbrev head_of : ℕ → Reading (ℕ × ℕ)
+head_of version = counted >>= with_version version
+
+module _ (version count : ℕ) (d : Cursor) where
+  from_count : (found n : ℕ) (r : Result (ℕ × Cursor) ℕ) → and_then r (with_version found) ≡ Ok ((version, count), d) → is_read (value_at_end (and_then r (behind_count n))) ≡ (length d.rest == 32 * count)
+  from_count found n (Err place) e = absurd cc
+  from_count found n (Ok x) e =
+      let same : ((found, x.0), x.1) ≡ ((version, count), d) = ok_is ((found, x.0), x.1) ((version, count), d) e in
+      ap (λ (p : (ℕ × ℕ) × Cursor). is_read (value_at_end (behind_count n p.0.1 p.1))) same ∙ hashes_fill n count [] d
+
+  from_version : (r : Result (ℕ × Cursor) ℕ) → and_then r head_of ≡ Ok ((version, count), d) → is_read (value_at_end (and_then r behind_version)) ≡ (length d.rest == 32 * count)
   from_version (Err place) e = absurd cc
-  from_version (Ok x) e = from_count x.0 (counted x.1) e
+  from_version (Ok x) e = from_count x.0 x.0 (counted x.1) e
 
   -- so many pieces were announced
-  pub meta_counted : (s : Bytes) → piece_count (record { at = 0; rest = s }) ≡ Ok (count, d) → is_some (read_meta s) ≡ (length d.rest == 32 * count)
-  unfolding piece_count read_meta meta_fields
-  meta_counted s e = from_version (field (number w32) (λ n. n == 1) (record { at = 0; rest = s })) e
+  pub meta_counted : (s : Bytes) → meta_head (record { at = 0; rest = s }) ≡ Ok ((version, count), d) → is_some (read_meta s) ≡ (length d.rest == 32 * count)
+  unfolding meta_head read_meta meta_fields
+  meta_counted s e = from_version (field (number w32) is_version (record { at = 0; rest = s })) e
 
-not_counted : (version : ℕ) (r : Result (ℕ × Cursor) ℕ) → as_option r ≡ None → is_read (value_at_end (and_then r (behind_count version))) ≡ false
-not_counted version (Err place) e = refl
-not_counted version (Ok x) e = absurd cc
+not_counted : (version n : ℕ) (r : Result (ℕ × Cursor) ℕ) → as_option (and_then r (with_version version)) ≡ None → is_read (value_at_end (and_then r (behind_count n))) ≡ false
+not_counted version n (Err place) e = refl
+not_counted version n (Ok x) e = absurd cc
 
-no_version : (r : Result (ℕ × Cursor) ℕ) → as_option (and_then r (λ _. counted)) ≡ None → is_read (value_at_end (and_then r behind_version)) ≡ false
+no_version : (r : Result (ℕ × Cursor) ℕ) → as_option (and_then r head_of) ≡ None → is_read (value_at_end (and_then r behind_version)) ≡ false
 no_version (Err place) e = refl
-no_version (Ok x) e = not_counted x.0 (counted x.1) e
+no_version (Ok x) e = not_counted x.0 x.0 (counted x.1) e
 
 -- no version or no number of pieces
-pub no_meta : (s : Bytes) → as_option (piece_count (record { at = 0; rest = s })) ≡ None → is_some (read_meta s) ≡ false
-unfolding piece_count read_meta meta_fields
-no_meta s e = no_version (field (number w32) (λ n. n == 1) (record { at = 0; rest = s })) e
+pub no_meta : (s : Bytes) → as_option (meta_head (record { at = 0; rest = s })) ≡ None → is_some (read_meta s) ≡ false
+unfolding meta_head read_meta meta_fields
+no_meta s e = no_version (field (number w32) is_version (record { at = 0; rest = s })) e
 
-pub fails_meta : (s : Bytes) (e : FieldError) → Fails e (piece_count (record { at = 0; rest = s })) → NeedsNoMemory {X = ℕ} (Err e) → is_some (read_meta s) ≡ false
+pub fails_meta : (s : Bytes) (e : FieldError) → Fails e (meta_head (record { at = 0; rest = s })) → NeedsNoMemory {X = ℕ × ℕ} (Err e) → is_some (read_meta s) ≡ false
 fails_meta s (Bad place) failed none = no_meta s (ap as_option failed)
 fails_meta s Memory failed none = absurd none

@@ -1,5 +1,5 @@
 -- A manifest with files added to it.
-use Rattle.std.specs.Prelude.{◌≡◌, ℕ, ◌*◌, List, [], ◌∷◌, ◌++◌, length, map}
+use Rattle.std.specs.Prelude.{◌≡◌, ℕ, ◌*◌, List, [], ◌∷◌, ◌++◌, length, map, Option}
 use Rattle.format_spec.specs.Bytes.{Bytes}
 use Rattle.format_spec.specs.Hashes.{ChunkSum}
 use Rattle.format_spec.specs.declared.limits.TheConstants.{PAGE_SIZE}
@@ -14,16 +14,16 @@ pub record Adds (old new : Manifest) (file : FileSums) : Type 0 where
   pub files : new.files ≡ old.files ++ file_row file ∷ []
   pub chunks : new.chunks ≡ old.chunks ++ map (λ sum. record { file = length old.files; sum = sum }) (chunk_sums file)
 
--- the sums of the chunks of a file, whatever its name
-abbrev pub sums_from : ℕ → List Bytes → List ChunkSum
+-- the sums of the chunks of a file that have rows, whatever its name
+abbrev pub sums_from : ℕ → List (Option Bytes) → List ChunkSum
 sums_from size hashes = chunk_sums (record { name = []; size = size; hashes = hashes })
 
 -- both memories of a canister
-abbrev pub canister_sums : Bytes → CanisterRecord → List Bytes → List Bytes → List FileSums
+abbrev pub canister_sums : Bytes → CanisterRecord → List (Option Bytes) → List (Option Bytes) → List FileSums
 canister_sums id c heap stable =
     record { name = heap_name id; size = c.heap * PAGE_SIZE; hashes = heap }
     ∷ record { name = stable_name id; size = c.stable * PAGE_SIZE; hashes = stable } ∷ []
 
 -- the memories of all canisters
-abbrev pub all_memory_sums : SystemPart → List (List Bytes) → List FileSums
+abbrev pub all_memory_sums : SystemPart → List (List (Option Bytes)) → List FileSums
 all_memory_sums s hashes = memory_sums (memories_in s) hashes

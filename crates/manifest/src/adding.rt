@@ -1,9 +1,9 @@
 //! Files added to a manifest, one after another.
 
-ghost use Rattle.std.specs.Prelude.{◌≡◌, ◌<◌, ◌^◌, ◌++◌, ◌∷◌, [], ◌*◌, ℕ, List, length, map, IfOk, OnOk};
+ghost use Rattle.std.specs.Prelude.{◌≡◌, ◌<◌, ◌≤◌, ◌^◌, ◌++◌, ◌∷◌, [], ◌*◌, ℕ, List, length, map, IfOk, OnOk};
 ghost use Rattle.format_spec.specs.Bytes.{part_count};
 ghost use Rattle.state_spec.specs.Files.{heap_name, stable_name};
-ghost use Rattle.state_spec.specs.Manifest.{FileSums, manifest_from};
+ghost use Rattle.state_spec.specs.Manifest.{FileSums, manifest_from, row_of, chunk_size_at, chunk_offset};
 ghost use Rattle.sys_state.specs.System.{IsWithinLimits, part_of};
 ghost use Rattle.manifest.specs.Fits.{FitSums};
 ghost use Rattle.manifest.specs.Adding.{Adds, canister_sums, all_memory_sums, sums_from};
@@ -17,16 +17,16 @@ use std::alloc::Global;
 use sys_state::{CanisterId, CanisterRecord, SysState};
 
 impl Manifest {
-    // Adds the memories of all canisters, whose chunks have these hashes.
+    // Adds the memories of all canisters, whose chunks have these sums.
     pub(crate) fn add_memories(
         &mut self,
         alloc: Global,
         sys: &SysState,
-        sums: &[Vec<Hash32>],
+        sums: &[Vec<Option<Hash32>>],
     ) -> Result<(), NoMemory>
-        requires empty { self.old ≡ manifest_from 1 [] }
+        requires empty { self.old ≡ manifest_from self.old.version [] }
         requires fit { FitSums (part_of sys.now) (map (λ hashes. hashes.items) sums.now) }
-        ensures rows { OnOk result (self.new ≡ manifest_from 1 (all_memory_sums (part_of sys.now) (map (λ hashes. hashes.items) sums.now))) }
+        ensures rows { OnOk result (self.new ≡ manifest_from self.old.version (all_memory_sums (part_of sys.now) (map (λ hashes. hashes.items) sums.now))) }
         ensures kept { OnOk result (IsWithinLimits sys.now) }
     {
         for i in 0..sys.canisters() {
@@ -45,13 +45,13 @@ impl Manifest {
         alloc: Global,
         id: &CanisterId,
         canister: &CanisterRecord,
-        heap: &[Hash32],
-        stable: &[Hash32],
+        heap: &[Option<Hash32>],
+        stable: &[Option<Hash32>],
     ) -> Result<(), NoMemory>
         requires files { length self.old.files < 2 ^ 31 }
         requires heap { length heap.now ≡ part_count CHUNK_SIZE (canister.now.heap * PAGE_SIZE) }
         requires stable { length stable.now ≡ part_count CHUNK_SIZE (canister.now.stable * PAGE_SIZE) }
-        ensures { OnOk result ((fs : List FileSums) → self.old ≡ manifest_from 1 fs → self.new ≡ manifest_from 1 (fs ++ canister_sums id.now canister.now heap.now stable.now)) }
+        ensures { OnOk result ((v : ℕ) (fs : List FileSums) → self.old ≡ manifest_from v fs → self.new ≡ manifest_from v (fs ++ canister_sums id.now canister.now heap.now stable.now)) }
     {
         let name = memory_name(alloc, id, b"heap")?;
         self.add_file(alloc, name, size_of_pages(canister.heap), heap)?;
@@ -59,19 +59,19 @@ impl Manifest {
         self.add_file(alloc, name, size_of_pages(canister.stable), stable)
     }
 
-    // Adds a file of this name and size, whose chunks have these hashes.
+    // Adds a file of this name and size, whose chunks have these sums.
     pub(crate) fn add_file(
         &mut self,
         alloc: Global,
         name: Blob,
         size: u64,
-        hashes: &[Hash32],
+        hashes: &[Option<Hash32>],
     ) -> Result<(), NoMemory>
         requires files { length self.old.files < 2 ^ 32 }
         requires hashes { length hashes.now < 2 ^ 32 }
         ensures { OnOk result (Adds self.old self.new (record { name = name; size = size; hashes = hashes.now })) }
     {
-        let sums = chunk_sums(alloc, size, hashes)?;
+        let sums = row_sums(alloc, size, hashes)?;
         let file = self.files.len() as u32;
         add_chunks(&mut self.chunks, file, &sums)?;
         let hash = file_hash(&sums);
@@ -103,20 +103,42 @@ pub(crate) fn size_of_pages(pages: u32) -> u64
     u64::from(pages) * PAGE_SIZE as u64
 }
 
-// The sums of the chunks of a file of this size, which have these hashes.
-fn chunk_sums(alloc: Global, size: u64, hashes: &[Hash32]) -> Result<Vec<ChunkSum>, NoMemory>
+// The sums in the rows of a file of this size, whose chunks have these sums.
+fn row_sums(alloc: Global, size: u64, hashes: &[Option<Hash32>]) -> Result<Vec<ChunkSum>, NoMemory>
     requires { length hashes.now < 2 ^ 32 }
     ensures { IfOk result (λ sums. sums.items ≡ sums_from size hashes.now) }
 {
     let mut sums = Vec::with_capacity(alloc, hashes.len())?;
     for (i, hash) in hashes.iter().enumerate() {
-        let offset = i as u64 * CHUNK_SIZE as u64;
-        let left = size.saturating_sub(offset);
-        sums.push(ChunkSum {
-            size: left.min(CHUNK_SIZE as u64) as u32,
-            offset,
-            hash: *hash,
-        })?;
+        add_row(&mut sums, size, i as u64, hash)?;
     }
     Ok(sums)
+}
+
+// Adds what stands in the row of a chunk of a file of this size, where it has one.
+fn add_row(
+    sums: &mut Vec<ChunkSum>,
+    size: u64,
+    i: u64,
+    hash: &Option<Hash32>,
+) -> Result<(), NoMemory>
+    requires { i < 2 ^ 32 }
+    ensures { OnOk result (sums.new.items ≡ sums.old.items ++ row_of size (i, hash.now)) }
+{
+    match hash {
+        Some(hash) => Ok(sums.push(sum_at(size, i, hash))?),
+        None => Ok(()),
+    }
+}
+
+fn sum_at(size: u64, i: u64, hash: &Hash32) -> ChunkSum
+    requires { i < 2 ^ 32 }
+    ensures { result ≡ record { size = chunk_size_at size i; offset = chunk_offset i; hash = hash.now } }
+{
+    let offset = i * CHUNK_SIZE as u64;
+    ChunkSum {
+        size: size.saturating_sub(offset).min(CHUNK_SIZE as u64) as u32,
+        offset,
+        hash: *hash,
+    }
 }

@@ -1,8 +1,8 @@
-//! The chunk rows of a manifest's text.
+//! The chunk rows of a manifest's text in their slots.
 
 ghost use Rattle.std.specs.Prelude.{◌≡◌, [], length, map, IfOk, Some};
 ghost use Rattle.format_spec.specs.Fields.{each};
-ghost use Rattle.state_spec.specs.ManifestText.{chunk_after, slot_of};
+ghost use Rattle.state_spec.specs.ManifestText.{slot_after, slot_of};
 ghost use Rattle.byte_codec.specs.Gives.{Gives};
 ghost use Rattle.manifest.specs.Reading.{chunk_in};
 
@@ -18,7 +18,7 @@ pub(crate) fn read_chunks(
     reader: &mut Reader,
     slots: &[Slot],
 ) -> Result<Vec<ChunkRow>, FieldError>
-    ensures rows { Gives (λ rows. (rows.items, reader.new)) result (each (chunk_after slots.now) (length slots.now) [] reader.old) }
+    ensures rows { Gives (λ rows. (rows.items, reader.new)) result (each (slot_after slots.now) (length slots.now) [] reader.old) }
     ensures slots { IfOk result (λ rows. map slot_of rows.items ≡ slots.now) }
 {
     let mut rows = Vec::new(alloc);

@@ -1,21 +1,20 @@
 //! Manifests read from their texts, in one pass.
 
 ghost use Rattle.std.specs.Prelude.{◌≡◌, length, map, IfOk};
-ghost use Rattle.state_spec.specs.ManifestText.{manifest_fields, read_manifest, slots, slot_of};
+ghost use Rattle.state_spec.specs.ManifestText.{read_manifest};
 ghost use Rattle.manifest.specs.Fits.{FitsText};
+ghost use Rattle.manifest.specs.Reading.{InOrder, manifest_in_parts};
 ghost use Rattle.byte_codec.specs.Gives as fields;
 ghost use Rattle.manifest.specs.Gives.{Gives};
 
-use crate::chunks::read_chunks;
 use crate::encoding::MAGIC;
 use crate::error::ManifestError;
-use crate::fields::{read_exact_count, read_file_count};
+use crate::fields::{read_file_count, read_version};
 use crate::files::read_files;
 use crate::hashes::wrong_hash;
+use crate::memory_chunks::read_rows;
 use crate::rows::Manifest;
-use crate::slots::slots_of;
-use byte_codec::{FieldError, Reader, read_be32, read_magic};
-use format_spec::VERSION;
+use byte_codec::{FieldError, Reader, read_magic};
 use std::alloc::Global;
 
 impl Manifest {
@@ -28,7 +27,7 @@ impl Manifest {
     }
 }
 
-#[tactic(auto, unfolding(state_spec::specs::ManifestText::read_manifest))]
+#[tactic(auto, using(crate::proofs::InParts::in_parts), unfolding(state_spec::specs::ManifestText::read_manifest))]
 fn read_whole(alloc: Global, bytes: &[u8]) -> Result<Manifest, FieldError>
     ensures value { fields.Gives (λ m. m) result (read_manifest bytes.now) }
     ensures fits { IfOk result FitsText }
@@ -45,21 +44,19 @@ fn read_whole(alloc: Global, bytes: &[u8]) -> Result<Manifest, FieldError>
 }
 
 // All fields, without the hashes of the files being judged.
-#[tactic(auto, unfolding(state_spec::specs::ManifestText::manifest_fields))]
+#[tactic(auto, unfolding(crate::specs::Reading::manifest_in_parts))]
 fn read_fields(alloc: Global, reader: &mut Reader) -> Result<Manifest, FieldError>
-    ensures fields { fields.Gives (λ m. (m, reader.new)) result (manifest_fields reader.old) }
-    ensures slots { IfOk result (λ m. map slot_of m.chunks ≡ slots 0 m.files) }
+    ensures fields { fields.Gives (λ m. (m, reader.new)) result (manifest_in_parts reader.old) }
+    ensures order { IfOk result (λ m. InOrder 0 (length m.files) m.chunks) }
     ensures fits { IfOk result FitsText }
 {
     read_magic(reader, MAGIC)?;
-    read_be32(reader, VERSION)?;
+    let version = read_version(reader)?;
     let file_count = read_file_count(reader)?;
-    let files = read_files(alloc, reader, file_count)?;
-    let slots = slots_of(alloc, &files)?;
-    read_exact_count(reader, slots.len())?;
-    let chunks = read_chunks(alloc, reader, &slots)?;
+    let files = read_files(alloc, reader, version, file_count)?;
+    let chunks = read_rows(alloc, reader, version, &files)?;
     Ok(Manifest {
-        version: VERSION,
+        version,
         files,
         chunks,
     })

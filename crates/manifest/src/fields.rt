@@ -1,45 +1,87 @@
 //! The fields of a manifest's text, each with its rule and the place where it is refused.
 
-ghost use Rattle.std.specs.Prelude.{◌≡◌, ◌==◌, ◌<◌, ◌≤◌, ◌^◌, ◌+◌, ◌*◌, ◌%◌, ◌&&◌, nat_le, nat_lt, length, IfOk, IsTrue, OnOk, Some};
+ghost use Rattle.std.specs.Prelude.{◌≡◌, ◌==◌, ◌<◌, ◌||◌, ◌-◌, ◌≤◌, ◌^◌, ◌+◌, ◌*◌, ◌%◌, ◌&&◌, nat_le, nat_lt, length, IfOk, IsTrue, OnOk, Some};
 ghost use Rattle.std.specs.Int.{w32, w64};
 ghost use Rattle.std.specs.List.{before_first, position};
+ghost use Rattle.format_spec.specs.Versions.{is_version as is_version_of};
 ghost use Rattle.hex.specs.Hex.{decode_of};
 ghost use Rattle.format_spec.specs.Bytes.{same_bytes, is_after, bytes_cmp};
 ghost use Rattle.format_spec.specs.Fields.{field, number, string8};
 ghost use Rattle.state_spec.specs.Files.{system_name};
 ghost use Rattle.state_spec.specs.ManifestText.{id_of_hex, id_in, is_next_heap, is_its_stable, is_system_size};
 ghost use Rattle.byte_codec.specs.Gives.{Gives, NeedsNoMemory};
-ghost use Rattle.manifest.specs.Reading.{fits_memory, only_id, piece_count};
+ghost use Rattle.manifest.specs.Reading.{fits_memory, only_id, meta_head, counts_rows};
 
 use crate::names::{SYSTEM, memory_name};
-use byte_codec::{Blob, FieldError, Reader, is_same, read_be32};
+use byte_codec::{Blob, FieldError, Reader, is_same};
 use format_spec::{
-    MAX_CANISTERS, MAX_ID, MAX_PIECES, MAX_STATE_PAGES, MAX_SYSTEM, MIN_SYSTEM, PAGE_SIZE, VERSION,
-    memory_limit, state_limit,
+    MAX_CANISTERS, MAX_ID, MAX_PIECES, MAX_STATE_PAGES, MAX_SYSTEM, MIN_SYSTEM, PAGE_SIZE,
+    is_version, memory_limit, state_limit,
 };
 use std::alloc::Global;
 use sys_state::CanisterId;
 
-/// A count of four bytes that can only be this one.
-pub(crate) fn read_exact_count(reader: &mut Reader, wanted: usize) -> Result<(), FieldError>
-    ensures count { Gives (λ _. (wanted, reader.new)) result (field (number w32) (λ n. n == wanted) reader.old) }
-    ensures small { OnOk result (wanted < 2 ^ 32) }
+/// The version, which is 1 or 2.
+pub(crate) fn read_version(reader: &mut Reader) -> Result<u32, FieldError>
+    ensures version { Gives (λ n. (n, reader.new)) result (field (number w32) is_version_of reader.old) }
+    ensures memory { NeedsNoMemory result }
 {
     let at = reader.at();
     match reader.be32() {
-        Ok(count) if count as usize == wanted => Ok(()),
+        Ok(version) if is_version(version) => Ok(version),
         _ => Err(FieldError::Bad(at as u64)),
     }
 }
 
-/// The number of pieces, which is 1 to 128, behind the version.
-#[tactic(auto, unfolding(crate::specs::Reading::piece_count))]
-pub(crate) fn read_piece_count(reader: &mut Reader) -> Result<u32, FieldError>
-    ensures count { Gives (λ n. (n, reader.new)) result (piece_count reader.old) }
+/// The number of chunk rows, where the memories and the system text have so many slots.
+pub(crate) fn read_row_count(
+    reader: &mut Reader,
+    version: u32,
+    memories: usize,
+    system: usize,
+) -> Result<u32, FieldError>
+    requires { memories + system < 2 ^ 64 }
+    ensures count { Gives (λ n. (n, reader.new)) result (field (number w32) (counts_rows version memories system) reader.old) }
+    ensures each_first { IfOk result (λ n. version ≡ 1 → n ≡ memories + system) }
+    ensures room { IfOk result (λ n. system ≤ n) }
+{
+    let at = reader.at();
+    match reader.be32() {
+        Ok(count) if counts(version, memories, system, count as usize) => Ok(count),
+        _ => Err(FieldError::Bad(at as u64)),
+    }
+}
+
+fn counts(version: u32, memories: usize, system: usize, count: usize) -> bool
+    requires { memories + system < 2 ^ 64 }
+    ensures value { result ≡ counts_rows version memories system count }
+    ensures each_first { IsTrue result → version ≡ 1 → count ≡ memories + system }
+    ensures room { IsTrue result → system ≤ count }
+{
+    if version == 1 {
+        count == memories + system
+    } else {
+        system <= count && count <= memories + system
+    }
+}
+
+/// The version and the number of pieces, which is 1 to 128.
+#[tactic(auto, unfolding(crate::specs::Reading::meta_head))]
+pub(crate) fn read_meta_head(reader: &mut Reader) -> Result<(u32, u32), FieldError>
+    ensures head { Gives (λ x. (x, reader.new)) result (meta_head reader.old) }
+    ensures memory { NeedsNoMemory result }
+    ensures few { IfOk result (λ x. x.1 ≤ MAX_PIECES) }
+{
+    let version = read_version(reader)?;
+    let count = read_piece_count(reader)?;
+    Ok((version, count))
+}
+
+fn read_piece_count(reader: &mut Reader) -> Result<u32, FieldError>
+    ensures count { Gives (λ n. (n, reader.new)) result (field (number w32) (λ n. nat_lt 0 n && nat_le n MAX_PIECES) reader.old) }
     ensures memory { NeedsNoMemory result }
     ensures few { IfOk result (λ n. n ≤ MAX_PIECES) }
 {
-    read_be32(reader, VERSION)?;
     let at = reader.at();
     match reader.be32() {
         Ok(count) if 0 < count && count as usize <= MAX_PIECES => Ok(count),
@@ -61,24 +103,28 @@ pub(crate) fn read_file_count(reader: &mut Reader) -> Result<u32, FieldError>
 }
 
 /// The size of a memory, where those before have this size together.
-pub(crate) fn read_memory_size(reader: &mut Reader, total: u64) -> Result<u64, FieldError>
-    ensures size { Gives (λ size. (size, reader.new)) result (field (number w64) (fits_memory total) reader.old) }
+pub(crate) fn read_memory_size(
+    reader: &mut Reader,
+    version: u32,
+    total: u64,
+) -> Result<u64, FieldError>
+    ensures size { Gives (λ size. (size, reader.new)) result (field (number w64) (fits_memory version total) reader.old) }
     ensures fits { IfOk result (λ size. total + size ≤ MAX_STATE_PAGES * PAGE_SIZE) }
 {
     let at = reader.at();
     match reader.be64() {
-        Ok(size) if is_memory_size(total, size) => Ok(size),
+        Ok(size) if is_memory_size(version, total, size) => Ok(size),
         _ => Err(FieldError::Bad(at as u64)),
     }
 }
 
-fn is_memory_size(total: u64, size: u64) -> bool
-    ensures value { result ≡ fits_memory total size }
+fn is_memory_size(version: u32, total: u64, size: u64) -> bool
+    ensures value { result ≡ fits_memory version total size }
     ensures most { IsTrue result → total + size ≤ MAX_STATE_PAGES * PAGE_SIZE }
 {
     size % PAGE_SIZE as u64 == 0
-        && size <= (memory_limit(VERSION) * PAGE_SIZE) as u64
-        && total.saturating_add(size) <= (state_limit(VERSION) * PAGE_SIZE) as u64
+        && size <= (memory_limit(version) * PAGE_SIZE) as u64
+        && total.saturating_add(size) <= (state_limit(version) * PAGE_SIZE) as u64
 }
 
 /// The size of the system text.

@@ -21,10 +21,11 @@ use sys_state::CanisterId;
 pub(crate) fn read_files(
     alloc: Global,
     reader: &mut Reader,
+    version: u32,
     count: u32,
 ) -> Result<Vec<FileRow>, FieldError>
     requires { count % 2 ≡ 1 }
-    ensures rows { Gives (λ files. (files.items, reader.new)) result (each (file_after 1 count) count [] reader.old) }
+    ensures rows { Gives (λ files. (files.items, reader.new)) result (each (file_after version count) count [] reader.old) }
     ensures count { IfOk result (λ files. length files.items ≡ count) }
     ensures names { IfOk result (λ files. AllByRecursion (λ row. length row.name < 256) files.items) }
 {
@@ -32,10 +33,10 @@ pub(crate) fn read_files(
     let mut last = None;
     let mut total = 0;
     for _ in 0..count / 2 {
-        let (id, heap) = read_heap(alloc, reader, &last, total)?;
+        let (id, heap) = read_heap(alloc, reader, version, &last, total)?;
         total += heap.size;
         files.push(heap)?;
-        let stable = read_stable(alloc, reader, &id, total)?;
+        let stable = read_stable(alloc, reader, version, &id, total)?;
         total += stable.size;
         files.push(stable)?;
         last = Some(id);
@@ -49,16 +50,17 @@ pub(crate) fn read_files(
 fn read_heap(
     alloc: Global,
     reader: &mut Reader,
+    version: u32,
     last: &Option<CanisterId>,
     total: u64,
 ) -> Result<(CanisterId, FileRow), FieldError>
-    ensures row { Gives (λ x. (x.1, reader.new)) result (heap_row last.now total reader.old) }
+    ensures row { Gives (λ x. (x.1, reader.new)) result (heap_row version last.now total reader.old) }
     ensures id { IfOk result (λ x. id_in x.1.name ≡ Some x.0) }
     ensures short { IfOk result (λ x. length x.1.name < 256) }
     ensures size { IfOk result (λ x. total + x.1.size ≤ MAX_STATE_PAGES * PAGE_SIZE) }
 {
     let (id, name) = read_heap_name(alloc, reader, last)?;
-    let size = read_memory_size(reader, total)?;
+    let size = read_memory_size(reader, version, total)?;
     let hash = read_hash(reader)?;
     Ok((id, FileRow { name, size, hash }))
 }
@@ -68,16 +70,17 @@ fn read_heap(
 fn read_stable(
     alloc: Global,
     reader: &mut Reader,
+    version: u32,
     id: &CanisterId,
     total: u64,
 ) -> Result<FileRow, FieldError>
-    ensures row { Gives (λ row. (row, reader.new)) result (stable_row id.now total reader.old) }
+    ensures row { Gives (λ row. (row, reader.new)) result (stable_row version id.now total reader.old) }
     ensures id { IfOk result (λ row. id_in row.name ≡ Some id.now) }
     ensures short { IfOk result (λ row. length row.name < 256) }
     ensures size { IfOk result (λ row. total + row.size ≤ MAX_STATE_PAGES * PAGE_SIZE) }
 {
     let name = read_stable_name(alloc, reader, id)?;
-    let size = read_memory_size(reader, total)?;
+    let size = read_memory_size(reader, version, total)?;
     let hash = read_hash(reader)?;
     Ok(FileRow { name, size, hash })
 }

@@ -1,22 +1,23 @@
 //! Whether the hash of each file is that of its chunk rows.
 
-ghost use Rattle.std.specs.Prelude.{◌≡◌, ◌<◌, ◌^◌, length, map, IfOk, OnOk};
-ghost use Rattle.std.specs.List.{AllByRecursion};
-ghost use Rattle.state_spec.specs.ManifestText.{slots, slot_of, wrong_hash as place_of_wrong_hash};
+ghost use Rattle.std.specs.Prelude.{◌≡◌, ◌<◌, ◌≤◌, ◌^◌, ◌==◌, length, map, IfOk, OnOk};
+ghost use Rattle.std.specs.List.{AllByRecursion, prefix_len};
+ghost use Rattle.state_spec.specs.ManifestText.{wrong_hash as place_of_wrong_hash};
+ghost use Rattle.manifest.specs.Reading.{InOrder};
 
 use crate::rows::{ChunkRow, FileRow};
 use byte_codec::{NoMemory, is_same};
-use format_spec::{CHUNK_SIZE, HASH_SIZE, MANIFEST_HEAD};
+use format_spec::{HASH_SIZE, MANIFEST_HEAD};
 use hash_domain::{ChunkSum, file_hash};
 use std::alloc::Global;
 
-/// The place of the first file hash that isn't the hash of the file's chunk rows.
+/// The place of the first file hash that isn't the hash of the file's chunk rows, which stand in the order of files.
 pub(crate) fn wrong_hash(
     alloc: Global,
     files: &[FileRow],
     chunks: &[ChunkRow],
 ) -> Result<Option<u64>, NoMemory>
-    requires slots { map slot_of chunks.now ≡ slots 0 files.now }
+    requires order { InOrder 0 (length files.now) chunks.now }
     requires files { length files.now < 2 ^ 32 }
     requires chunks { length chunks.now < 2 ^ 32 }
     requires names { AllByRecursion (λ row. length row.name < 256) files.now }
@@ -25,8 +26,8 @@ pub(crate) fn wrong_hash(
     let mut sums = Vec::new(alloc);
     let mut at = MANIFEST_HEAD as u64;
     let mut begin = 0;
-    for row in files {
-        let end = begin + row.size.div_ceil(CHUNK_SIZE as u64) as usize;
+    for (number, row) in files.iter().enumerate() {
+        let end = begin + rows_of(&chunks[begin..], number as u32);
         copy_sums(&mut sums, &chunks[begin..end])?;
         let hash_at = at + 9 + row.name.bytes().len() as u64;
         if !is_same(row.hash.bytes(), file_hash(&sums).bytes()) {
@@ -36,6 +37,18 @@ pub(crate) fn wrong_hash(
         begin = end;
     }
     Ok(None)
+}
+
+// How many rows at the front are of this file.
+fn rows_of(rows: &[ChunkRow], file: u32) -> usize
+    ensures { result ≡ prefix_len (λ row. row.file == file) rows.now }
+{
+    'rows: for (i, row) in rows.iter().enumerate() {
+        if row.file != file {
+            return i;
+        }
+    }
+    rows.len()
 }
 
 // The sums of these rows, in place of what was there.

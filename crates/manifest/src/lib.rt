@@ -11,11 +11,13 @@ mod fields;
 mod files;
 mod hashes;
 mod making;
+mod memory_chunks;
 mod meta;
 mod names;
 mod parts;
 #[cfg(test)]
 mod reading_tests;
+mod row_fields;
 mod rows;
 mod slots;
 #[cfg(test)]

@@ -8,11 +8,11 @@ ghost use Rattle.state_spec.specs.Root.{root_of_meta, meta_text, meta_of, meta_f
 ghost use Rattle.manifest.specs.Fits.{FitsText};
 ghost use Rattle.byte_codec.specs.Gives.{Gives};
 
-use crate::fields::read_piece_count;
+use crate::fields::read_meta_head;
 use crate::parts::piece_hashes;
 use crate::rows::Manifest;
 use byte_codec::{Blob, FieldError, NoMemory, Reader, Writer};
-use format_spec::{HASH_SIZE, META_HEAD, VERSION};
+use format_spec::{HASH_SIZE, META_HEAD};
 use hash_domain::{Hash32, read_hash, root_hash};
 use std::alloc::Global;
 use std::marker::Model;
@@ -20,7 +20,7 @@ use std::marker::Model;
 /// The version of a manifest and the hashes of the pieces of its text.
 #[derive(Debug, Drop)]
 pub struct MetaManifest {
-    /// The version of the format: 1.
+    /// The version of the format: 1 or 2.
     pub version: u32,
     /// The hash of each piece of 4,096 bytes, of which the last may be shorter.
     pub pieces: Vec<Hash32>,
@@ -70,8 +70,8 @@ impl MetaManifest {
         ensures { result ≡ is_some (read_meta text.now) }
     {
         let mut reader = Reader::new(text);
-        match read_piece_count(&mut reader) {
-            Ok(count) => reader.left() == HASH_SIZE * count as usize,
+        match read_meta_head(&mut reader) {
+            Ok((_, count)) => reader.left() == HASH_SIZE * count as usize,
             Err(_) => false,
         }
     }
@@ -111,17 +111,14 @@ fn read_whole(alloc: Global, bytes: &[u8]) -> Result<MetaManifest, FieldError>
     Ok(meta)
 }
 
-#[tactic(auto, unfolding(state_spec::specs::Root::meta_fields, crate::specs::Reading::piece_count))]
+#[tactic(auto, unfolding(state_spec::specs::Root::meta_fields, crate::specs::Reading::meta_head))]
 fn read_fields(alloc: Global, reader: &mut Reader) -> Result<MetaManifest, FieldError>
     ensures fields { Gives (λ m. (m, reader.new)) result (meta_fields reader.old) }
     ensures few { IfOk result (λ m. length m.pieces ≤ MAX_PIECES) }
 {
-    let count = read_piece_count(reader)?;
+    let (version, count) = read_meta_head(reader)?;
     let pieces = read_pieces(alloc, reader, count)?;
-    Ok(MetaManifest {
-        version: VERSION,
-        pieces,
-    })
+    Ok(MetaManifest { version, pieces })
 }
 
 fn read_pieces(alloc: Global, reader: &mut Reader, count: u32) -> Result<Vec<Hash32>, FieldError>

@@ -10,6 +10,11 @@ use std::test::Fail;
 pub(crate) const TEXT: &[u8] =
     b"49434d4600000001000000031063616e69737465722f30302f686561700000000000000000981305d7c0b2ace0f53fe822f4075278fa28511e8c34e70f37fd8425af659b361263616e69737465722f30302f737461626c650000000000000000981305d7c0b2ace0f53fe822f4075278fa28511e8c34e70f37fd8425af659b360673797374656d0000000000000024c359767ab6d00db710d127e3561d1acf37c791b2dfbdd9fdef8ae6467cd01f2600000001000000020000002400000000000000005e5ee78e0168adc8ce3725d3977086008dee42b18eb5f5fa89afa0c63cf60265";
 
+// One of version 2: a heap of three chunks of which the first and the last have rows, a page of stable memory with its
+// row, and the system text. The last chunk of the heap has the hash of zeros.
+const TEXT_2: &[u8] =
+    b"49434d4600000002000000031063616e69737465722f30302f686561700000000000201000c38aeaf83cee04e491a020c6871b7f38f570c470711c89dd4ed003ccceb66cfc1263616e69737465722f30302f737461626c65000000000000100084ae99a1d6adf3f37ab50a4a37170f49c97eda9b55f6de83fe44fc4ee91a8b5c0673797374656d0000000000000024737aff736f224644e3d790bfbd8556221c54d6d9420a1ce242c7d23cfac9c7dc00000004000000000010000000000000000000009e6c1ee42538a86e2ff03d160512643cfc6ab7e38700c4835fa4f45c336c66a20000000000001000000000000020000017bb16d703f4f588ecf3cafe21c2648be1c67b05617b62296195922f19f8b44e000000010000100000000000000000000f538e6c771a42e4cabb8c94e7b7bb18855dff1ee97cce6cae7784f8d28ff5e2000000020000002400000000000000000f9a609422276a62067982806de9dd0dd709897b25f2192af03d06c5658180e5";
+
 pub(crate) const META: &[u8] =
     b"0000000100000001ea84ec1fe04772eceb82c9fcfaba880af1e9b8cccf4dba1eacddaf7b9feb37c4";
 
@@ -85,6 +90,12 @@ fn a_cut_text_is_refused_at_the_field_that_is_cut(rt: HostRuntime) -> Result<(),
     for (start, end) in fields.iter().zip(fields.iter().skip(1)) {
         check_cuts(&rt, alloc, text.bytes(), *start, *end);
     }
+    let other = hex_bytes(alloc, TEXT_2)?;
+    for start in [
+        0usize, 4, 12, 37, 88, 143, 175, 179, 183, 187, 195, 227, 231, 235, 243, 275, 323, 339,
+    ] {
+        check_cuts(&rt, alloc, other.bytes(), start, start + 4);
+    }
     let mut longer = text.bytes().to_vec(alloc)?;
     longer.push(0)?;
     assert_eq!(rt; place_of(alloc, &longer), Some(227));
@@ -97,7 +108,7 @@ fn a_broken_rule_is_refused_at_its_field(rt: HostRuntime) -> Result<(), Fail> {
     let text = hex_bytes(alloc, TEXT)?;
     for (at, bytes, place) in [
         (0, b"J".as_slice(), 0),
-        (7, b"\x02".as_slice(), 4),
+        (7, b"\x03".as_slice(), 4),
         (8, b"\xff\xff\xff\xff".as_slice(), 8),
         (10, b"\x08".as_slice(), 8),
         (11, b"\x02".as_slice(), 8),
@@ -120,6 +131,38 @@ fn a_broken_rule_is_refused_at_its_field(rt: HostRuntime) -> Result<(), Fail> {
         (186, b"\x25".as_slice(), 183),
         (194, b"\x01".as_slice(), 187),
         (226, b"\0".as_slice(), 143),
+    ] {
+        let bad = changed(alloc, text.bytes(), at, bytes)?;
+        assert_eq!(rt; place_of(alloc, bad.bytes()), Some(place));
+    }
+    Ok(())
+}
+
+#[test]
+fn rows_of_version_2_are_read_by_their_rules(rt: HostRuntime) -> Result<(), Fail> {
+    let alloc = rt.alloc();
+    let text = hex_bytes(alloc, TEXT_2)?;
+    let manifest = Manifest::decode(alloc, text.bytes())?;
+    assert_eq!(rt; (manifest.version, manifest.chunks.len()), (2, 4));
+    assert!(rt; manifest.encode(alloc)? == text);
+    for (at, bytes, place) in [
+        (7, b"\x01".as_slice(), 175),
+        (7, b"\x03".as_slice(), 4),
+        (178, b"\0".as_slice(), 175),
+        (178, b"\x03".as_slice(), 275),
+        (178, b"\x06".as_slice(), 175),
+        (182, b"\x01\0\0\x10\0\0\0\0\0\0\0\0\0".as_slice(), 227),
+        (185, b"\x10\x01".as_slice(), 183),
+        (184, b"\0\0\0".as_slice(), 183),
+        (192, b"\x18".as_slice(), 187),
+        (192, b"\x20".as_slice(), 187),
+        (192, b"\x10".as_slice(), 37),
+        (231, b"\0\x10\0\0\0\0\0\0\0\0\0\0".as_slice(), 235),
+        (240, b"\x10".as_slice(), 235),
+        (278, b"\x02".as_slice(), 275),
+        (326, b"\x01".as_slice(), 323),
+        (330, b"\x25".as_slice(), 327),
+        (370, b"\0".as_slice(), 143),
     ] {
         let bad = changed(alloc, text.bytes(), at, bytes)?;
         assert_eq!(rt; place_of(alloc, bad.bytes()), Some(place));
@@ -165,14 +208,19 @@ fn canisters_stand_in_the_order_of_their_ids_and_fit_together(rt: HostRuntime) -
     let alloc = rt.alloc();
     let text = hex_bytes(alloc, TEXT)?;
     assert_eq!(rt; text.bytes().len(), 227);
-    for (digits, size, place) in [
-        (b"01".as_slice(), 0, None),
-        (b"10".as_slice(), 0, Some(128)),
-        (b"00".as_slice(), 0, Some(128)),
-        (b"0".as_slice(), 4096, Some(175)),
-        (b"0".as_slice(), (1 << 28) + 4096, Some(29)),
-        (b"012".as_slice(), 1 << 28, Some(261)),
+    for (version, digits, size, place) in [
+        (1, b"01".as_slice(), 0, None),
+        (1, b"10".as_slice(), 0, Some(128)),
+        (1, b"00".as_slice(), 0, Some(128)),
+        (1, b"0".as_slice(), 4096, Some(175)),
+        (1, b"0".as_slice(), (1 << 28) + 4096, Some(29)),
+        (1, b"012".as_slice(), 1 << 28, Some(261)),
+        (2, b"01".as_slice(), 1 << 29, None),
+        (2, b"0".as_slice(), (1 << 29) + 4096, Some(29)),
+        (2, b"012".as_slice(), 1 << 29, Some(261)),
     ] {
+        let text = changed(alloc, text.bytes(), 7, &[version])?;
+        assert_eq!(rt; text.bytes().len(), 227);
         let other = with_canisters(alloc, text.bytes(), digits, size)?;
         assert_eq!(rt; place_of(alloc, other.bytes()), place);
     }
@@ -194,7 +242,8 @@ fn a_meta_manifest_is_read_as_it_is_spelled(rt: HostRuntime) -> Result<(), Fail>
         (1, 128, 4096, true),
         (1, 129, 4128, false),
         (1, 0, 0, false),
-        (2, 1, 32, false),
+        (2, 1, 32, true),
+        (3, 1, 32, false),
         (1, 1, 31, false),
         (1, 1, 33, false),
         (1, u32::MAX, 32, false),

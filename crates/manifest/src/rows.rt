@@ -46,10 +46,10 @@ impl Model for ChunkRow {
     ghost view = { λ row. record { file = row.file; sum = record { size = row.size; offset = row.offset; hash = row.hash } } };
 }
 
-/// A row for each logical file in order, and a row for each chunk in order of files and offsets.
+/// A row for each logical file in order, and a row for each chunk that has one in order of files and offsets.
 #[derive(Debug, Drop)]
 pub struct Manifest {
-    /// The version of the format: 1.
+    /// The version of the format: 1 or 2.
     pub version: u32,
     /// The files.
     pub files: Vec<FileRow>,

@@ -26,14 +26,14 @@ impl Model for Slot {
     ghost view = { λ slot. record { file = slot.file; size = slot.size; offset = slot.offset } };
 }
 
-/// The slots of all chunks of these files.
-pub(crate) fn slots_of(alloc: Global, files: &[FileRow]) -> Result<Vec<Slot>, NoMemory>
-    requires { length files.now < 2 ^ 32 }
-    ensures { IfOk result (λ found. found.items ≡ slots 0 files.now) }
+/// The slots of all chunks of these files, of which the first has this number.
+pub(crate) fn slots_of(alloc: Global, first: u32, files: &[FileRow]) -> Result<Vec<Slot>, NoMemory>
+    requires { first + length files.now < 2 ^ 32 }
+    ensures { IfOk result (λ found. found.items ≡ slots first files.now) }
 {
     let mut found = Vec::new(alloc);
     for (number, row) in files.iter().enumerate() {
-        add_slots(&mut found, number as u32, row.size)?;
+        add_slots(&mut found, first + number as u32, row.size)?;
     }
     Ok(found)
 }

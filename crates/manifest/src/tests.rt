@@ -1,4 +1,5 @@
-ghost use Rattle.std.specs.Prelude.{◌≡◌, ◌≤◌, ◌*◌, length, IfOk};
+ghost use Rattle.std.specs.Prelude.{◌≡◌, ◌≤◌, ◌*◌, length, IfOk, IsTrue};
+ghost use Rattle.format_spec.specs.Versions.{is_version};
 ghost use Rattle.manifest.specs.Cases.{one_canister};
 ghost use Rattle.manifest.specs.Fits.{FitsText};
 
@@ -22,15 +23,22 @@ fn state_of(alloc: Global, id: CanisterId, pages: u32) -> Result<SysState, Fail>
 }
 
 // The manifest of a state of one canister with this heap.
-fn manifest_of(alloc: Global, id: CanisterId, pages: u32, heap: Vec<u8>) -> Result<Manifest, Fail>
+fn manifest_of(
+    alloc: Global,
+    id: CanisterId,
+    pages: u32,
+    heap: Vec<u8>,
+    version: u32,
+) -> Result<Manifest, Fail>
     requires few { pages ≤ 65536 }
     requires whole { length heap.items ≡ pages * 4096 }
+    requires version { IsTrue (is_version version) }
     ensures { IfOk result FitsText }
 {
     let sys = state_of(alloc, id, pages)?;
     let system = sys.encode(alloc)?;
     let memories = [heap, Vec::new(alloc)];
-    Ok(from_scratch(alloc, system.bytes(), &sys, &memories)?)
+    Ok(from_scratch(alloc, system.bytes(), &sys, &memories, version)?)
 }
 
 // So many pages of zeros, with these bytes at a place.
@@ -51,7 +59,9 @@ fn root_of(alloc: Global, id: u8, pages: u32, at: usize, bytes: &[u8]) -> Result
 {
     let id = CanisterId::new(&[id]).ok_or("no id")?;
     let heap = heap_of(alloc, pages, at, bytes)?;
-    let root = manifest_of(alloc, id, pages, heap)?.meta(alloc)?.root();
+    let root = manifest_of(alloc, id, pages, heap, VERSION)?
+        .meta(alloc)?
+        .root();
     Ok(hex_text(alloc, root.bytes())?)
 }
 
@@ -61,7 +71,7 @@ fn the_root_of_an_empty_state_is_that_of_another_program(rt: HostRuntime) -> Res
     let alloc = rt.alloc();
     let sys = SysState::new(alloc);
     let system = sys.encode(alloc)?;
-    let manifest = from_scratch(alloc, system.bytes(), &sys, &[])?;
+    let manifest = from_scratch(alloc, system.bytes(), &sys, &[], VERSION)?;
     let root = hex_text(alloc, manifest.meta(alloc)?.root().bytes())?;
     let want = b"06e6561f63ff12d6fad51e601f225ec7dcc863c1fbc11cabdd9cbf97f7da3224";
     assert_eq!(rt; root.bytes(), want.as_slice());
@@ -99,10 +109,55 @@ fn roots_of_whole_chunks_are_those_of_another_program(rt: HostRuntime) -> Result
 fn a_canister_has_two_files_beside_the_system_text(rt: HostRuntime) -> Result<(), Fail> {
     let alloc = rt.alloc();
     let id = CanisterId::new(b"\x00").ok_or("no id")?;
-    let manifest = manifest_of(alloc, id, 0, Vec::new(alloc))?;
+    let manifest = manifest_of(alloc, id, 0, Vec::new(alloc), VERSION)?;
     let text = hex_text(alloc, manifest.encode(alloc)?.bytes())?;
     assert_eq!(rt; text.bytes(), TEXT);
     let meta = hex_text(alloc, manifest.meta(alloc)?.encode(alloc)?.bytes())?;
     assert_eq!(rt; meta.bytes(), META);
+    Ok(())
+}
+
+// Files, chunk rows and bytes of the manifest, and its root hash in hexadecimal, of 512 pages of heap with this byte.
+fn shape_of(alloc: Global, version: u32, byte: u8) -> Result<(usize, usize, usize, Blob), Fail>
+    requires { IsTrue (is_version version) }
+{
+    let id = CanisterId::new(&[0]).ok_or("no id")?;
+    let heap = heap_of(alloc, 512, 1_048_576, &[byte])?;
+    let manifest = manifest_of(alloc, id, 512, heap, version)?;
+    let size = manifest.encode(alloc)?.bytes().len();
+    let root = hex_text(alloc, manifest.meta(alloc)?.root().bytes())?;
+    Ok((manifest.files.len(), manifest.chunks.len(), size, root))
+}
+
+#[test]
+fn chunks_of_zeros_have_rows_in_version_1_alone(rt: HostRuntime) -> Result<(), Fail> {
+    let alloc = rt.alloc();
+    for (version, byte, chunks, size, want) in [
+        (
+            1,
+            0,
+            3,
+            323,
+            b"96259bc87f945162c8f6590d9d5bf5750c4fd9fc75342a29af4b88cfc430c9e0".as_slice(),
+        ),
+        (
+            2,
+            0,
+            1,
+            227,
+            b"40a1b4d8ce796a08c9b0406e9ab180c0b8917a834e60172fa60c08de0f4113eb".as_slice(),
+        ),
+        (
+            2,
+            1,
+            2,
+            275,
+            b"d9d641dd3984613b11f2b33a4a37d76b08b65c768b4f5b789a5019fbd568d763".as_slice(),
+        ),
+    ] {
+        let shape = shape_of(alloc, version, byte)?;
+        assert_eq!(rt; (shape.0, shape.1, shape.2), (3, chunks, size));
+        assert_eq!(rt; shape.3.bytes(), want);
+    }
     Ok(())
 }

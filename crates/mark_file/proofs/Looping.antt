@@ -27,8 +27,8 @@ pub layer_by : (shown layers : List ℕ) (c : Cursor) → shown ≡ layers → f
 layer_by shown layers c is = ap (λ (ls : List ℕ). field (number w64) (is_new ls) c) is
 
 -- which memory comes next
-pub memory_next : (pages : List ℕ) (i : ℕ) (before : List MarkMemory) (c : Cursor) → length before ≡ i → i < length pages → memory_after pages before c ≡ memory_of (get_or pages i 0) c
-memory_next pages i before c count lt = ap (λ (o : Option ℕ). memory_at o c) (ap (slice_get pages) count ∙ slice_get-get_or pages i 0 lt)
+pub memory_next : (version : ℕ) (pages : List ℕ) (i : ℕ) (before : List MarkMemory) (c : Cursor) → length before ≡ i → i < length pages → memory_after version pages before c ≡ memory_of version (get_or pages i 0) c
+memory_next version pages i before c count lt = ap (λ (o : Option ℕ). memory_at version o c) (ap (slice_get pages) count ∙ slice_get-get_or pages i 0 lt)
 
 pub length_more : {X : Type 0} (xs new : List X) (x : X) (i : ℕ) → length xs ≡ i → new ≡ xs ++ x ∷ [] → length new ≡ i + 1
 length_more {X = X} xs new x i count is = ap length is ∙ omega (arith, length-append xs (x ∷ []), count)

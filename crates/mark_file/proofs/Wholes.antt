@@ -81,7 +81,7 @@ errors_alike height text errors.Memory refused = tt
 pub mark_fits : (m : Mark) (s : SystemPart) → IsMark m s → FitsText m
 mark_fits m s g = record {
   system = omega (arith, ap (λ (k : Bytes). length k) g.system_spelled, (system_size m.version s g.system_good).1);
-  layers = few_layers m.memories (memories_in s) g.memories_fit;
+  layers = few_layers m.version m.memories (memories_in s) g.memories_fit;
 }
 
 -- ---- the fields written one after another

@@ -66,6 +66,7 @@ pub record IsBothBody (height : ℕ) (body : Bytes) (both : Mark × System) : Ty
   pub mark : IsBody height body both.0 (part_of both.1)
   pub births : AllByRecursion (λ c. c.1.birth ≡ height) both.1.canisters
 
--- the root hash of a state with these parts, whose memories have these hashes
-abbrev pub root_from : SystemPart → List MarkMemory → Bytes
-root_from s memories = root_of_meta (meta_of (manifest_from 1 (file_sums s (map (λ memory. memory.sums) memories))))
+-- the root hash of a state of this version with these parts, whose memories have these sums
+abbrev pub root_from : ℕ → SystemPart → List MarkMemory → Bytes
+root_from version s memories =
+    root_of_meta (meta_of (manifest_from version (file_sums s (map (λ memory. memory.sums) memories))))

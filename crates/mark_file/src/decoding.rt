@@ -11,7 +11,7 @@ use crate::fields::{hashed_body, read_head, read_parts};
 use crate::mark::Mark;
 use crate::memories::read_mems;
 use byte_codec::{Blob, Reader, is_same};
-use format_spec::{MAX_HEIGHT, VERSION};
+use format_spec::MAX_HEIGHT;
 use hash_domain::chunk_hashes;
 use std::alloc::Global;
 use sys_state::{SysState, memory_pages};
@@ -19,9 +19,9 @@ use sys_state::{SysState, memory_pages};
 impl Mark {
     /// The mark of this height that the bytes spell. Memory is taken for what was read, and not for what a count says.
     ///
-    /// BadMark of this height exactly where they spell none: a field is cut or breaks its rule, the height in them is
-    /// another one or isn't from 1 to 2^62, the system text spells no state, a hash or the root isn't the true one, or
-    /// bytes follow. Memory where memory runs out.
+    /// BadMark of this height exactly where they spell none: a field is cut or breaks its rule, the version isn't 1 or 2, the
+    /// height in them is another one or isn't from 1 to 2^62, the system text spells no state, a hash or the root isn't the
+    /// true one, or bytes follow. Memory where memory runs out.
     pub fn decode(alloc: Global, height: u64, bytes: &[u8]) -> Result<Mark, MarkError>
         ensures exact { Decodes height bytes.now result }
         ensures fits { IfOk result FitsText }
@@ -66,12 +66,13 @@ fn read_body(alloc: Global, height: u64, body: &[u8]) -> Result<(Mark, SysState)
     ensures { Reads (IsBothBody height body.now) (SpellsBody height body.now) result }
 {
     let mut reader = Reader::new(body);
-    let system = read_head(&mut reader, height)?;
-    let sys = read_parts(alloc, system, height)?;
+    let head = read_head(&mut reader, height)?;
+    let (version, system) = head;
+    let sys = read_parts(alloc, system, height, version)?;
     let pages = memory_pages(alloc, &sys)?;
-    let mems = read_mems(alloc, &mut reader, &pages)?;
+    let mems = read_mems(alloc, &mut reader, &pages, version)?;
     let system_sums = chunk_hashes(alloc, system)?;
-    let root = root_hash(alloc, system, &sys, &mems)?;
+    let root = root_hash(alloc, system, &sys, &mems, version)?;
     let end = ending(alloc, &system_sums, &root)?;
     if !is_same(reader.rest(), &end) {
         return Err(Stop::Broken);
@@ -79,7 +80,7 @@ fn read_body(alloc: Global, height: u64, body: &[u8]) -> Result<(Mark, SysState)
     Ok((
         Mark {
             height,
-            version: VERSION,
+            version,
             system: Blob::from_slice(alloc, system)?,
             mems,
             system_sums,

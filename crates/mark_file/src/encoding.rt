@@ -3,7 +3,7 @@
 ghost use Rattle.std.specs.Prelude.{◌≡◌, ◌<◌, ◌^◌, ◌++◌, length, IfOk, OnOk};
 ghost use Rattle.std.specs.List.{flat_map, AllByRecursion};
 ghost use Rattle.format_spec.specs.Bytes.{be64};
-ghost use Rattle.store_spec.specs.Mark.{mark_text, mark_body, mark_memory_text, hashes_text};
+ghost use Rattle.store_spec.specs.Mark.{mark_text, mark_body, mark_memory_text, sum_text, sums_text, hashes_text};
 ghost use Rattle.mark_file.specs.Fits.{FitsText};
 
 use crate::mark::{Mark, MarkMem};
@@ -45,13 +45,13 @@ impl Mark {
         let system = self.system.bytes();
         text.extend_from_slice(&(system.len() as u32).to_be_bytes())?;
         text.extend_from_slice(system)?;
-        put_mems(text, &self.mems)?;
+        put_mems(text, &self.mems, self.version)?;
         put_hashes(text, &self.system_sums)?;
         text.extend_from_slice(self.root.bytes())?;
         Ok(())
     }
 
-    // Bytes in all: room that is asked for, and nothing depends on it.
+    // No fewer bytes than there are: room that is asked for, and nothing depends on it.
     fn size(&self) -> usize {
         let mut size = FRAME
             .saturating_add(self.system.bytes().len())
@@ -60,29 +60,52 @@ impl Mark {
             size = size
                 .saturating_add(4)
                 .saturating_add(mem.layers.len().saturating_mul(8))
-                .saturating_add(mem.sums.len().saturating_mul(HASH_SIZE));
+                .saturating_add(mem.sums.len().saturating_mul(1 + HASH_SIZE));
         }
         size
     }
 }
 
-fn put_mems(text: &mut Vec<u8>, mems: &[MarkMem]) -> Result<(), NoMemory>
+fn put_mems(text: &mut Vec<u8>, mems: &[MarkMem], version: u32) -> Result<(), NoMemory>
     requires { AllByRecursion (λ mem. length mem.layers < 2 ^ 32) mems.now }
-    ensures { OnOk result (text.new.items ≡ text.old.items ++ flat_map mark_memory_text mems.now) }
+    ensures { OnOk result (text.new.items ≡ text.old.items ++ flat_map (mark_memory_text version) mems.now) }
 {
     for mem in mems {
-        put_mem(text, mem)?;
+        put_mem(text, mem, version)?;
     }
     Ok(())
 }
 
-fn put_mem(text: &mut Vec<u8>, mem: &MarkMem) -> Result<(), NoMemory>
+fn put_mem(text: &mut Vec<u8>, mem: &MarkMem, version: u32) -> Result<(), NoMemory>
     requires { length mem.now.layers < 2 ^ 32 }
-    ensures { OnOk result (text.new.items ≡ text.old.items ++ mark_memory_text mem.now) }
+    ensures { OnOk result (text.new.items ≡ text.old.items ++ mark_memory_text version mem.now) }
 {
     text.extend_from_slice(&(mem.layers.len() as u32).to_be_bytes())?;
     put_numbers(text, &mem.layers)?;
-    put_hashes(text, &mem.sums)
+    put_sums(text, &mem.sums, version)
+}
+
+fn put_sums(text: &mut Vec<u8>, sums: &[Option<Hash32>], version: u32) -> Result<(), NoMemory>
+    ensures { OnOk result (text.new.items ≡ text.old.items ++ sums_text version sums.now) }
+{
+    for sum in sums {
+        put_sum(text, sum, version)?;
+    }
+    Ok(())
+}
+
+fn put_sum(text: &mut Vec<u8>, sum: &Option<Hash32>, version: u32) -> Result<(), NoMemory>
+    ensures { OnOk result (text.new.items ≡ text.old.items ++ sum_text version sum.now) }
+{
+    match sum {
+        None => text.push(0)?,
+        Some(hash) if version == 1 => text.extend_from_slice(hash.bytes())?,
+        Some(hash) => {
+            text.push(1)?;
+            text.extend_from_slice(hash.bytes())?;
+        }
+    }
+    Ok(())
 }
 
 fn put_numbers(text: &mut Vec<u8>, numbers: &[u64]) -> Result<(), NoMemory>

@@ -1,7 +1,8 @@
 //! What stands behind the memories, which the system text and the memories' hashes give: the hashes of the chunks of the
 //! system text, and the root hash.
 
-ghost use Rattle.std.specs.Prelude.{◌≡◌, ◌++◌, map, IfOk};
+ghost use Rattle.std.specs.Prelude.{◌≡◌, ◌++◌, map, IfOk, IsTrue};
+ghost use Rattle.format_spec.specs.Versions.{is_version};
 ghost use Rattle.state_spec.specs.SystemText.{system_text};
 ghost use Rattle.store_spec.specs.Mark.{hashes_text};
 ghost use Rattle.sys_state.specs.System.{part_of};
@@ -16,25 +17,27 @@ use manifest::Manifest;
 use std::alloc::Global;
 use sys_state::SysState;
 
-/// The root hash of the manifest of these parts, where the chunks of the memories have the hashes in these lists.
+/// The root hash of the manifest of this version and these parts, where the chunks of the memories have the sums in these lists.
 pub(crate) fn root_hash(
     alloc: Global,
     system: &[u8],
     sys: &SysState,
     mems: &[MarkMem],
+    version: u32,
 ) -> Result<Hash32, NoMemory>
+    requires version { IsTrue (is_version version) }
     requires text { system.now ≡ system_text (part_of sys.now) }
     requires fit { FitSums (part_of sys.now) (map (λ mem. mem.sums) mems.now) }
-    ensures { IfOk result (λ root. root ≡ root_from (part_of sys.now) mems.now) }
+    ensures { IfOk result (λ root. root ≡ root_from version (part_of sys.now) mems.now) }
 {
     let sums = memory_sums(alloc, mems)?;
-    let manifest = Manifest::from_sums(alloc, system, sys, &sums)?;
+    let manifest = Manifest::from_sums(alloc, system, sys, &sums, version)?;
     let meta = manifest.meta(alloc)?;
     Ok(meta.root())
 }
 
-/// The hashes of the chunks of each memory.
-pub fn memory_sums(alloc: Global, mems: &[MarkMem]) -> Result<Vec<Vec<Hash32>>, NoMemory>
+/// The sums of the chunks of each memory.
+pub fn memory_sums(alloc: Global, mems: &[MarkMem]) -> Result<Vec<Vec<Option<Hash32>>>, NoMemory>
     ensures { IfOk result (λ lists. map (λ list. list.items) lists.items ≡ map (λ mem. mem.sums) mems.now) }
 {
     let mut lists = Vec::with_capacity(alloc, mems.len())?;

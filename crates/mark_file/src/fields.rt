@@ -1,20 +1,21 @@
 //! The fields of a mark, each with its rule.
 
-ghost use Rattle.std.specs.Prelude.{◌≡◌, nat_le, IfOk};
+ghost use Rattle.std.specs.Prelude.{◌≡◌, nat_le, IfOk, IsTrue};
 ghost use Rattle.std.specs.List.{AllByRecursion};
 ghost use Rattle.std.specs.Int.{w32, w64};
 ghost use Rattle.format_spec.specs.Fields.{field, number, string32, any};
 ghost use Rattle.state_spec.specs.SystemText.{read_system};
 ghost use Rattle.sys_state.specs.System.{part_of};
-ghost use Rattle.mark_file.specs.Reading.{head_fields, most_layers, is_new};
+ghost use Rattle.format_spec.specs.Versions.{is_version};
+ghost use Rattle.mark_file.specs.Reading.{head_fields, most_layers, is_new, flag_of, sum_of};
 ghost use Rattle.byte_codec.specs.Gives.{Gives};
 ghost use Rattle.mark_file.specs.Spells.{Hashed};
 
 use crate::encoding::MAGIC;
 use crate::error::Stop;
-use byte_codec::{FieldError, Reader, is_same, read_be32, read_be64, read_count, read_magic};
-use format_spec::{HASH_SIZE, MAX_LAYERS, VERSION};
-use hash_domain::plain_hash;
+use byte_codec::{FieldError, Reader, is_same, read_be64, read_count, read_magic};
+use format_spec::{HASH_SIZE, MAX_LAYERS};
+use hash_domain::{Hash32, plain_hash, read_hash};
 use std::alloc::Global;
 use sys_state::{SysError, SysState};
 
@@ -34,15 +35,31 @@ pub(crate) fn hashed_body(text: &[u8]) -> Result<&[u8], Stop>
     }
 }
 
-/// The system text, behind the name, the version, this height and its length.
+/// The version, behind the name, and the system text, behind this height and its length.
 #[tactic(auto, unfolding(crate::specs::Reading::head_fields))]
-pub(crate) fn read_head<'a>(reader: &mut Reader<'a>, height: u64) -> Result<&'a [u8], FieldError>
-    ensures { Gives (λ system. (system.now, reader.new)) result (head_fields height reader.old) }
+pub(crate) fn read_head<'a>(
+    reader: &mut Reader<'a>,
+    height: u64,
+) -> Result<(u32, &'a [u8]), FieldError>
+    ensures head { Gives (λ head. ((head.0, head.1.now), reader.new)) result (head_fields height reader.old) }
+    ensures version { IfOk result (λ head. IsTrue (is_version head.0)) }
 {
     read_magic(reader, MAGIC)?;
-    read_be32(reader, VERSION)?;
+    let version = read_version(reader)?;
     read_be64(reader, height)?;
-    read_text(reader)
+    let system = read_text(reader)?;
+    Ok((version, system))
+}
+
+fn read_version(reader: &mut Reader) -> Result<u32, FieldError>
+    ensures value { Gives (λ n. (n, reader.new)) result (field (number w32) is_version reader.old) }
+    ensures version { IfOk result (λ n. IsTrue (is_version n)) }
+{
+    let at = reader.at();
+    match reader.be32() {
+        Ok(version) if version == 1 || version == 2 => Ok(version),
+        _ => Err(FieldError::Bad(at as u64)),
+    }
 }
 
 fn read_text<'a>(reader: &mut Reader<'a>) -> Result<&'a [u8], FieldError>
@@ -55,12 +72,18 @@ fn read_text<'a>(reader: &mut Reader<'a>) -> Result<&'a [u8], FieldError>
     }
 }
 
-/// The parts of a state that a system text spells, each canister being born at this height.
-pub(crate) fn read_parts(alloc: Global, system: &[u8], height: u64) -> Result<SysState, FieldError>
-    ensures gives { Gives part_of result (read_system 1 system.now) }
+/// The parts of a state of this version that a system text spells, each canister being born at this height.
+pub(crate) fn read_parts(
+    alloc: Global,
+    system: &[u8],
+    height: u64,
+    version: u32,
+) -> Result<SysState, FieldError>
+    requires { IsTrue (is_version version) }
+    ensures gives { Gives part_of result (read_system version system.now) }
     ensures births { IfOk result (λ sys. AllByRecursion (λ c. c.1.birth ≡ height) sys.canisters) }
 {
-    match SysState::decode(alloc, system, height, VERSION) {
+    match SysState::decode(alloc, system, height, version) {
         Ok(sys) => Ok(sys),
         Err(SysError::BadSystem(place)) => Err(FieldError::Bad(place)),
         Err(_) => Err(FieldError::Memory),
@@ -90,4 +113,31 @@ fn is_new_number(number: u64, before: &[u64]) -> bool
     ensures { result ≡ is_new before.now number }
 {
     !before.contains(&number)
+}
+
+/// The sum of a chunk in a mark of this version: None for a chunk that has no hash.
+#[tactic(auto, unfolding(crate::specs::Reading::sum_of))]
+pub(crate) fn read_sum(reader: &mut Reader, version: u32) -> Result<Option<Hash32>, FieldError>
+    ensures { Gives (λ sum. (sum, reader.new)) result (sum_of version reader.old) }
+{
+    let flag = read_flag(reader, version)?;
+    if flag == 0 {
+        return Ok(None);
+    }
+    let hash = read_hash(reader)?;
+    Ok(Some(hash))
+}
+
+// 1 where a hash follows.
+fn read_flag(reader: &mut Reader, version: u32) -> Result<u8, FieldError>
+    ensures { Gives (λ flag. (flag, reader.new)) result (flag_of version reader.old) }
+{
+    if version == 1 {
+        return Ok(1);
+    }
+    let at = reader.at();
+    match reader.u8() {
+        Ok(flag) if flag <= 1 => Ok(flag),
+        _ => Err(FieldError::Bad(at as u64)),
+    }
 }

@@ -9,8 +9,8 @@ use std::marker::Model;
 pub struct MarkMem {
     /// The numbers of its page files, oldest first: at most 32, all different, and none where it has no pages.
     pub layers: Vec<u64>,
-    /// The hash of each chunk of 1,048,576 bytes.
-    pub sums: Vec<Hash32>,
+    /// The hash of each chunk of 1,048,576 bytes. In version 2 None stands for a chunk of zeros, and in version 1 nowhere.
+    pub sums: Vec<Option<Hash32>>,
 }
 
 // Contracts see the two lists.
@@ -27,7 +27,7 @@ impl Model for MarkMem {
 pub struct Mark {
     /// The height, from 1 to 2^62.
     pub height: u64,
-    /// The version of the state's manifest: 1.
+    /// The version of the state, 1 or 2.
     pub version: u32,
     /// The system text.
     pub system: Blob,

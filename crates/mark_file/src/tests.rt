@@ -24,7 +24,7 @@ fn with(alloc: Global, mark: &[u8], from: usize, to: usize, bytes: &[u8]) -> Res
     let mut body = Writer::new(alloc);
     body.bytes(mark.get(..from).unwrap_or(&[]))?;
     body.bytes(bytes)?;
-    body.bytes(mark.get(to..168).unwrap_or(&[]))?;
+    body.bytes(mark.get(to..mark.len().saturating_sub(32)).unwrap_or(&[]))?;
     let body = body.into_blob();
     let mut text = Writer::new(alloc);
     text.bytes(body.bytes())?;
@@ -47,7 +47,7 @@ fn a_mark_is_written_and_read(rt: HostRuntime) -> Result<(), Fail> {
     let text = hex_bytes(alloc, MARK)?;
     let heap = MarkMem {
         layers: vec![in alloc; 0; 1]?,
-        sums: vec![in alloc; hash_at(text.bytes(), 68); 1]?,
+        sums: vec![in alloc; Some(hash_at(text.bytes(), 68)); 1]?,
     };
     let stable = MarkMem {
         layers: Vec::new(alloc),
@@ -68,19 +68,80 @@ fn a_mark_is_written_and_read(rt: HostRuntime) -> Result<(), Fail> {
     assert_eq!(rt; read.system.bytes(), mark.system.bytes());
     assert_eq!(rt; read.mems.len(), 2);
     assert_eq!(rt; read.mems[0].layers.as_slice(), [0].as_slice());
-    assert_eq!(rt; read.mems[0].sums[0], hash_at(text.bytes(), 68));
+    assert_eq!(rt; read.mems[0].sums[0], Some(hash_at(text.bytes(), 68)));
     assert!(rt; read.mems[1].layers.is_empty() && read.mems[1].sums.is_empty());
     assert_eq!(rt; read.system_sums.as_slice(), mark.system_sums.as_slice());
     assert_eq!(rt; read.root, mark.root);
     Ok(())
 }
 
+// Marks of version 2 by another program, as height 1 with page file 0: of the same state; and of a canister whose heap has 512
+// pages and a byte 1 at 1,048,576, so that its first chunk is of zeros.
+const SECOND: &[u8] =
+    b"49434d4b0000000200000000000000010000002449435359000000010000000000000000000000010100000000000001000000000000000000000001000000000000000001beedb2d1fe14d2a1f2a55ea7b1430bc260ce57831e5309b336f370db1bbb1af2000000009d635b144968103bac92fba2f13725393b48f45b945a53c45e01239cfa5c120907e11a7015b0664fd03f3429858a142d846d542125c5656a0217321a6704d2d9b37b2afeb3a92c8edb32cfc097b6e091d3575f5a76ed0517617611857666d6bb";
+
+const ZEROS: &[u8] =
+    b"49434d4b0000000200000000000000010000002449435359000000010000000000000000000000010100000000000200000000000000000000000001000000000000000000019e6c1ee42538a86e2ff03d160512643cfc6ab7e38700c4835fa4f45c336c66a2000000002210d8c7767c809a564be37a2b6383c45bc3aca81937a2d58bdc22619b79bbcfd9d641dd3984613b11f2b33a4a37d76b08b65c768b4f5b789a5019fbd568d76367fe3ede8595b2a8d055b1bb25746ae8bd25080f16ade80781eedb73c4f22ce1";
+
+// A mark of version 1 in all but one sum, which is the byte 0, and a root that leaves out that chunk's row.
+const NONE_IN_FIRST: &[u8] =
+    b"49434d4b0000000100000000000000010000002449435359000000010000000000000000000000010100000000000001000000000000000000000001000000000000000000000000009d635b144968103bac92fba2f13725393b48f45b945a53c45e01239cfa5c1209e122662fd288c1b8efb46e602d182560dda7618145a11930dcd62baf78315c9b7233ac3bcce09824aaabeb68f74c0e036721e75d9a66f943b44c561fbb12eaa1";
+
+// A mark of version 2 with one memory of `sums` sums, the last of them at the place `at`, and whether the first is none.
+fn check_second(
+    rt: &impl Abort,
+    alloc: Global,
+    digits: &[u8],
+    size: usize,
+    sums: usize,
+    at: usize,
+) -> Result<(), Fail> {
+    let text = hex_bytes(alloc, digits)?;
+    let read = Mark::decode(alloc, 1, text.bytes())?;
+    assert_eq!(rt; (text.bytes().len(), read.version), (size, 2));
+    assert_eq!(rt; read.encode(alloc)?.bytes(), text.bytes());
+    let heap = read.mems.first().ok_or("no memory")?;
+    assert_eq!(rt; heap.sums.len(), sums);
+    assert_eq!(rt; heap.sums.last(), Some(&Some(hash_at(text.bytes(), at))));
+    assert_eq!(rt; heap.sums.first() == Some(&None), sums == 2);
+    Ok(())
+}
+
+#[test]
+fn marks_of_version_2_are_written_and_read(rt: HostRuntime) -> Result<(), Fail> {
+    check_second(&rt, rt.alloc(), SECOND, 201, 1, 69)?;
+    check_second(&rt, rt.alloc(), ZEROS, 202, 2, 70)
+}
+
+#[test]
+fn a_mark_of_version_2_that_breaks_one_rule_is_refused(rt: HostRuntime) -> Result<(), Fail> {
+    let alloc = rt.alloc();
+    let text = hex_bytes(alloc, SECOND)?;
+    for (from, to, bytes) in BROKEN_SECOND {
+        let bytes = hex_bytes(alloc, bytes)?;
+        let broken = with(alloc, text.bytes(), from, to, bytes.bytes())?;
+        assert!(rt; is_bad(alloc, 1, broken.bytes()));
+    }
+    assert!(rt; is_bad(alloc, 1, hex_bytes(alloc, NONE_IN_FIRST)?.bytes()));
+    Ok(())
+}
+
+// Another version; another byte before the hash; none where the root has a row.
+const BROKEN_SECOND: [(usize, usize, &[u8]); 5] = [
+    (4, 8, b"00000001"),
+    (4, 8, b"00000003"),
+    (68, 69, b"02"),
+    (68, 69, b"00"),
+    (68, 101, b"00"),
+];
+
 // The bytes from one place to another, those in their place, and so on: one rule of the mark is broken, and every other holds
 // for what is then there. By another program, where a root changes too.
-const BROKEN: [(usize, usize, &[u8]); 13] = [
+const BROKEN: [(usize, usize, &[u8]); 14] = [
     // Another name, version and height.
     (0, 1, b"4a"),
     (4, 8, b"00000002"),
+    (4, 8, b"00000003"),
     (8, 16, b"0000000000000002"),
     // Another system text.
     (

@@ -1,29 +1,28 @@
 -- States with one root are equal up to history, or two strings clash.
-use Rattle.std.proofs.Common.{◌≡◌, ◌⊎◌, ℕ, ◌^◌, ◌<◌, ◌≤◌, List, [], ◌∷◌, ◌++◌, length, map, codes, Contains, Option, refl, sym, ap, ◌∙◌, subst, inl, inr, arith, length-append}
-use Rattle.std.specs.List.{flat_map, AllByRecursion}
-use Rattle.std.proofs.lemmas.List.{append_cancel_left, map-append, length-map, same_from_push, append-nil}
-use Rattle.std.proofs.lemmas.List.Concat.{flat_map-append}
+use Rattle.std.proofs.Common.{◌≡◌, ◌⊎◌, ℕ, List, [], ◌∷◌, ◌++◌, length, map, codes, Contains, Option, refl, sym, ap, ◌∙◌, subst, inl, inr, arith}
+use Rattle.std.specs.List.{flat_map}
+use Rattle.std.proofs.lemmas.List.{append_cancel_left, map-append, same_from_push}
 use Rattle.std.proofs.lemmas.List.Elements.{Contains-append_left, Contains-append_right}
 use Rattle.sha2.specs.Sha256.{sha256}
 use Rattle.sha2.proofs.Facts256.{length-sha256}
 use Rattle.format_spec.proofs.Cuts.{cut_front, cons_same, heads, Are32, hashes_cut}
-use Rattle.format_spec.specs.Bytes.{Bytes, parts, be32, be64, short_string}
+use Rattle.format_spec.specs.Bytes.{Bytes, be32, short_string}
 use Rattle.format_spec.specs.Hashes.{chunk_string, file_string, piece_string, root_string, chunk_hash, piece_hash, root_hash}
-use Rattle.format_spec.specs.declared.limits.TheConstants.{CHUNK_SIZE, PIECE_SIZE}
-use Rattle.format_spec.specs.Versions.{memory_limit}
-use Rattle.format_spec.proofs.StateLimits.{memory_limits}
-use Rattle.state_spec.specs.State.{State, Canister, CanisterPart, Memory, IsState, IsSystem, FitsCanister, SystemPart, bytes_in, memory_bytes, system_of, part_of, pages_of, canister_without_history, SameState}
+use Rattle.format_spec.specs.declared.limits.TheConstants.{PIECE_SIZE}
+use Rattle.state_spec.specs.State.{State, Canister, CanisterPart, Memory, IsState, IsSystem, SystemPart, bytes_in, memory_bytes, system_of, part_of, canister_without_history, SameState}
 use Rattle.state_spec.specs.SystemText.{system_text, read_system}
-use Rattle.state_spec.specs.Files.{files, heap_file, memory_files, stable_file, system_name}
-use Rattle.state_spec.specs.Manifest.{Manifest, manifest_of, manifest_from, sums_of, chunk_sums}
-use Rattle.state_spec.specs.ManifestText.{manifest_text}
+use Rattle.state_spec.specs.Files.{File, files, heap_file, memory_files, stable_file, system_file}
+use Rattle.state_spec.specs.Manifest.{Manifest, FileRow, manifest_of, manifest_from, file_row, sums_of, chunk_sums, row_chunks}
+use Rattle.state_spec.specs.ManifestText.{manifest_text, read_manifest}
 use Rattle.state_spec.specs.Root.{meta_of, pieces_of, root_of, hashed_strings}
 use Rattle.state_spec.proofs.BothWays.{system_again}
-use Rattle.state_spec.proofs.FileOrder.{length-in_turn, map-in_turn}
+use Rattle.state_spec.proofs.FileOrder.{map-in_turn}
+use Rattle.state_spec.proofs.ManifestWhole.{manifest_only}
 use Rattle.soundness.proofs.Strings.{Meet, one_or_meet, first_of_list, meet_within}
 use Rattle.format_spec.proofs.Parts.{joined, joined_parts}
-use Rattle.soundness.proofs.Joins.{each_or_meet, joined_same, lengths_same, AreShort}
-use Rattle.soundness.proofs.Texts.{File, chunks_in, contents, same_files, joined_chunks}
+use Rattle.soundness.proofs.Joins.{each_or_meet}
+use Rattle.soundness.proofs.Texts.{chunks_in, contents, hashes_in, versions, sizes_of, row_hashes, same_contents}
+use Rattle.soundness.proofs.StateManifests.{manifest_good}
 use Rattle.format_spec.proofs.Readings.{ok_is}
 
 -- ---- the lists of strings
@@ -38,16 +37,16 @@ pieces_in s = pieces_of (manifest_of s)
 pub in_chunks : (s : State) (x : Bytes) → Contains (map chunk_string (chunks_in (files s))) x → Contains (hashed_strings s) x
 unfolding hashed_strings
 in_chunks s x h =
-    let cs : List Bytes = flat_map (λ f. map chunk_string (parts CHUNK_SIZE f.1)) (files s) in
+    let cs : List Bytes = flat_map (λ f. map chunk_string (row_chunks f)) (files s) in
     let fs : List Bytes = map (λ f. file_string (chunk_sums (sums_of f))) (files s) in
     let ps : List Bytes = map piece_string (pieces_in s) in
     let rs : List Bytes = root_string s.version (meta_of (manifest_of s)).pieces ∷ [] in
-    Contains-append_left (cs ++ fs ++ ps) rs x (Contains-append_left (cs ++ fs) ps x (Contains-append_left cs fs x (subst (λ (y : List Bytes). Contains y x) (map_flat chunk_string (λ f. parts CHUNK_SIZE f.1) (files s)) h)))
+    Contains-append_left (cs ++ fs ++ ps) rs x (Contains-append_left (cs ++ fs) ps x (Contains-append_left cs fs x (subst (λ (y : List Bytes). Contains y x) (map_flat chunk_string row_chunks (files s)) h)))
 
 pub in_pieces : (s : State) (x : Bytes) → Contains (map piece_string (pieces_in s)) x → Contains (hashed_strings s) x
 unfolding hashed_strings
 in_pieces s x h =
-    let cs : List Bytes = flat_map (λ f. map chunk_string (parts CHUNK_SIZE f.1)) (files s) in
+    let cs : List Bytes = flat_map (λ f. map chunk_string (row_chunks f)) (files s) in
     let fs : List Bytes = map (λ f. file_string (chunk_sums (sums_of f))) (files s) in
     let ps : List Bytes = map piece_string (pieces_in s) in
     let rs : List Bytes = root_string s.version (meta_of (manifest_of s)).pieces ∷ [] in
@@ -56,7 +55,7 @@ in_pieces s x h =
 pub in_root : (s : State) → Contains (hashed_strings s) (root_string s.version (meta_of (manifest_of s)).pieces)
 unfolding hashed_strings
 in_root s =
-    let cs : List Bytes = flat_map (λ f. map chunk_string (parts CHUNK_SIZE f.1)) (files s) in
+    let cs : List Bytes = flat_map (λ f. map chunk_string (row_chunks f)) (files s) in
     let fs : List Bytes = map (λ f. file_string (chunk_sums (sums_of f))) (files s) in
     let ps : List Bytes = map piece_string (pieces_in s) in
     let r : Bytes = root_string s.version (meta_of (manifest_of s)).pieces in
@@ -120,60 +119,55 @@ piece_level s t (inl e) = by (each_or_meet piece_string piece_inj (pieces_in s) 
 state_contents : (s : State) → contents (files s) ≡ memory_bytes s ++ system_text (system_of s) ∷ []
 unfolding files
 state_contents s =
-    map-append (λ (f : File). f.1) (memory_files s.canisters) ((system_name, system_text (system_of s)) ∷ [])
-    ∙ ap (λ (x : List Bytes). x ++ system_text (system_of s) ∷ []) (map-in_turn heap_file stable_file (λ (f : File). f.1) s.canisters)
+    map-append (λ (f : File). f.bytes) (memory_files s.version s.canisters) (system_file (system_of s) ∷ [])
+    ∙ ap (λ (x : List Bytes). x ++ system_text (system_of s) ∷ []) (map-in_turn (heap_file s.version) (stable_file s.version) (λ (f : File). f.bytes) s.canisters)
 
-few_files : (s : State) → IsState s → length (files s) < 2 ^ 32
-unfolding files system_of
-few_files s h =
-    let last : List File = (system_name, system_text (system_of s)) ∷ [] in
-    let few = h.system.few_canisters in
-    let named : Bytes × Canister → Bytes × CanisterPart = λ c. (c.0, part_of c.1) in
-    let count = length-map s.canisters named in
-    omega (arith, few, count, length-in_turn heap_file stable_file s.canisters, length-append (memory_files s.canisters) last)
+row_sizes : (fs : List File) → map (λ (r : FileRow). r.size) (map file_row (map sums_of fs)) ≡ sizes_of fs
+row_sizes [] = refl
+row_sizes (f ∷ fs) = cons_same (length f.bytes) (length f.bytes) _ _ refl (row_sizes fs)
 
-short_memory : (v : ℕ) (m : Memory) → pages_of m ≤ memory_limit v → length m.bytes < 2 ^ 64
-short_memory v m h = omega (arith, h, (memory_limits v).1)
-
-short_memories : (v : ℕ) (cs : List (Bytes × Canister)) → AllByRecursion (FitsCanister v) (map (λ c. (c.0, part_of c.1)) cs) → AreShort (bytes_in cs)
-short_memories v [] h = tt
-short_memories v (c ∷ cs) h = (short_memory v c.1.heap h.0.heap, (short_memory v c.1.stable h.0.stable, short_memories v cs h.1))
+file_versions : (v w : ℕ) (cs ds : List (Bytes × Canister)) (x y : File) → v ≡ w → x.version ≡ y.version → length (sizes_of (memory_files v cs ++ x ∷ [])) ≡ length (sizes_of (memory_files w ds ++ y ∷ []))
+    → versions (memory_files v cs ++ x ∷ []) ≡ versions (memory_files w ds ++ y ∷ [])
+file_versions v w [] [] x y e last n = cons_same x.version y.version [] [] last refl
+file_versions v w [] (d ∷ ds) x y e last n = absurd (omega (arith, n))
+file_versions v w (c ∷ cs) [] x y e last n = absurd (omega (arith, n))
+file_versions v w (c ∷ cs) (d ∷ ds) x y e last n = cons_same v w _ _ e (cons_same v w _ _ e (file_versions v w cs ds x y e last (omega (arith, n))))
 
 -- ---- down to the bytes
 
 record SameBytes (s t : State) : Type 0 where
+  version : s.version ≡ t.version
   memory : memory_bytes s ≡ memory_bytes t
   system : system_text (system_of s) ≡ system_text (system_of t)
 
+-- from one manifest, whose text tells it, and the chunks that have rows
+same_bytes_of : (s t : State) → manifest_of s ≡ manifest_of t → chunks_in (files s) ≡ chunks_in (files t) → SameBytes s t
+unfolding manifest_of manifest_from files
+same_bytes_of s t e chunks =
+    let version : s.version ≡ t.version = ap (λ (m : Manifest). m.version) e in
+    let sizes : sizes_of (files s) ≡ sizes_of (files t) = sym (row_sizes (files s)) ∙ ap (λ (m : Manifest). map (λ (r : FileRow). r.size) m.files) e ∙ row_sizes (files t) in
+    let of : versions (files s) ≡ versions (files t) = file_versions s.version t.version s.canisters t.canisters (system_file (system_of s)) (system_file (system_of t)) version refl (ap length sizes) in
+    let all : contents (files s) ≡ contents (files t) = same_contents 0 (files s) (files t) of sizes (ap (λ (m : Manifest). m.chunks) e) chunks in
+    let both = same_from_push (memory_bytes s) (memory_bytes t) (system_text (system_of s)) (system_text (system_of t)) (sym (state_contents s) ∙ all ∙ state_contents t) in
+    record { version = version; memory = both.0; system = both.1 }
+
+pub row_hashes_of : (s : State) → hashes_in (manifest_of s).chunks ≡ map chunk_hash (chunks_in (files s))
+unfolding manifest_of manifest_from
+row_hashes_of s = row_hashes 0 (files s)
+
 file_level : (s t : State) → IsState s → IsState t → (manifest_text (manifest_of s) ≡ manifest_text (manifest_of t)) ⊎ Meets s t → SameBytes s t ⊎ Meets s t
-unfolding manifest_of system_of
 file_level s t hs ht (inr c) = inr c
-file_level s t hs ht (inl e) = by (each_or_meet chunk_string chunk_inj (chunks_in (files s)) (chunks_in (files t)) (sym (chunks_are (chunks_in (files s))) ∙ p.1 ∙ chunks_are (chunks_in (files t))))
+file_level s t hs ht (inl e) = by (each_or_meet chunk_string chunk_inj (chunks_in (files s)) (chunks_in (files t)) (sym (chunks_are (chunks_in (files s))) ∙ hashes ∙ chunks_are (chunks_in (files t))))
   where
-    p : (map (λ x. be64 (length x)) (contents (files s)) ≡ map (λ x. be64 (length x)) (contents (files t))) × (map chunk_hash (chunks_in (files s)) ≡ map chunk_hash (chunks_in (files t)))
-    p = same_files s.version t.version (files s) (files t) (hs.version ∙ sym ht.version) (few_files s hs) (few_files t ht) e
+    same : manifest_of s ≡ manifest_of t
+    same = ok_is (manifest_of s) (manifest_of t) (sym (manifest_only (manifest_of s) (manifest_good s hs)) ∙ ap read_manifest e ∙ manifest_only (manifest_of t) (manifest_good t ht))
 
-    sizes : map (λ x. be64 (length x)) (memory_bytes s) ≡ map (λ x. be64 (length x)) (memory_bytes t)
-    sizes =
-        let a : Bytes = system_text (system_of s) in
-        let b : Bytes = system_text (system_of t) in
-        let w : Bytes → Bytes = λ x. be64 (length x) in
-        (same_from_push (map w (memory_bytes s)) (map w (memory_bytes t)) (w a) (w b)
-        (sym (map-append w (memory_bytes s) (a ∷ [])) ∙ ap (map w) (sym (state_contents s)) ∙ p.0 ∙ ap (map w) (state_contents t) ∙ map-append w (memory_bytes t) (b ∷ []))).0
-
-    one_more : (xs : List Bytes) (a : Bytes) → joined (xs ++ a ∷ []) ≡ joined xs ++ a
-    one_more xs a = flat_map-append (λ (x : Bytes). x) xs (a ∷ []) ∙ simp append-nil
+    hashes : map chunk_hash (chunks_in (files s)) ≡ map chunk_hash (chunks_in (files t))
+    hashes = sym (row_hashes_of s) ∙ ap (λ (m : Manifest). hashes_in m.chunks) same ∙ row_hashes_of t
 
     by : (chunks_in (files s) ≡ chunks_in (files t)) ⊎ Meet (map chunk_string (chunks_in (files s))) (map chunk_string (chunks_in (files t))) → SameBytes s t ⊎ Meets s t
     by (inr c) = inr (meet_within (map chunk_string (chunks_in (files s))) (map chunk_string (chunks_in (files t))) (hashed_strings s) (hashed_strings t) (in_chunks s) (in_chunks t) c)
-    by (inl q) =
-        let a : Bytes = system_text (system_of s) in
-        let b : Bytes = system_text (system_of t) in
-        let all : joined (contents (files s)) ≡ joined (contents (files t)) = sym (joined_chunks (files s)) ∙ ap joined q ∙ joined_chunks (files t) in
-        let r = joined_same (memory_bytes s) (memory_bytes t) a b
-        (lengths_same (memory_bytes s) (memory_bytes t) (short_memories s.version s.canisters hs.system.canisters_fit) (short_memories t.version t.canisters ht.system.canisters_fit) sizes)
-        (sym (one_more (memory_bytes s) a) ∙ ap joined (sym (state_contents s)) ∙ all ∙ ap joined (state_contents t) ∙ one_more (memory_bytes t) b) in
-        inl (record { memory = r.0; system = r.1 })
+    by (inl q) = inl (same_bytes_of s t same q)
 
 -- ---- from the bytes to the state
 
@@ -227,13 +221,14 @@ whole s t v e m =
     let p = parts_same s t e in
     state_same s.version t.version s.time t.time (map plain s.canisters) (map plain t.canisters) s.entries t.entries v p.0 (canisters_same s.canisters t.canisters p.1 m) p.2
 
-system_same : (s t : State) → IsState s → IsState t → system_text (system_of s) ≡ system_text (system_of t) → system_of s ≡ system_of t
-system_same s t hs ht e =
-    ok_is (system_of s) (system_of t) (sym (system_again 1 (system_of s) (subst (λ (v : ℕ). IsSystem v (system_of s)) hs.version hs.system)) ∙ ap (read_system 1) e ∙ system_again 1 (system_of t) (subst (λ (v : ℕ). IsSystem v (system_of t)) ht.version ht.system))
+system_same : (s t : State) → IsState s → IsState t → s.version ≡ t.version → system_text (system_of s) ≡ system_text (system_of t) → system_of s ≡ system_of t
+system_same s t hs ht v e =
+    let there : IsSystem s.version (system_of t) = subst (λ (x : ℕ). IsSystem x (system_of t)) (sym v) ht.system in
+    ok_is (system_of s) (system_of t) (sym (system_again s.version (system_of s) hs.system) ∙ ap (read_system s.version) e ∙ system_again s.version (system_of t) there)
 
 pub same_root : (s t : State) → IsState s → IsState t → root_of s ≡ root_of t → SameState s t ⊎ Meet (hashed_strings s) (hashed_strings t)
 same_root s t hs ht e = by (file_level s t hs ht (piece_level s t (root_level s t e)))
   where
     by : SameBytes s t ⊎ Meets s t → SameState s t ⊎ Meets s t
     by (inr c) = inr c
-    by (inl b) = inl (whole s t (hs.version ∙ sym ht.version) (system_same s t hs ht b.system) b.memory)
+    by (inl b) = inl (whole s t b.version (system_same s t hs ht b.version b.system) b.memory)

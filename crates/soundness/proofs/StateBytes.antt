@@ -1,5 +1,5 @@
 -- The strings that are hashed for the root of a state of bytes are byte strings.
-use Rattle.std.proofs.Common.{◌≡◌, ℕ, suc, ◌+◌, ◌/◌, ◌%◌, ◌<◌, ◌&&◌, true, List, [], ◌∷◌, ◌++◌, length, map, codes, Option, Some, None, IfSome, refl, arith, nat_lt, nat_le}
+use Rattle.std.proofs.Common.{if◌then◌else◌, ◌≡◌, ℕ, suc, ◌+◌, ◌/◌, ◌%◌, ◌<◌, ◌&&◌, Bool, true, false, List, [], ◌∷◌, ◌++◌, length, map, codes, Option, Some, None, IfSome, refl, arith, nat_lt, nat_le}
 use Rattle.std.specs.List.{list_all, AllByRecursion, flat_map, enumerate_from}
 use Rattle.std.specs.Prelude.{slice_index}
 use Rattle.std.proofs.lemmas.Bool.{and_parts, leb-true}
@@ -9,15 +9,15 @@ use Rattle.format_spec.specs.Hashes.{ChunkSum, chunk_sum_text, chunk_string, fil
 use Rattle.format_spec.specs.declared.limits.TheConstants.{CHUNK_SIZE, PIECE_SIZE, MAX_LABELS}
 use Rattle.state_spec.specs.State.{State, Canister, CanisterPart, IsState, IsByteCanister, IsByteEntry, FitsCanister, FitsEntry, system_of, part_of, is_label, is_path}
 use Rattle.state_spec.specs.SystemText.{system_text, canister_text, entry_text, path_text, wasm_text}
-use Rattle.state_spec.specs.Files.{files, memory_files, file_name, system_name}
-use Rattle.state_spec.specs.Manifest.{FileRow, ChunkRow, chunk_sums, file_row, chunk_rows, sums_of, manifest_from, manifest_of}
+use Rattle.state_spec.specs.Files.{File, files, memory_files, system_file, file_name, system_name}
+use Rattle.state_spec.specs.Manifest.{FileRow, ChunkRow, row_of, chunk_sums, file_row, chunk_rows, has_row, row_chunks, sums_of, manifest_from, manifest_of}
 use Rattle.state_spec.specs.ManifestText.{manifest_text, file_row_text, chunk_row_text}
 use Rattle.state_spec.specs.Root.{meta_of, pieces_of, hashed_strings}
-use Rattle.soundness.proofs.Texts.{File}
+use Rattle.soundness.proofs.Texts.{rows_from, numbered}
 use Rattle.state_spec.proofs.SystemSizes.{id_size, label_size}
-use Rattle.soundness.proofs.StateManifests.{named, numbered, sum_at}
+use Rattle.soundness.proofs.StateManifests.{named}
 use Rattle.format_spec.proofs.ByteStrings.{by_test, one_byte, join_bytes, named_bytes, short_bytes, flat_bytes, parts_bytes, high_bytes, be32_bytes, sha_bytes, strings_join}
-use Rattle.format_spec.proofs.Lists.{all_join}
+use Rattle.format_spec.proofs.Lists.{all_join, all_filtered}
 use Rattle.state_spec.proofs.RowSizes.{length-file_name}
 
 -- ---- names
@@ -95,11 +95,11 @@ system_bytes s h =
 -- ---- files
 
 record ByteFile (f : File) : Type 0 where
-  name : IsBytes f.0
-  short : length f.0 < 256
-  bytes : IsBytes f.1
+  name : IsBytes f.name
+  short : length f.name < 256
+  bytes : IsBytes f.bytes
 
-memory_files_bytes : (v : ℕ) (cs : List (Bytes × Canister)) → AllByRecursion IsByteCanister cs → AllByRecursion (FitsCanister v) (map named cs) → AllByRecursion ByteFile (memory_files cs)
+memory_files_bytes : (v : ℕ) (cs : List (Bytes × Canister)) → AllByRecursion IsByteCanister cs → AllByRecursion (FitsCanister v) (map named cs) → AllByRecursion ByteFile (memory_files v cs)
 memory_files_bytes v [] b f = tt
 memory_files_bytes v (c ∷ cs) b f =
     let id = id_size c.0 f.0.id in
@@ -111,17 +111,22 @@ memory_files_bytes v (c ∷ cs) b f =
 
 files_bytes : (s : State) → IsState s → AllByRecursion ByteFile (files s)
 unfolding files system_of
-files_bytes s h = all_join ByteFile (memory_files s.canisters) ((system_name, system_text (system_of s)) ∷ []) (memory_files_bytes s.version s.canisters h.bytes.canisters h.system.canisters_fit) (record { name = by_test system_name refl; short = omega arith; bytes = system_bytes s h }, tt)
+files_bytes s h = all_join ByteFile (memory_files s.version s.canisters) (system_file (system_of s) ∷ []) (memory_files_bytes s.version s.canisters h.bytes.canisters h.system.canisters_fit) (record { name = by_test system_name refl; short = omega arith; bytes = system_bytes s h }, tt)
 
 -- ---- rows
 
 sum_bytes : (c : ChunkSum) → IsBytes c.hash → IsBytes (chunk_sum_text c)
 sum_bytes c h = join_bytes (be32 c.size ++ be64 c.offset) c.hash (join_bytes (be32 c.size) (be64 c.offset) (high_bytes 4 c.size) (high_bytes 8 c.offset)) h
 
-hash_sums : (size n : ℕ) (xs : List Bytes) → AllByRecursion (λ (c : ChunkSum). IsBytes c.hash) (map (sum_at size) (enumerate_from n (map chunk_hash xs)))
+hash_sums : (v size n : ℕ) (xs : List Bytes) → AllByRecursion (λ (c : ChunkSum). IsBytes c.hash) (rows_from v size n xs)
 unfolding chunk_hash
-hash_sums size n [] = tt
-hash_sums size n (x ∷ xs) = (sha_bytes _, hash_sums size (n + 1) xs)
+hash_sums v size n [] = tt
+hash_sums v size n (x ∷ xs) = go (has_row v x) (hash_sums v size (n + 1) xs)
+  where
+    go : (b : Bool) → AllByRecursion (λ (c : ChunkSum). IsBytes c.hash) (rows_from v size (n + 1) xs)
+        → AllByRecursion (λ (c : ChunkSum). IsBytes c.hash) (row_of size (n, (if b then Some (chunk_hash x) else None)) ++ rows_from v size (n + 1) xs)
+    go true h = (sha_bytes _, h)
+    go false h = h
 
 sums_text : (cs : List ChunkSum) → AllByRecursion (λ (c : ChunkSum). IsBytes c.hash) cs → IsBytes (flat_map chunk_sum_text cs)
 sums_text [] h = by_test [] refl
@@ -133,12 +138,12 @@ own_rows n (c ∷ cs) h = (join_bytes (be32 n) (chunk_sum_text c) (high_bytes 4 
 
 chunk_rows_bytes : (n : ℕ) (fs : List File) → AllByRecursion (λ r. IsBytes (chunk_row_text r)) (chunk_rows n (map sums_of fs))
 chunk_rows_bytes n [] = tt
-chunk_rows_bytes n (f ∷ fs) = all_join (λ r. IsBytes (chunk_row_text r)) (map (numbered n) (chunk_sums (sums_of f))) (chunk_rows (suc n) (map sums_of fs)) (own_rows n (chunk_sums (sums_of f)) (hash_sums (length f.1) 0 (parts CHUNK_SIZE f.1))) (chunk_rows_bytes (suc n) fs)
+chunk_rows_bytes n (f ∷ fs) = all_join (λ r. IsBytes (chunk_row_text r)) (map (numbered n) (chunk_sums (sums_of f))) (chunk_rows (suc n) (map sums_of fs)) (own_rows n (chunk_sums (sums_of f)) (hash_sums f.version (length f.bytes) 0 (parts CHUNK_SIZE f.bytes))) (chunk_rows_bytes (suc n) fs)
 
 file_rows_bytes : (fs : List File) → AllByRecursion ByteFile fs → AllByRecursion (λ r. IsBytes (file_row_text r)) (map file_row (map sums_of fs))
 unfolding file_hash
 file_rows_bytes [] h = tt
-file_rows_bytes (f ∷ fs) h = (join_bytes (short_string f.0 ++ be64 (length f.1)) _ (join_bytes (short_string f.0) (be64 (length f.1)) (short_bytes f.0 h.0.short h.0.name) (high_bytes 8 (length f.1))) (sha_bytes (file_string (chunk_sums (sums_of f)))), file_rows_bytes fs h.1)
+file_rows_bytes (f ∷ fs) h = (join_bytes (short_string f.name ++ be64 (length f.bytes)) _ (join_bytes (short_string f.name) (be64 (length f.bytes)) (short_bytes f.name h.0.short h.0.name) (high_bytes 8 (length f.bytes))) (sha_bytes (file_string (chunk_sums (sums_of f)))), file_rows_bytes fs h.1)
 
 manifest_bytes : (v : ℕ) (fs : List File) → AllByRecursion ByteFile fs → IsBytes (manifest_text (manifest_from v (map sums_of fs)))
 unfolding manifest_text manifest_from
@@ -164,9 +169,10 @@ pub piece_string_bytes : (xs : List Bytes) → AreByteStrings xs → AreByteStri
 piece_string_bytes [] h = tt
 piece_string_bytes (x ∷ xs) h = (named_bytes (codes "ic-state-sub-manifest") x refl h.0, piece_string_bytes xs h.1)
 
-chunk_strings : (fs : List File) → AllByRecursion ByteFile fs → AreByteStrings (flat_map (λ f. map chunk_string (parts CHUNK_SIZE f.1)) fs)
+chunk_strings : (fs : List File) → AllByRecursion ByteFile fs → AreByteStrings (flat_map (λ f. map chunk_string (row_chunks f)) fs)
 chunk_strings [] h = tt
-chunk_strings (f ∷ fs) h = strings_join (map chunk_string (parts CHUNK_SIZE f.1)) (flat_map (λ g. map chunk_string (parts CHUNK_SIZE g.1)) fs) (chunk_string_bytes (parts CHUNK_SIZE f.1) (parts_bytes CHUNK_SIZE f.1 h.0.bytes)) (chunk_strings fs h.1)
+chunk_strings (f ∷ fs) h = strings_join (map chunk_string (row_chunks f)) (flat_map (λ g. map chunk_string (row_chunks g)) fs)
+    (chunk_string_bytes (row_chunks f) (all_filtered IsBytes (has_row f.version) (parts CHUNK_SIZE f.bytes) (parts_bytes CHUNK_SIZE f.bytes h.0.bytes))) (chunk_strings fs h.1)
 
 file_strings : (fs : List File) → AreByteStrings (map (λ f. file_string (chunk_sums (sums_of f))) fs)
 file_strings [] = tt
@@ -174,7 +180,7 @@ file_strings (f ∷ fs) =
     let sums : List ChunkSum = chunk_sums (sums_of f) in
     let count : Bytes = be32 (length sums) in (
       named_bytes (codes "ic-state-file") (count ++ flat_map chunk_sum_text sums) refl
-          (join_bytes count (flat_map chunk_sum_text sums) (be32_bytes (length sums)) (sums_text sums (hash_sums (length f.1) 0 (parts CHUNK_SIZE f.1)))),
+          (join_bytes count (flat_map chunk_sum_text sums) (be32_bytes (length sums)) (sums_text sums (hash_sums f.version (length f.bytes) 0 (parts CHUNK_SIZE f.bytes)))),
       file_strings fs,
     )
 
@@ -194,7 +200,7 @@ pub state_strings : (s : State) → IsState s → AreByteStrings (hashed_strings
 unfolding hashed_strings meta_of manifest_of
 state_strings s h =
     let fs = files_bytes s h in
-    let cs : List Bytes = flat_map (λ f. map chunk_string (parts CHUNK_SIZE f.1)) (files s) in
+    let cs : List Bytes = flat_map (λ f. map chunk_string (row_chunks f)) (files s) in
     let gs : List Bytes = map (λ f. file_string (chunk_sums (sums_of f))) (files s) in
     let ps : List Bytes = map piece_string (pieces_of (manifest_of s)) in
     strings_join (cs ++ gs ++ ps) (root_string s.version (meta_of (manifest_of s)).pieces ∷ [])

@@ -1,131 +1,205 @@
--- Manifests with one text have the same sizes of files and the same chunk hashes.
-use Rattle.std.proofs.Common.{◌≡◌, ℕ, suc, ◌+◌, ◌^◌, ◌<◌, List, [], ◌∷◌, ◌++◌, length, map, codes, refl, sym, ap, ◌∙◌, subst, arith, length-append, append_assoc}
-use Rattle.std.specs.List.{flat_map, AllByRecursion, enumerate_from}
-use Rattle.std.proofs.lemmas.List.{append_cancel_left, map-append, length-map}
-use Rattle.std.proofs.lemmas.List.Concat.{flat_map-append}
+-- Files of one manifest with the same chunks that have rows are the same.
+use Rattle.std.proofs.Common.{◌≡◌, ℕ, suc, ◌+◌, ◌-◌, ◌*◌, ◌<◌, ◌≤◌, ◌==◌, ◌||◌, not, min, Bool, true, false, cond, List, [], ◌∷◌, ◌++◌, length, map, filter, Option, Some, None, refl, sym, ap, ◌∙◌, subst, arith, take, drop, if◌then◌else◌}
+use Rattle.std.specs.List.{flat_map, AllByRecursion, enumerate_from, list_all, range_with_len}
+use Rattle.std.proofs.lemmas.Bool.{and_parts, eqb-true}
+use Rattle.std.proofs.lemmas.List.{map-append, length-map, length-take, length-drop}
 use Rattle.sha2.proofs.Facts256.{length-sha256}
-use Rattle.format_spec.proofs.Cuts.{cut_front, cons_same, Are32, be32_same, chunks_32}
-use Rattle.format_spec.specs.Bytes.{Bytes, parts, be32, be64, short_string}
-use Rattle.format_spec.specs.Hashes.{ChunkSum, chunk_sum_text, chunk_hash, file_hash}
+use Rattle.format_spec.proofs.Cuts.{cut_front, cons_same, heads, Are32}
+use Rattle.format_spec.specs.Bytes.{Bytes, parts, part_count}
+use Rattle.format_spec.specs.Hashes.{ChunkSum, chunk_hash, file_hash}
 use Rattle.format_spec.specs.declared.limits.TheConstants.{CHUNK_SIZE}
-use Rattle.state_spec.specs.Manifest.{Manifest, FileRow, ChunkRow, chunk_sums, file_row, chunk_rows, sums_of, manifest_from, chunk_size_at, chunk_offset}
-use Rattle.state_spec.specs.ManifestText.{manifest_text, file_row_text, chunk_row_text}
+use Rattle.state_spec.specs.Files.{File}
+use Rattle.state_spec.specs.Manifest.{FileRow, ChunkRow, row_of, chunk_sums, file_row, chunk_rows, sum_of, sums_of, has_row, is_zeros, row_chunks}
 use Rattle.format_spec.proofs.Parts.{joined, joined_parts}
-use Rattle.soundness.proofs.Joins.{name_cut}
-use Rattle.format_spec.proofs.Lists.{apart_four, apart_five}
-use Rattle.state_spec.proofs.RowSizes.{length-chunk_row_text}
 
--- ---- rows of files
+-- ---- rows and their chunks
 
-one_row : (n m z y h g a b : Bytes) → length z ≡ length y → length h ≡ length g → ((short_string n ++ z) ++ h) ++ a ≡ ((short_string m ++ y) ++ g) ++ b → (z ≡ y) × (a ≡ b)
-one_row n m z y h g a b lz lh e =
-    let left : ((short_string n ++ z) ++ h) ++ a ≡ short_string n ++ (z ++ (h ++ a)) = apart_four (short_string n) z h a in
-    let right : ((short_string m ++ y) ++ g) ++ b ≡ short_string m ++ (y ++ (g ++ b)) = apart_four (short_string m) y g b in
-    let c = cut_front z (h ++ a) y (g ++ b) lz (name_cut n m (z ++ (h ++ a)) (y ++ (g ++ b)) (sym left ∙ e ∙ right)) in
-    (c.0, (cut_front h a g b lh c.1).1)
-
-abbrev HashesOf : List FileRow → Type 0
+abbrev pub HashesOf : List FileRow → Type 0
 HashesOf rs = AllByRecursion (λ r. length r.hash ≡ 32) rs
-
-rows_cut : (rs qs : List FileRow) (a b : Bytes) → length rs ≡ length qs → HashesOf rs → HashesOf qs → flat_map file_row_text rs ++ a ≡ flat_map file_row_text qs ++ b → (map (λ r. be64 r.size) rs ≡ map (λ r. be64 r.size) qs) × (a ≡ b)
-rows_cut [] [] a b n p q e = (refl, e)
-rows_cut [] (r ∷ qs) a b n p q e = absurd cc
-rows_cut (r ∷ rs) [] a b n p q e = absurd cc
-rows_cut (r ∷ rs) (s ∷ qs) a b n p q e =
-    let c = one_row r.name s.name (be64 r.size) (be64 s.size) r.hash s.hash (flat_map file_row_text rs ++ a) (flat_map file_row_text qs ++ b) refl (p.0 ∙ sym q.0)
-    (sym (append_assoc (file_row_text r) (flat_map file_row_text rs) a) ∙ e ∙ append_assoc (file_row_text s) (flat_map file_row_text qs) b) in
-    let d = rows_cut rs qs a b (omega (arith, n)) p.1 q.1 c.1 in
-    (cons_same (be64 r.size) (be64 s.size) (map (λ x. be64 x.size) rs) (map (λ x. be64 x.size) qs) c.0 d.0, d.1)
-
--- ---- rows of chunks
 
 abbrev pub hashes_in : List ChunkRow → List Bytes
 hashes_in rs = map (λ r. r.sum.hash) rs
 
-one_chunk : (r q : ChunkRow) → length r.sum.hash ≡ 32 → length q.sum.hash ≡ 32 → chunk_row_text r ≡ chunk_row_text q → r.sum.hash ≡ q.sum.hash
-one_chunk r q h g e =
-    let c = cut_front (be32 r.file) (chunk_sum_text r.sum) (be32 q.file) (chunk_sum_text q.sum) refl e in
-    (cut_front (be32 r.sum.size ++ be64 r.sum.offset) r.sum.hash (be32 q.sum.size ++ be64 q.sum.offset) q.sum.hash refl c.1).1
-
-chunks_cut : (rs qs : List ChunkRow) → Are32 (hashes_in rs) → Are32 (hashes_in qs) → flat_map chunk_row_text rs ≡ flat_map chunk_row_text qs → hashes_in rs ≡ hashes_in qs
-chunks_cut [] [] p q e = refl
-chunks_cut [] (s ∷ qs) p q e = absurd (omega (arith, ap length e, length-append (chunk_row_text s) (flat_map chunk_row_text qs), length-chunk_row_text s q.0))
-chunks_cut (r ∷ rs) [] p q e = absurd (omega (arith, ap length e, length-append (chunk_row_text r) (flat_map chunk_row_text rs), length-chunk_row_text r p.0))
-chunks_cut (r ∷ rs) (s ∷ qs) p q e =
-    let c = cut_front (chunk_row_text r) (flat_map chunk_row_text rs) (chunk_row_text s) (flat_map chunk_row_text qs) (length-chunk_row_text r p.0 ∙ sym (length-chunk_row_text s q.0)) e in
-    cons_same r.sum.hash s.sum.hash (hashes_in rs) (hashes_in qs) (one_chunk r s p.0 q.0 c.0) (chunks_cut rs qs p.1 q.1 c.1)
-
--- ---- the whole text
-
-texts_cut : (h v n m f g k l c d : Bytes) → ((((h ++ v) ++ n) ++ f) ++ k) ++ c ≡ ((((h ++ v) ++ m) ++ g) ++ l) ++ d → n ++ (f ++ (k ++ c)) ≡ m ++ (g ++ (l ++ d))
-texts_cut h v n m f g k l c d e = append_cancel_left (h ++ v) (n ++ (f ++ (k ++ c))) (m ++ (g ++ (l ++ d))) (sym (apart_five (h ++ v) n f k c) ∙ e ∙ apart_five (h ++ v) m g l d)
-
-pub record SameSums (m n : Manifest) : Type 0 where
-  pub sizes : map (λ r. be64 r.size) m.files ≡ map (λ r. be64 r.size) n.files
-  pub hashes : hashes_in m.chunks ≡ hashes_in n.chunks
-
-pub text_sums : (m n : Manifest) → m.version ≡ n.version → length m.files < 2 ^ 32 → length n.files < 2 ^ 32 → HashesOf m.files → HashesOf n.files → Are32 (hashes_in m.chunks) → Are32 (hashes_in n.chunks) → manifest_text m ≡ manifest_text n → SameSums m n
-unfolding manifest_text
-text_sums m n v fm fn hm hn cm cn e =
-    let c = texts_cut (codes "ICMF") (be32 m.version) (be32 (length m.files)) (be32 (length n.files)) (flat_map file_row_text m.files) (flat_map file_row_text n.files) (be32 (length m.chunks)) (be32 (length n.chunks)) (flat_map chunk_row_text m.chunks) (flat_map chunk_row_text n.chunks)
-    (e ∙ ap (λ (x : ℕ). codes "ICMF" ++ be32 x ++ be32 (length n.files) ++ flat_map file_row_text n.files ++ be32 (length n.chunks) ++ flat_map chunk_row_text n.chunks) (sym v)) in
-    let counts = cut_front (be32 (length m.files)) (flat_map file_row_text m.files ++ (be32 (length m.chunks) ++ flat_map chunk_row_text m.chunks)) (be32 (length n.files)) (flat_map file_row_text n.files ++ (be32 (length n.chunks) ++ flat_map chunk_row_text n.chunks)) refl c in
-    let rows = rows_cut m.files n.files (be32 (length m.chunks) ++ flat_map chunk_row_text m.chunks) (be32 (length n.chunks) ++ flat_map chunk_row_text n.chunks) (be32_same (length m.files) (length n.files) fm fn counts.0) hm hn counts.1 in
-    let last = cut_front (be32 (length m.chunks)) (flat_map chunk_row_text m.chunks) (be32 (length n.chunks)) (flat_map chunk_row_text n.chunks) refl rows.1 in
-    record { sizes = rows.0; hashes = chunks_cut m.chunks n.chunks cm cn last.1 }
-
--- ---- a manifest of files
-
-abbrev pub File : Type 0
-File = Bytes × Bytes
-
+-- the chunks that have rows
 abbrev pub chunks_in : List File → List Bytes
-chunks_in fs = flat_map (λ f. parts CHUNK_SIZE f.1) fs
+chunks_in fs = flat_map row_chunks fs
 
 abbrev pub contents : List File → List Bytes
-contents fs = map (λ f. f.1) fs
+contents fs = map (λ f. f.bytes) fs
 
-abbrev sum_at : ℕ → ℕ × Bytes → ChunkSum
-sum_at size e = record { size = chunk_size_at size e.0; offset = chunk_offset e.0; hash = e.1 }
+-- the rows of chunks from this one on
+abbrev pub rows_from : ℕ → ℕ → ℕ → List Bytes → List ChunkSum
+rows_from v size k ps = flat_map (row_of size) (enumerate_from k (map (sum_of v) ps))
 
-sum_hashes : (size n : ℕ) (hs : List Bytes) → map (λ (c : ChunkSum). c.hash) (map (sum_at size) (enumerate_from n hs)) ≡ hs
-sum_hashes size n [] = refl
-sum_hashes size n (h ∷ hs) = cons_same h h _ hs refl (sum_hashes size (n + 1) hs)
+abbrev pub with_rows : ℕ → List Bytes → List Bytes
+with_rows v ps = filter (has_row v) ps
 
-numbered : (n : ℕ) (cs : List ChunkSum) → hashes_in (map (λ c. record { file = n; sum = c }) cs) ≡ map (λ (c : ChunkSum). c.hash) cs
-numbered n [] = refl
-numbered n (c ∷ cs) = cons_same c.hash c.hash _ _ refl (numbered n cs)
+abbrev hash_of : ChunkSum → Bytes
+hash_of c = c.hash
+
+pub own_hashes : (v size k : ℕ) (ps : List Bytes) → map hash_of (rows_from v size k ps) ≡ map chunk_hash (with_rows v ps)
+own_hashes v size k [] = refl
+own_hashes v size k (p ∷ ps) = go (has_row v p) (own_hashes v size (k + 1) ps)
+  where
+    go : (b : Bool) → map hash_of (rows_from v size (k + 1) ps) ≡ map chunk_hash (with_rows v ps)
+        → map hash_of (row_of size (k, (if b then Some (chunk_hash p) else None)) ++ rows_from v size (k + 1) ps) ≡ map chunk_hash (cond b (p ∷ with_rows v ps) (with_rows v ps))
+    go true h = cons_same (chunk_hash p) (chunk_hash p) _ _ refl h
+    go false h = h
+
+pub own_count : (f : File) → length (chunk_sums (sums_of f)) ≡ length (row_chunks f)
+own_count f = sym (length-map (chunk_sums (sums_of f)) hash_of) ∙ ap length (own_hashes f.version (length f.bytes) 0 (parts CHUNK_SIZE f.bytes)) ∙ length-map (row_chunks f) chunk_hash
+
+abbrev pub numbered : ℕ → ChunkSum → ChunkRow
+numbered n c = record { file = n; sum = c }
+
+numbered_hashes : (n : ℕ) (cs : List ChunkSum) → hashes_in (map (numbered n) cs) ≡ map hash_of cs
+numbered_hashes n [] = refl
+numbered_hashes n (c ∷ cs) = cons_same c.hash c.hash _ _ refl (numbered_hashes n cs)
 
 pub row_hashes : (n : ℕ) (fs : List File) → hashes_in (chunk_rows n (map sums_of fs)) ≡ map chunk_hash (chunks_in fs)
 row_hashes n [] = refl
 row_hashes n (f ∷ fs) =
-    map-append (λ (r : ChunkRow). r.sum.hash) (map (λ c. record { file = n; sum = c }) (chunk_sums (sums_of f))) (chunk_rows (suc n) (map sums_of fs))
-    ∙ ap (λ (x : List Bytes). x ++ hashes_in (chunk_rows (suc n) (map sums_of fs))) (numbered n (chunk_sums (sums_of f)) ∙ sum_hashes (length f.1) 0 (map chunk_hash (parts CHUNK_SIZE f.1)))
-    ∙ ap (λ (x : List Bytes). map chunk_hash (parts CHUNK_SIZE f.1) ++ x) (row_hashes (suc n) fs)
-    ∙ sym (map-append chunk_hash (parts CHUNK_SIZE f.1) (chunks_in fs))
+    map-append (λ (r : ChunkRow). r.sum.hash) (map (numbered n) (chunk_sums (sums_of f))) (chunk_rows (suc n) (map sums_of fs))
+    ∙ ap (λ (x : List Bytes). x ++ hashes_in (chunk_rows (suc n) (map sums_of fs))) (numbered_hashes n (chunk_sums (sums_of f)) ∙ own_hashes f.version (length f.bytes) 0 (parts CHUNK_SIZE f.bytes))
+    ∙ ap (λ (x : List Bytes). map chunk_hash (row_chunks f) ++ x) (row_hashes (suc n) fs)
+    ∙ sym (map-append chunk_hash (row_chunks f) (chunks_in fs))
 
 pub rows_32 : (fs : List File) → HashesOf (map file_row (map sums_of fs))
 unfolding file_hash
 rows_32 [] = tt
 rows_32 (f ∷ fs) = (length-sha256 _, rows_32 fs)
 
-pub row_sizes : (fs : List File) → map (λ r. be64 r.size) (map file_row (map sums_of fs)) ≡ map (λ x. be64 (length x)) (contents fs)
-row_sizes [] = refl
-row_sizes (f ∷ fs) = cons_same (be64 (length f.1)) (be64 (length f.1)) _ _ refl (row_sizes fs)
+-- ---- chunks of zeros
 
-pub joined_chunks : (fs : List File) → joined (chunks_in fs) ≡ joined (contents fs)
-joined_chunks [] = refl
-joined_chunks (f ∷ fs) =
-    flat_map-append (λ (x : Bytes). x) (parts CHUNK_SIZE f.1) (chunks_in fs) ∙ ap (λ (x : Bytes). x ++ joined (chunks_in fs)) (joined_parts CHUNK_SIZE f.1 (omega arith)) ∙ ap (λ (x : Bytes). f.1 ++ x) (joined_chunks fs)
+zeros_same : (p q : Bytes) → is_zeros p ≡ true → is_zeros q ≡ true → length p ≡ length q → p ≡ q
+unfolding is_zeros
+zeros_same [] [] a b e = refl
+zeros_same [] (y ∷ q) a b e = absurd (omega arith)
+zeros_same (x ∷ p) [] a b e = absurd (omega arith)
+zeros_same (x ∷ p) (y ∷ q) a b e =
+    let s = and_parts (x == 0) (list_all (λ c. c == 0) p) a in
+    let t = and_parts (y == 0) (list_all (λ c. c == 0) q) b in
+    cons_same x y p q (eqb-true x 0 s.0 ∙ sym (eqb-true y 0 t.0)) (zeros_same p q s.1 t.1 (omega (arith, e)))
 
-pub same_files : (v w : ℕ) (fs gs : List File) → v ≡ w → length fs < 2 ^ 32 → length gs < 2 ^ 32
-    → manifest_text (manifest_from v (map sums_of fs)) ≡ manifest_text (manifest_from w (map sums_of gs))
-    → (map (λ x. be64 (length x)) (contents fs) ≡ map (λ x. be64 (length x)) (contents gs)) × (map chunk_hash (chunks_in fs) ≡ map chunk_hash (chunks_in gs))
-unfolding manifest_from
-same_files v w fs gs vw lf lg e =
-    let s = text_sums (manifest_from v (map sums_of fs)) (manifest_from w (map sums_of gs)) vw (subst (λ (n : ℕ). n < 2 ^ 32) (sym (rows_count fs)) lf) (subst (λ (n : ℕ). n < 2 ^ 32) (sym (rows_count gs)) lg) (rows_32 fs) (rows_32 gs)
-    (subst Are32 (sym (row_hashes 0 fs)) (chunks_32 (chunks_in fs))) (subst Are32 (sym (row_hashes 0 gs)) (chunks_32 (chunks_in gs))) e in
-    (sym (row_sizes fs) ∙ s.sizes ∙ row_sizes gs, sym (row_hashes 0 fs) ∙ s.hashes ∙ row_hashes 0 gs)
+no_row : (v : ℕ) (p : Bytes) → has_row v p ≡ false → is_zeros p ≡ true
+no_row v p h = go (v == 1) (is_zeros p) h
   where
-    rows_count : (fs : List File) → length (map file_row (map sums_of fs)) ≡ length fs
-    rows_count fs = length-map (map sums_of fs) file_row ∙ length-map fs sums_of
+    go : (a b : Bool) → (a || not b) ≡ false → b ≡ true
+    go true b e = absurd cc
+    go false true e = refl
+    go false false e = absurd cc
+
+-- ---- the chunks of one file
+
+behind : (v size k : ℕ) (ps : List Bytes) → AllByRecursion (λ (c : ChunkSum). k * CHUNK_SIZE ≤ c.offset) (rows_from v size k ps)
+behind v size k [] = tt
+behind v size k (p ∷ ps) = go (has_row v p) (lower (rows_from v size (k + 1) ps) (behind v size (k + 1) ps))
+  where
+    lower : (cs : List ChunkSum) → AllByRecursion (λ (c : ChunkSum). (k + 1) * CHUNK_SIZE ≤ c.offset) cs → AllByRecursion (λ (c : ChunkSum). k * CHUNK_SIZE ≤ c.offset) cs
+    lower [] h = tt
+    lower (c ∷ cs) h = (let low : (k + 1) * CHUNK_SIZE ≤ c.offset = h.0 in omega (arith, low), lower cs h.1)
+
+    go : (b : Bool) → AllByRecursion (λ (c : ChunkSum). k * CHUNK_SIZE ≤ c.offset) (rows_from v size (k + 1) ps)
+        → AllByRecursion (λ (c : ChunkSum). k * CHUNK_SIZE ≤ c.offset) (row_of size (k, (if b then Some (chunk_hash p) else None)) ++ rows_from v size (k + 1) ps)
+    go true h = (omega arith, h)
+    go false h = h
+
+-- a row of chunk k is no row of chunks behind it
+not_behind : (v size k : ℕ) (c : ChunkSum) (cs : List ChunkSum) (qs : List Bytes) → c.offset ≡ k * CHUNK_SIZE → c ∷ cs ≡ rows_from v size (k + 1) qs → ⊥
+not_behind v size k c cs qs at e =
+    let all = subst (AllByRecursion (λ (x : ChunkSum). (k + 1) * CHUNK_SIZE ≤ x.offset)) (sym e) (behind v size (k + 1) qs) in
+    let low : (k + 1) * CHUNK_SIZE ≤ c.offset = all.0 in
+    omega (arith, low, at)
+
+abbrev lengths : List Bytes → List ℕ
+lengths ps = map (λ p. length p) ps
+
+-- chunks of the same lengths, with the same rows and the same bytes where they have rows
+same_parts : (v size k : ℕ) (ps qs : List Bytes) → lengths ps ≡ lengths qs → rows_from v size k ps ≡ rows_from v size k qs → with_rows v ps ≡ with_rows v qs → ps ≡ qs
+same_parts v size k [] [] l r c = refl
+same_parts v size k [] (q ∷ qs) l r c = absurd cc
+same_parts v size k (p ∷ ps) [] l r c = absurd cc
+same_parts v size k (p ∷ ps) (q ∷ qs) l r c =
+    let h = heads (length p) (length q) (lengths ps) (lengths qs) l in
+    go (has_row v p) refl (has_row v q) refl (λ e f. same_parts v size (k + 1) ps qs h.1 e f) h.0 r c
+  where
+    sum : Bytes → ChunkSum
+    sum x = record { size = min CHUNK_SIZE (size - k * CHUNK_SIZE); offset = k * CHUNK_SIZE; hash = chunk_hash x }
+
+    go : (a : Bool) → has_row v p ≡ a → (b : Bool) → has_row v q ≡ b → (rows_from v size (k + 1) ps ≡ rows_from v size (k + 1) qs → with_rows v ps ≡ with_rows v qs → ps ≡ qs) → length p ≡ length q
+        → row_of size (k, (if a then Some (chunk_hash p) else None)) ++ rows_from v size (k + 1) ps ≡ row_of size (k, (if b then Some (chunk_hash q) else None)) ++ rows_from v size (k + 1) qs
+        → cond a (p ∷ with_rows v ps) (with_rows v ps) ≡ cond b (q ∷ with_rows v qs) (with_rows v qs) → p ∷ ps ≡ q ∷ qs
+    go true ip true iq more len rows chunks =
+        let c2 = heads p q (with_rows v ps) (with_rows v qs) chunks in
+        let r2 = heads (sum p) (sum q) (rows_from v size (k + 1) ps) (rows_from v size (k + 1) qs) rows in
+        cons_same p q ps qs c2.0 (more r2.1 c2.1)
+    go false ip false iq more len rows chunks = cons_same p q ps qs (zeros_same p q (no_row v p ip) (no_row v q iq) len) (more rows chunks)
+    go true ip false iq more len rows chunks = absurd (not_behind v size k (sum p) (rows_from v size (k + 1) ps) qs refl rows)
+    go false ip true iq more len rows chunks = absurd (not_behind v size k (sum q) (rows_from v size (k + 1) qs) ps refl (sym rows))
+
+part_lengths : (xs ys : Bytes) → length xs ≡ length ys → lengths (parts CHUNK_SIZE xs) ≡ lengths (parts CHUNK_SIZE ys)
+unfolding parts
+part_lengths xs ys e =
+    sizes xs (range_with_len 0 (part_count CHUNK_SIZE (length xs)))
+    ∙ ap (λ (n : ℕ). map (λ i. min CHUNK_SIZE (n - i * CHUNK_SIZE)) (range_with_len 0 (part_count CHUNK_SIZE n))) e
+    ∙ sym (sizes ys (range_with_len 0 (part_count CHUNK_SIZE (length ys))))
+  where
+    sizes : (s : Bytes) (is : List ℕ) → lengths (map (λ i. take CHUNK_SIZE (drop (i * CHUNK_SIZE) s)) is) ≡ map (λ i. min CHUNK_SIZE (length s - i * CHUNK_SIZE)) is
+    sizes s [] = refl
+    sizes s (i ∷ is) = cons_same _ _ _ _ (length-take CHUNK_SIZE (drop (i * CHUNK_SIZE) s) ∙ ap (λ (n : ℕ). min CHUNK_SIZE n) (length-drop (i * CHUNK_SIZE) s)) (sizes s is)
+
+same_file : (f g : File) → f.version ≡ g.version → length f.bytes ≡ length g.bytes → chunk_sums (sums_of f) ≡ chunk_sums (sums_of g) → row_chunks f ≡ row_chunks g → f.bytes ≡ g.bytes
+same_file f g v n rows chunks =
+    let ps : List Bytes = parts CHUNK_SIZE f.bytes in
+    let qs : List Bytes = parts CHUNK_SIZE g.bytes in
+    let r : rows_from f.version (length f.bytes) 0 ps ≡ rows_from f.version (length f.bytes) 0 qs = rows ∙ (λ i. rows_from (sym v i) (sym n i) 0 qs) in
+    let c : with_rows f.version ps ≡ with_rows f.version qs = chunks ∙ ap (λ (x : ℕ). with_rows x qs) (sym v) in
+    sym (joined_parts CHUNK_SIZE f.bytes (omega arith)) ∙ ap joined (same_parts f.version (length f.bytes) 0 ps qs (part_lengths f.bytes g.bytes n) r c) ∙ joined_parts CHUNK_SIZE g.bytes (omega arith)
+
+-- ---- all files
+
+above : (n : ℕ) (fs : List File) → AllByRecursion (λ r. n ≤ r.file) (chunk_rows n (map sums_of fs))
+above n [] = tt
+above n (f ∷ fs) = own (chunk_sums (sums_of f)) (lower (chunk_rows (suc n) (map sums_of fs)) (above (suc n) fs))
+  where
+    lower : (rs : List ChunkRow) → AllByRecursion (λ r. suc n ≤ r.file) rs → AllByRecursion (λ r. n ≤ r.file) rs
+    lower [] h = tt
+    lower (r ∷ rs) h = (let low : suc n ≤ r.file = h.0 in omega (arith, low), lower rs h.1)
+
+    own : (cs : List ChunkSum) → AllByRecursion (λ r. n ≤ r.file) (chunk_rows (suc n) (map sums_of fs)) → AllByRecursion (λ r. n ≤ r.file) (map (numbered n) cs ++ chunk_rows (suc n) (map sums_of fs))
+    own [] h = h
+    own (c ∷ cs) h = (omega arith, own cs h)
+
+-- rows of one file and those of files behind it
+rows_cut : (n : ℕ) (xs ys : List ChunkSum) (us ws : List ChunkRow) → AllByRecursion (λ r. suc n ≤ r.file) us → AllByRecursion (λ r. suc n ≤ r.file) ws → map (numbered n) xs ++ us ≡ map (numbered n) ys ++ ws → (xs ≡ ys) × (us ≡ ws)
+rows_cut n [] [] us ws p q e = (refl, e)
+rows_cut n [] (y ∷ ys) us ws p q e = absurd (other n (numbered n y) (map (numbered n) ys ++ ws) us refl p e)
+  where
+    other : (n : ℕ) (r : ChunkRow) (rest us : List ChunkRow) → r.file ≡ n → AllByRecursion (λ x. suc n ≤ x.file) us → us ≡ r ∷ rest → ⊥
+    other n r rest us file p e = let all = subst (AllByRecursion (λ x. suc n ≤ x.file)) e p in let low : suc n ≤ r.file = all.0 in omega (arith, low, file)
+rows_cut n (x ∷ xs) [] us ws p q e = absurd (other n (numbered n x) (map (numbered n) xs ++ us) ws refl q (sym e))
+  where
+    other : (n : ℕ) (r : ChunkRow) (rest ws : List ChunkRow) → r.file ≡ n → AllByRecursion (λ y. suc n ≤ y.file) ws → ws ≡ r ∷ rest → ⊥
+    other n r rest ws file q e = let all = subst (AllByRecursion (λ y. suc n ≤ y.file)) e q in let low : suc n ≤ r.file = all.0 in omega (arith, low, file)
+rows_cut n (x ∷ xs) (y ∷ ys) us ws p q e =
+    let h = heads (numbered n x) (numbered n y) (map (numbered n) xs ++ us) (map (numbered n) ys ++ ws) e in
+    let more = rows_cut n xs ys us ws p q h.1 in
+    (cons_same x y xs ys (ap (λ (r : ChunkRow). r.sum) h.0) more.0, more.1)
+
+abbrev pub versions : List File → List ℕ
+versions fs = map (λ f. f.version) fs
+
+abbrev pub sizes_of : List File → List ℕ
+sizes_of fs = map (λ f. length f.bytes) fs
+
+pub same_contents : (n : ℕ) (fs gs : List File) → versions fs ≡ versions gs → sizes_of fs ≡ sizes_of gs → chunk_rows n (map sums_of fs) ≡ chunk_rows n (map sums_of gs) → chunks_in fs ≡ chunks_in gs → contents fs ≡ contents gs
+same_contents n [] [] v z r c = refl
+same_contents n [] (g ∷ gs) v z r c = absurd cc
+same_contents n (f ∷ fs) [] v z r c = absurd cc
+same_contents n (f ∷ fs) (g ∷ gs) v z r c =
+    let v2 = heads f.version g.version (versions fs) (versions gs) v in
+    let z2 = heads (length f.bytes) (length g.bytes) (sizes_of fs) (sizes_of gs) z in
+    let rows = rows_cut n (chunk_sums (sums_of f)) (chunk_sums (sums_of g)) (chunk_rows (suc n) (map sums_of fs)) (chunk_rows (suc n) (map sums_of gs)) (above (suc n) fs) (above (suc n) gs) r in
+    let count : length (row_chunks f) ≡ length (row_chunks g) = sym (own_count f) ∙ ap length rows.0 ∙ own_count g in
+    let chunks = cut_front (row_chunks f) (chunks_in fs) (row_chunks g) (chunks_in gs) count c in
+    cons_same f.bytes g.bytes (contents fs) (contents gs) (same_file f g v2.0 z2.0 rows.0 chunks.0) (same_contents (suc n) fs gs v2.1 z2.1 rows.1 chunks.1)

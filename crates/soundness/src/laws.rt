@@ -2,12 +2,11 @@
 
 ghost use Rattle.std.specs.Prelude.{◌≡◌, ◌≢◌, ◌≤◌, ◌⊎◌, ℕ, true, false, List, [], ◌∷◌, Contains, IsTrue, Ok, map};
 ghost use Rattle.std.specs.List.{flat_map};
-ghost use Rattle.format_spec.specs.Bytes.{Bytes, IsBytes, AreByteStrings, parts};
+ghost use Rattle.format_spec.specs.Bytes.{Bytes, IsBytes, AreByteStrings};
 ghost use Rattle.format_spec.specs.Hashes.{Clash, root_string, piece_string, chunk_string, piece_hash, chunk_hash};
-ghost use Rattle.format_spec.specs.declared.limits.TheConstants.{CHUNK_SIZE};
 ghost use Rattle.state_spec.specs.State.{State, IsState, SameState, system_of, SystemPart, IsSystem};
 ghost use Rattle.state_spec.specs.Files.{files};
-ghost use Rattle.state_spec.specs.Manifest.{manifest_of};
+ghost use Rattle.state_spec.specs.Manifest.{manifest_of, row_chunks};
 ghost use Rattle.state_spec.specs.ManifestText.{IsManifest, manifest_text, read_manifest};
 ghost use Rattle.state_spec.specs.Root;
 ghost use Rattle.state_spec.specs.Root.{root_of, MetaManifest, root_of_meta, IsMeta, meta_of};
@@ -69,7 +68,7 @@ pub fn witnesses_show_their_paths()
         → Contains paths p → p ≢ [] → is_hidden paths p (root_children s) ≡ true → lookup p (witness s paths) ≡ unknown }
 {}
 
-/// Valid states with one root are equal in all but births and rounds, or two strings clash.
+/// Valid states with one root are equal in all but births and rounds, their versions included, or two strings clash.
 pub fn same_root_same_state()
     ensures { (s t : State) → IsState s → IsState t → root_of s ≡ root_of t
         → SameState s t ⊎ Clash (Root.hashed_strings s) (Root.hashed_strings t) }
@@ -87,7 +86,7 @@ pub fn state_metas_are_metas()
 {}
 
 /// Pieces that are right for a meta-manifest with the root of a valid state spell that state's manifest, and chunks that
-/// are right for this manifest are the chunks of the state's files, or two strings clash.
+/// are right for this manifest are those chunks of the state's files that have rows, or two strings clash.
 pub fn right_items_are_the_state_s()
     ensures manifest { (s : State) (m : MetaManifest) (ps : List Bytes) → IsState s → AreByteStrings ps
         → root_of_meta m ≡ root_of s → map piece_hash ps ≡ m.pieces
@@ -95,5 +94,5 @@ pub fn right_items_are_the_state_s()
         ⊎ Clash (Root.hashed_strings s) (root_string m.version m.pieces ∷ map piece_string ps) }
     ensures chunks { (s : State) (cs : List Bytes) → IsState s → AreByteStrings cs
         → map chunk_hash cs ≡ map (λ r. r.sum.hash) (manifest_of s).chunks
-        → (cs ≡ flat_map (λ f. parts CHUNK_SIZE f.1) (files s)) ⊎ Clash (Root.hashed_strings s) (map chunk_string cs) }
+        → (cs ≡ flat_map row_chunks (files s)) ⊎ Clash (Root.hashed_strings s) (map chunk_string cs) }
 {}

@@ -154,5 +154,6 @@ pub empty_stands : EachImage (disk_of_files (λ _. None)) (λ image. StandsFor i
 empty_stands image now = record {
   marks = record { ascending = λ k h. absurd (omega (arith, h)); each = λ n. rw (none_there image now n) refl };
   few = omega arith;
+  versions = tt;
   each = tt;
 }

@@ -3,8 +3,8 @@ use Rattle.std.proofs.Common.{◌≡◌, ◌≤◌, ℕ, suc, List, [], ◌∷�
 use Rattle.std.specs.List.{AllByRecursion, AllZip}
 use Rattle.format_spec.specs.declared.limits.TheConstants.{MAX_PUBLISHED}
 use Rattle.state_spec.specs.State.{SameState, state_from}
-use Rattle.store_spec.specs.Image.{Published, SamePublished, GivesHeight, GivesTrueHeight, StandsFor, Opens, heights_of, memories_from}
-use Rattle.store_spec.specs.Mark.{IsMarkText}
+use Rattle.store_spec.specs.Image.{Published, SamePublished, IsOpened, GivesHeight, GivesTrueHeight, StandsFor, Opens, heights_of, memories_from}
+use Rattle.store_spec.specs.Mark.{IsMarkText, is_opened}
 use Rattle.store_spec.proofs.Images.{opens_once, stands_open}
 use Rattle.disk_model.specs.declared.name.Kind.TheVariants as kind
 use Rattle.disk_model.specs.declared.name.Name.TheVariants as name
@@ -17,6 +17,7 @@ use Rattle.height_store.specs.Laws.{kept_stands}
 use Rattle.height_store.specs.Bad.{IsFirstBadMark, IsFirstBadPage}
 use Rattle.height_store.specs.Refused.{bad_mark_refused, bad_page_refused}
 use Rattle.machine_spec.specs.Machine.{Machine, anew, newest, resumed_at, start}
+use Rattle.machine_spec.proofs.Opened.{same_version}
 use Rattle.state_manager.specs.Kept.{ManagerView, Keeps}
 use Rattle.state_manager.specs.declared.stop.OpenError.{OpenError}
 use Rattle.state_manager.specs.declared.stop.OpenError.TheVariants as opening
@@ -61,10 +62,17 @@ module _ (files : Files) where
   all_same (p ∷ ps) [] same each = absurd same
   all_same (p ∷ ps) (q ∷ qs) same each = ((gives_same p q same.0 each.0.0, each.0.1), all_same ps qs same.1 each.1)
 
+  all_opened : (ps qs : List Published) → AllZip SamePublished ps qs → AllByRecursion IsOpened ps → AllByRecursion IsOpened qs
+  all_opened [] [] same opened = tt
+  all_opened [] (q ∷ qs) same opened = absurd same
+  all_opened (p ∷ ps) [] same opened = absurd same
+  all_opened (p ∷ ps) (q ∷ qs) same opened = (subst (λ (v : ℕ). IsTrue (is_opened v)) (same_version p.state q.state same.0.state) opened.0, all_opened ps qs same.1 opened.1)
+
   stands_same : (ps qs : List Published) → AllZip SamePublished ps qs → StandsFor files ps → StandsFor files qs
   stands_same ps qs same stands = record {
     marks = subst (IsListing kind.Mark files) (same_heights ps qs same) stands.marks;
     few = subst (λ (count : ℕ). count ≤ MAX_PUBLISHED) (same_count ps qs same) stands.few;
+    versions = all_opened ps qs same stands.versions;
     each = all_same ps qs same stands.each;
   }
 

@@ -17,6 +17,7 @@ use Rattle.store_spec.specs.Image.{Published, opened_state}
 use Rattle.sys_state.specs.System.{System, part_of, kept_of, record_of, part_of_record}
 use Rattle.height_store.specs.Store.{StoredHeight, height_at, heights_in}
 use Rattle.height_store.specs.Known.{KnowsHeight}
+use Rattle.height_store.specs.KnownLaws.{known_version}
 use Rattle.machine_spec.specs.Machine.{start, newest}
 use Rattle.machine_spec.specs.States.{empty_state}
 use Rattle.sys_state.specs.Memories.{HaveSizes}
@@ -35,7 +36,7 @@ opened_version p one = one
 
 pub opened_kept : (h : StoredHeight) (p : Published) → KnowsHeight h p → KeepsState (record { system = h.system; memories = memory_bytes p.state; height = p.height }) (p.height, opened_state p)
 opened_kept h p knows = record {
-  version = opened_version p knows.version;
+  version = opened_version p (known_version h p knows);
   sorted = ids_ascend (opened_state p) h.system knows.system knows.good.parts.mark.system_good.ids_ascend;
   system = sym knows.system;
   memories = sym knows.bytes;

@@ -2,7 +2,7 @@
 use Rattle.std.proofs.Common.{◌≡◌, ℕ, List, length, Result, Ok, Err, ◌∙◌, ap, ap₂, sym}
 use Rattle.std.specs.Result.{OnOk}
 use Rattle.format_spec.specs.Bytes.{Bytes}
-use Rattle.state_spec.specs.State.{State, SystemPart}
+use Rattle.state_spec.specs.State.{State, SystemPart, system_of, memory_bytes}
 use Rattle.state_spec.specs.SystemText.{system_text}
 use Rattle.store_spec.specs.Whole.{whole_length}
 use Rattle.sys_state.specs.System.{System, part_of}
@@ -18,10 +18,11 @@ has_parts held k keeps system memories one all = record {
   bytes = sym keeps.memories ∙ all;
 }
 
-pub written_bytes : (held : StateView) (k : ℕ × State) → KeepsState held k → (memories : List Bytes) → held.memories ≡ memories → whole_length (length (system_text (part_of held.system))) memories ≡ whole_bytes k.1
+pub written_bytes : (held : StateView) (k : ℕ × State) → KeepsState held k → (memories : List Bytes) → held.memories ≡ memories → whole_length 1 (length (system_text (part_of held.system))) memories ≡ whole_bytes k.1
 unfolding whole_bytes
 written_bytes held k keeps memories all =
-    ap₂ (λ (s : SystemPart) (l : List Bytes). whole_length (length (system_text s)) l) (ap part_of keeps.system ∙ parts_of_state k.1) (sym all ∙ keeps.memories)
+    ap₂ (λ (s : SystemPart) (l : List Bytes). whole_length 1 (length (system_text s)) l) (ap part_of keeps.system ∙ parts_of_state k.1) (sym all ∙ keeps.memories)
+    ∙ ap (λ (v : ℕ). whole_length v (length (system_text (system_of k.1))) (memory_bytes k.1)) (sym keeps.version)
 
 pub on_ok_both : {T E : Type 0} (A B : Type 0) (result : Result T E) → OnOk result A → OnOk result B → OnOk result (A × B)
 on_ok_both A B (Ok x) a b = (a, b)

@@ -5,9 +5,9 @@ use Rattle.hex.proofs.HexLemmas.{length-encode_with}
 use Rattle.format_spec.specs.Bytes.{Bytes, be32, be64, short_string, part_count, parts}
 use Rattle.format_spec.proofs.Cuts.{length-be32, length-be64}
 use Rattle.state_spec.specs.Files.{file_name}
-use Rattle.state_spec.specs.Manifest.{ChunkRow, FileRow, chunk_hashes}
+use Rattle.state_spec.specs.Manifest.{ChunkRow, FileRow, sum_of, chunk_hashes}
 use Rattle.state_spec.specs.ManifestText.{chunk_row_text, file_row_text}
-use Rattle.format_spec.specs.Hashes.{chunk_sum_text, chunk_hash}
+use Rattle.format_spec.specs.Hashes.{chunk_sum_text}
 use Rattle.std.proofs.lemmas.List.{length-map}
 use Rattle.format_spec.specs.declared.limits.TheConstants.{CHUNK_SIZE}
 use Rattle.format_spec.proofs.Parts.{parts_length}
@@ -29,5 +29,5 @@ pub length-chunk_row_text : (r : ChunkRow) → length r.sum.hash ≡ 32 → leng
 length-chunk_row_text r h =
     omega (arith, h, length-be32 r.file, length-be32 r.sum.size, length-be64 r.sum.offset, length-append (be32 r.file) (chunk_sum_text r.sum), length-append (be32 r.sum.size ++ be64 r.sum.offset) r.sum.hash, length-append (be32 r.sum.size) (be64 r.sum.offset))
 
-pub length-chunk_hashes : (bytes : Bytes) → length (chunk_hashes bytes) ≡ part_count CHUNK_SIZE (length bytes)
-length-chunk_hashes bytes = length-map (parts CHUNK_SIZE bytes) chunk_hash ∙ parts_length CHUNK_SIZE bytes
+pub length-chunk_hashes : (version : ℕ) (bytes : Bytes) → length (chunk_hashes version bytes) ≡ part_count CHUNK_SIZE (length bytes)
+length-chunk_hashes version bytes = length-map (parts CHUNK_SIZE bytes) (sum_of version) ∙ parts_length CHUNK_SIZE bytes

@@ -136,4 +136,4 @@ module _ (files : Files) where
   true_heights (p ∷ ps) h = (h.0.0, true_heights ps h.1)
 
   pub stands_open : (ps : List Published) → StandsFor files ps → OpensAt files ps
-  stands_open ps p = record { marks = p.marks; few = p.few; each = true_heights ps p.each }
+  stands_open ps p = record { marks = p.marks; few = p.few; versions = p.versions; each = true_heights ps p.each }

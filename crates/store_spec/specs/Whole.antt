@@ -1,17 +1,24 @@
 -- What is written of a state whose memories are written whole: a page file of all pages for each, and the mark.
-use Rattle.std.specs.Prelude.{ℕ, ◌+◌, ◌==◌, if◌then◌else◌, List, length, map, sum_by}
-use Rattle.format_spec.specs.Bytes.{Bytes, part_count}
+use Rattle.std.specs.Prelude.{ℕ, ◌+◌, ◌==◌, if◌then◌else◌, List, length, map, filter, sum_by}
+use Rattle.format_spec.specs.Bytes.{Bytes, part_count, parts}
 use Rattle.format_spec.specs.declared.limits.TheConstants.{CHUNK_SIZE, INDEX_HEAD, INDEX_RANGE}
-use Rattle.store_spec.specs.Mark.{mark_length}
+use Rattle.state_spec.specs.Manifest.{has_row}
+use Rattle.store_spec.specs.Mark.{MemoryCounts, mark_length}
 
 -- the page file of a memory: a header, one range and its pages; none for no pages
 abbrev pub file_bytes : Bytes → ℕ
 file_bytes memory = if length memory == 0 then 0 else INDEX_HEAD + INDEX_RANGE + length memory
 
--- the layers and the hashes that the mark has of a memory
-abbrev pub whole_counts : Bytes → ℕ × ℕ
-whole_counts memory = (if length memory == 0 then 0 else 1, part_count CHUNK_SIZE (length memory))
+-- what a mark of this version has of a memory
+abbrev pub whole_counts : ℕ → Bytes → MemoryCounts
+whole_counts version memory = record {
+  layers = if length memory == 0 then 0 else 1;
+  sums = part_count CHUNK_SIZE (length memory);
+  hashes = length (filter (has_row version) (parts CHUNK_SIZE memory));
+}
 
--- all of them, with a system text of this length
-abbrev pub whole_length : ℕ → List Bytes → ℕ
-whole_length system memories = sum_by file_bytes memories + mark_length system (map whole_counts memories) (part_count CHUNK_SIZE system)
+-- all of them, in this version with a system text of this length
+abbrev pub whole_length : ℕ → ℕ → List Bytes → ℕ
+whole_length version system memories =
+    sum_by file_bytes memories
+    + mark_length version system (map (whole_counts version) memories) (part_count CHUNK_SIZE system)

@@ -1,6 +1,6 @@
 //! What isn't a mark, and which files don't open.
 
-ghost use Rattle.std.specs.Prelude.{◌≡◌, ◌≤◌, ℕ, List, [], ◌∷◌, ◌++◌, length, Some};
+ghost use Rattle.std.specs.Prelude.{◌≡◌, ◌≤◌, ℕ, List, [], ◌∷◌, ◌++◌, length, Option, Some, None};
 ghost use Rattle.format_spec.specs.Bytes.{Bytes};
 ghost use Rattle.state_spec.specs.State.{SystemPart};
 ghost use Rattle.disk_model.specs.declared.name.Name.TheVariants as name;
@@ -14,9 +14,19 @@ ghost use Rattle.store_spec.specs.Example.{one_mark, larger_index};
 
 /// A memory has 32 layers at most, and none where it has no pages.
 pub fn layers_that_do_not_fit()
-    ensures many { (m : MarkMemory) (f : Bytes × ℕ) → 33 ≤ length m.layers → FitsMemory m f → ⊥ }
-    ensures empty { (m : MarkMemory) (name : Bytes) (n : ℕ) (ns : List ℕ) → m.layers ≡ n ∷ ns
-        → FitsMemory m (name, 0) → ⊥ }
+    ensures many { (version : ℕ) (m : MarkMemory) (f : Bytes × ℕ) → 33 ≤ length m.layers → FitsMemory version m f → ⊥ }
+    ensures empty { (version : ℕ) (m : MarkMemory) (name : Bytes) (n : ℕ) (ns : List ℕ) → m.layers ≡ n ∷ ns
+        → FitsMemory version m (name, 0) → ⊥ }
+{}
+
+/// In version 1 each sum is a hash.
+pub fn no_sum_in_version_1()
+    ensures { (m : MarkMemory) (sums : List (Option Bytes)) (f : Bytes × ℕ) → m.sums ≡ None ∷ sums → FitsMemory 1 m f → ⊥ }
+{}
+
+/// There is no mark of version 3.
+pub fn a_mark_of_another_version()
+    ensures { (height : ℕ) (text : Bytes) (m : Mark) (s : SystemPart) → m.version ≡ 3 → IsMarkText height text m s → ⊥ }
 {}
 
 /// The mark of height 1 is no mark of height 2.

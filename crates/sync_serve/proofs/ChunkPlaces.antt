@@ -1,5 +1,5 @@
 -- The chunk of a number: in which file it is, and that it is read there.
-use Rattle.std.proofs.Common.{◌≡◌, ℕ, zero, suc, ◌+◌, ◌-◌, ◌*◌, ◌<◌, ◌≤◌, min, List, [], ◌∷◌, ◌++◌, length, map, take, drop, slice_get, slice_index_or, inl, inr, Option, Some, None, refl, sym, ap, ◌∙◌, subst, arith, append_assoc}
+use Rattle.std.proofs.Common.{◌≡◌, ℕ, zero, suc, ◌+◌, ◌-◌, ◌*◌, ◌<◌, ◌≤◌, min, List, [], ◌∷◌, ◌++◌, length, map, filter, take, drop, slice_get, slice_index_or, inl, inr, Option, Some, None, refl, sym, ap, ◌∙◌, subst, arith, append_assoc}
 use Rattle.std.specs.List.{flat_map}
 use Rattle.std.specs.Option.{IsSomeAnd}
 use Rattle.std.proofs.lemmas.Bool.{cases_lt}
@@ -11,14 +11,15 @@ use Rattle.format_spec.proofs.Parts.{parts_length}
 use Rattle.format_spec.proofs.Cuts.{heads}
 use Rattle.state_spec.specs.State.{State, Canister, memory_bytes, bytes_in, system_of}
 use Rattle.state_spec.specs.SystemText.{system_text}
-use Rattle.state_spec.specs.Files.{files, memory_files, memories_in}
+use Rattle.state_spec.specs.Files.{File, files, memory_files, memories_in, system_file}
+use Rattle.state_spec.specs.Manifest.{has_row, row_chunks}
 use Rattle.store_spec.specs.Image.{Published}
 use Rattle.sys_state.specs.System.{part_of}
 use Rattle.disk_model.specs.Files.{Files}
 use Rattle.height_store.specs.Store.{StoredHeight}
 use Rattle.height_store.specs.Kept.{ShowsHeight}
 use Rattle.height_store.specs.Known.{KnowsHeight, IsMemoryAt}
-use Rattle.height_store.specs.KnownLaws.{shown_known}
+use Rattle.height_store.specs.KnownLaws.{shown_known, known_version}
 use Rattle.sync_spec.specs.Messages.{chunk, here}
 use Rattle.sync_spec.proofs.PartAt.{part_there}
 use Rattle.sync_spec.specs.Serving.{chunks_of, content_of, here_if}
@@ -26,22 +27,30 @@ use Rattle.sync_serve.specs.Places.{chunks_in, HavePages, IsPlace}
 use Rattle.sync_serve.specs.declared.chunks.Place.{Place}
 use Rattle.sync_serve.proofs.Manifests.{have_pages}
 
--- ---- the chunks of a state are those of its memories and of its system text
+-- ---- in version 1 the chunks of a state are those of its memories and of its system text
 
-file_chunks : (cs : List (Bytes × Canister)) (end : List (Bytes × Bytes)) → flat_map (λ (f : Bytes × Bytes). parts CHUNK_SIZE f.1) (memory_files cs ++ end) ≡ flat_map (λ bytes. parts CHUNK_SIZE bytes) (bytes_in cs) ++ flat_map (λ (f : Bytes × Bytes). parts CHUNK_SIZE f.1) end
+each_has_row : (cs : List Bytes) → filter (has_row 1) cs ≡ cs
+each_has_row [] = refl
+each_has_row (c ∷ cs) = ap (λ (rest : List Bytes). c ∷ rest) (each_has_row cs)
+
+file_chunks : (cs : List (Bytes × Canister)) (end : List File) → flat_map row_chunks (memory_files 1 cs ++ end) ≡ flat_map (λ bytes. parts CHUNK_SIZE bytes) (bytes_in cs) ++ flat_map row_chunks end
 file_chunks [] end = refl
 file_chunks (c ∷ cs) end =
     let heap = parts CHUNK_SIZE c.1.heap.bytes in
     let stable = parts CHUNK_SIZE c.1.stable.bytes in
     let memories = flat_map (λ (bytes : Bytes). parts CHUNK_SIZE bytes) (bytes_in cs) in
-    let behind = flat_map (λ (f : Bytes × Bytes). parts CHUNK_SIZE f.1) end in
-    ap (λ (rest : List Bytes). heap ++ (stable ++ rest)) (file_chunks cs end)
+    let behind = flat_map row_chunks end in
+    (λ i. each_has_row heap i ++ (each_has_row stable i ++ file_chunks cs end i))
     ∙ ap (λ (rest : List Bytes). heap ++ rest) (sym (append_assoc stable memories behind))
     ∙ sym (append_assoc heap (stable ++ memories) behind)
 
-pub state_chunks : (s : State) → chunks_of s ≡ chunks_in (memory_bytes s) (system_text (system_of s))
+pub state_chunks : (s : State) → s.version ≡ 1 → chunks_of s ≡ chunks_in (memory_bytes s) (system_text (system_of s))
 unfolding files
-state_chunks s = file_chunks s.canisters _ ∙ ap (λ (last : List Bytes). flat_map (λ (bytes : Bytes). parts CHUNK_SIZE bytes) (memory_bytes s) ++ last) (append-nil (parts CHUNK_SIZE (system_text (system_of s))))
+state_chunks s first =
+    let system = parts CHUNK_SIZE (system_text (system_of s)) in
+    ap (λ (v : ℕ). flat_map row_chunks (memory_files v s.canisters ++ system_file (system_of s) ∷ [])) first
+    ∙ file_chunks s.canisters (system_file (system_of s) ∷ [])
+    ∙ ap (λ (last : List Bytes). flat_map (λ (bytes : Bytes). parts CHUNK_SIZE bytes) (memory_bytes s) ++ last) (append-nil (filter (has_row 1) system) ∙ each_has_row system)
 
 -- ---- one memory after another
 
@@ -146,7 +155,7 @@ module _ (files : Files) (h : StoredHeight) (p : Published) (shows : ShowsHeight
   known = shown_known files h p shows
 
   chunk_at : slice_get (chunks_of p.state) index ≡ slice_get (parts CHUNK_SIZE (slice_index_or (memory_bytes p.state) place.file (system_text (system_of p.state)))) place.chunk
-  chunk_at = ap (λ (all : List Bytes). slice_get all index) (state_chunks p.state) ∙ is.there (memory_bytes p.state) (system_text (system_of p.state)) (have_pages h p pages known are)
+  chunk_at = ap (λ (all : List Bytes). slice_get all index) (state_chunks p.state (known_version h p known)) ∙ is.there (memory_bytes p.state) (system_text (system_of p.state)) (have_pages h p pages known are)
 
   pub chunk_read : (count len : ℕ) (bytes : Bytes) → slice_get pages place.file ≡ Some count → len ≡ min (count * PAGE_SIZE - place.chunk * CHUNK_SIZE) CHUNK_SIZE
       → ((memory : Bytes) → IsMemoryAt p.state place.file memory → bytes ≡ take len (drop (place.chunk * CHUNK_SIZE) memory)) → here bytes ≡ content_of p.state (chunk index)

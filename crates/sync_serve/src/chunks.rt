@@ -20,7 +20,8 @@ use std::alloc::Global;
 use sync_plan::Content;
 use sys_state::memory_pages;
 
-/// A chunk of a memory, read from the disk, or of the system text; or that there is none of this number.
+/// A chunk of a memory, read from the disk, or of the system text; or that there is none of this number. Each chunk of a
+/// published height has a row, since its version is 1.
 pub(crate) fn chunk_of<D: Disk>(
     alloc: Global,
     found: &PublishedHeight,

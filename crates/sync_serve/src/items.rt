@@ -41,14 +41,14 @@ pub(crate) fn piece_of(
     content_with(alloc, part_at(text.bytes(), PIECE_SIZE as u32, index))
 }
 
-// The manifest, by the sizes and hashes that the mark has.
+// The manifest, by the version, the sizes and the sums that the mark has.
 fn manifest_at(alloc: Global, found: &PublishedHeight) -> Result<Manifest, NoMemory>
     ensures value { (p : Published) → KnowsHeight found.now p → IfOk result (λ m. m ≡ manifest_of p.state) }
     ensures fits { IfOk result FitsText }
 {
     let mark = found.mark();
     let sums = memory_sums(alloc, &mark.mems)?;
-    Manifest::from_sums(alloc, mark.system.bytes(), found.sys(), &sums)
+    Manifest::from_sums(alloc, mark.system.bytes(), found.sys(), &sums, mark.version)
 }
 
 /// A copy of these bytes, or that there are none.

@@ -18,16 +18,17 @@ use Rattle.sync_spec.specs.Core.{Core, Wanted, Heard, same_item, has_item, verdi
 use Rattle.sync_spec.specs.Core as core
 use Rattle.sync_spec.specs.Events.{Events, Asked, Given, came, nothing, failed, all_went_out, core_after_asks}
 use Rattle.sync_spec.specs.Local.{local_hits, manifests_of}
-use Rattle.sync_spec.specs.Install.{bytes_had, chunks_had, file_bytes, system_number, system_for}
+use Rattle.sync_spec.specs.Rows.{system_number}
+use Rattle.sync_spec.specs.Install.{bytes_had, chunks_had, file_bytes, system_for}
 use Rattle.sync_spec.specs.Sync.{Sync, Stage, at_meta, at_pieces, at_chunks, at_system, at_memories, Heights, outcome_with, known_at, is_right_at, is_for, content_bytes, sync_after_asks, outcome_of_look, outcome_of_message, outcome_of_answer}
 use Rattle.sync_spec.specs.Sync.{outcome_of_verdict, outcome_after_item, outcome_of_list, outcome_of_meta, outcome_of_manifest, outcome_of_chunks, outcome_of_turn, outcome_at}
-use Rattle.sync_spec.specs.Sync.{sync_step, outcome_of_system, outcome_of_memory, with_hits, system_had, pieces_had, item_string, strings_of_sync, steps_left}
+use Rattle.sync_spec.specs.Sync.{sync_step, outcome_of_system, outcome_of_memory, with_hits, system_had, pieces_had, joined_manifest, item_string, strings_of_sync, steps_left}
 use Rattle.sync_spec.specs.Sync.{Told, none_came, wrong, late, took, install_left, bad_manifest, bad_system, peer_fault, ready}
 use Rattle.sync_spec.specs.SyncLaws.{IsAtStage, IsHeld, IsMissingOrHeld, KnowsMeta, KnowsManifest, IsByteGiven, AreByteEvents, item_by, message_item, given_item, item_in, sync_at_end, FailsByClash}
 use Rattle.sync_spec.proofs.Missing.{has_items}
 use Rattle.sync_spec.proofs.Bringing.{turn_same, all_asks}
 use Rattle.sync_soundness.specs.Held.{Holds, HoldsManifest}
-use Rattle.sync_soundness.proofs.Pieces.{spells_or_clash, bad_or_clash, clash_within}
+use Rattle.sync_soundness.proofs.Pieces.{spells_or_clash, not_joined_or_clash, clash_within}
 use Rattle.sync_soundness.proofs.Systems.{bad_system_or_clash}
 use Rattle.sync_spec.proofs.Answers.{answer_found}
 
@@ -166,7 +167,7 @@ system_clash state s m place valid root knows chunks bad =
   where
     same : m ≡ manifest_of state → Clash (hashed_strings state) (map item_string s.had)
     same e =
-        let P : Manifest → Type 0 = λ n. ((i : ℕ) → i < length n.chunks → Holds (rows n) s.had (chunk i)) × (system_for n (file_bytes n.chunks (chunks_had n s.had) (system_number n)) ≡ Err place) in
+        let P : Manifest → Type 0 = λ n. ((i : ℕ) → i < length n.chunks → Holds (rows n) s.had (chunk i)) × (system_for n (file_bytes n (chunks_had n s.had) (system_number n)) ≡ Err place) in
         let moved : P (manifest_of state) = subst P e (λ i below. held s (rows m) (chunk i) (chunks i below), bad) in
         bad_system_or_clash state s.had valid moved.0 place moved.1
 
@@ -223,9 +224,9 @@ bad_listed s (Some m) place e = not_took (length m.pieces) place e
 
 -- only the end of the list of pieces tells it
 through_pieces : (heights : Heights) (stage : Stage) (s : Sync) (place : ℕ) → (outcome_of_list heights s stage).told ≡ bad_manifest place
-    → (m : MetaManifest) × (stage ≡ at_pieces m) × (read_manifest (flat_map (λ p. p) (pieces_had m s.had)) ≡ Err place)
+    → (m : MetaManifest) × (stage ≡ at_pieces m) × (joined_manifest m s.had ≡ Err place)
 through_pieces heights at_meta s place e = absurd (bad_listed s (read_meta (bytes_had s.had meta)) place e)
-through_pieces heights (at_pieces m) s place e = (m, refl, bad_joined heights s (read_manifest (flat_map (λ p. p) (pieces_had m s.had))) place e)
+through_pieces heights (at_pieces m) s place e = (m, refl, bad_joined heights s (joined_manifest m s.had) place e)
 through_pieces heights (at_chunks m) s place e = absurd (bad_rows s m [] place e)
 through_pieces heights (at_system m) s place e = absurd (not_late place e)
 through_pieces heights (at_memories m state left) s place e = absurd (not_late place e)
@@ -278,18 +279,18 @@ module _ (heights : Heights) (s : Sync) (asked : List Asked) (state : State) (pl
   -- all pieces are held, with the one that came
   pieces_clash : (m : MetaManifest) (item : Item) (bytes : Bytes) → KnowsMeta s m → ((i : ℕ) → i < length m.pieces → IsMissingOrHeld s (pieces m) (piece i))
       → IsTrue (is_right (pieces m) item bytes) → IsBytes bytes → others item (core_after_asks (core_after_turn s.core) asked).missing ≡ []
-      → read_manifest (flat_map (λ p. p) (pieces_had m ((item, bytes) ∷ s.had))) ≡ Err place → Clash (hashed_strings state) (map item_string ((item, bytes) ∷ s.had))
+      → joined_manifest m ((item, bytes) ∷ s.had) ≡ Err place → Clash (hashed_strings state) (map item_string ((item, bytes) ∷ s.had))
   pieces_clash m item bytes known each right string none bad =
-      bad_or_clash state m ((item, bytes) ∷ s.had) valid (known.root ∙ sym root)
+      not_joined_or_clash state m ((item, bytes) ∷ s.had) valid (known.root ∙ sym root)
       (record {
         of = behind (item, bytes) (meta, meta_text m) s.had known.had.listed;
         each = λ i below. each_held s (pieces m) item (piece i) bytes right string
             (λ there. only_one item (piece i) (core_after_asks (core_after_turn s.core) asked).missing none (sym (still_missing s asked (piece i)) ∙ there)) (each i below);
-      }) place bad
+      }) known.good place bad
 
   at_end : (stage : Stage) → s.stage ≡ stage → IsAtStage stage s → (item : Item) (content : Content) → is_right_at (known_at s.root stage) item content ≡ true → IsBytes (content_bytes content)
       → others item (core_after_asks (core_after_turn s.core) asked).missing ≡ []
-      → (m : MetaManifest) → stage ≡ at_pieces m → read_manifest (flat_map (λ p. p) (pieces_had m ((item, content_bytes content) ∷ s.had))) ≡ Err place
+      → (m : MetaManifest) → stage ≡ at_pieces m → joined_manifest m ((item, content_bytes content) ∷ s.had) ≡ Err place
       → Clash (hashed_strings state) (map item_string ((item, content_bytes content) ∷ s.had))
   at_end at_meta k known item content right string none m e bad = absurd (apart m e)
     where
@@ -298,7 +299,7 @@ module _ (heights : Heights) (s : Sync) (asked : List Asked) (state : State) (pl
   at_end (at_pieces n) k known item content right string none m e bad =
       let same : n ≡ m = inj n m e in
       pieces_clash n item (content_bytes content) known.0 known.1 (right_here n item content right) string none
-      (subst (λ (o : MetaManifest). read_manifest (flat_map (λ p. p) (pieces_had o ((item, content_bytes content) ∷ s.had))) ≡ Err place) (sym same) bad)
+      (subst (λ (o : MetaManifest). joined_manifest o ((item, content_bytes content) ∷ s.had) ≡ Err place) (sym same) bad)
     where
       inj : (a b : MetaManifest) → at_pieces a ≡ at_pieces b → a ≡ b
       inj a b e = cc
@@ -324,7 +325,7 @@ module _ (heights : Heights) (s : Sync) (asked : List Asked) (state : State) (pl
   one_item item content peer right er string et [] em e =
       let c : Core = core_after_asks (core_after_turn s.core) asked in
       let t : Sync = record s { core = core_after_message (core_after_asks (core_after_turn s.core) asked) peer (Some item) right; had = (item, content_bytes content) ∷ s.had } in
-      let found : (m : MetaManifest) × (s.stage ≡ at_pieces m) × (read_manifest (flat_map (λ p. p) (pieces_had m t.had)) ≡ Err place) = through_pieces heights s.stage t place e in
+      let found : (m : MetaManifest) × (s.stage ≡ at_pieces m) × (joined_manifest m t.had ≡ Err place) = through_pieces heights s.stage t place e in
       at_end s.stage refl knows item content (er ∙ (heard_took c item right et).1) string (sym (left_after c peer item right et) ∙ em) found.0 found.1 found.2
 
   one_heard : (h : Heard) (item : Item) (content : Content) (peer : ℕ) (right : Bool) → is_right_at (known_at s.root s.stage) item content ≡ right → IsBytes (content_bytes content)
@@ -378,7 +379,7 @@ module _ (heights : Heights) where
 
   plain_through : (stage : Stage) (s : Sync) → Plain (outcome_of_list heights s stage).told
   plain_through at_meta s = plain_pieces s (read_meta (bytes_had s.had meta))
-  plain_through (at_pieces m) s = plain_manifest s (read_manifest (flat_map (λ p. p) (pieces_had m s.had)))
+  plain_through (at_pieces m) s = plain_manifest s (joined_manifest m s.had)
   plain_through (at_chunks m) s = plain_rows s m []
   plain_through (at_system m) s = tt
   plain_through (at_memories m state left) s = tt

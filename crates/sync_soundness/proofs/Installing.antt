@@ -1,5 +1,5 @@
 -- The state that is installed has the manifest that was known.
-use Rattle.std.proofs.Common.{◌≡◌, ℕ, suc, ◌+◌, ◌*◌, ◌/◌, ◌<◌, ◌==◌, ◌&&◌, not, if◌then◌else◌, Bool, true, false, List, [], ◌∷◌, ◌++◌, length, map, zip, IsTrue, slice_get, Option, Some, None, Result, Ok, Err, refl, sym, ap, ◌∙◌, subst, arith}
+use Rattle.std.proofs.Common.{◌≡◌, ℕ, suc, ◌+◌, ◌*◌, ◌/◌, ◌<◌, ◌≤◌, ◌==◌, ◌&&◌, not, if◌then◌else◌, Bool, true, false, List, [], ◌∷◌, ◌++◌, length, map, IsTrue, slice_get, Option, Some, None, Result, Ok, Err, refl, sym, ap, ◌∙◌, subst, arith}
 use Rattle.std.specs.Prelude.{nat_lt, nat_le}
 use Rattle.std.specs.List.{flat_map, AllByRecursion, range_with_len, list_all}
 use Rattle.std.proofs.lemmas.Bool.{eq-eqb, eqb-true, leb-true, ltb-true, and_parts}
@@ -28,10 +28,8 @@ use Rattle.sync_spec.specs.Sync.{pieces_had}
 use Rattle.sync_soundness.specs.Held.{HoldsManifest}
 use Rattle.sync_soundness.proofs.Pieces.{right, bytes}
 use Rattle.sync_soundness.proofs.Parted.{AreParts, parted}
+use Rattle.sync_soundness.proofs.Remade.{named_files}
 use Rattle.state_spec.proofs.TextBytes.{HasBytes}
-
-abbrev File : Type 0
-File = Bytes × Bytes
 
 -- ---- the pieces are those of the manifest
 
@@ -79,10 +77,9 @@ module _ (of : MetaManifest) (had : List (Item × Bytes)) (good : IsMeta of) (ho
   pub manifest_is : IsManifest m
   manifest_is = found.1
 
-  pub same_root : root_of_meta (meta_of m) ≡ root_of_meta of
+  pub same_root : m.version ≡ of.version → root_of_meta (meta_of m) ≡ root_of_meta of
   unfolding meta_of
-  same_root =
-      let version : m.version ≡ of.version = found.1.version ∙ sym good.version in
+  same_root version =
       let hashes : map piece_hash (pieces_of m) ≡ of.pieces = ap (map piece_hash) own_pieces ∙ right of had holds in
       λ i. root_of_meta (record { version = version i; pieces = hashes i })
 
@@ -123,8 +120,8 @@ same_id a b p q e = some (sym (id_in_name a _ p) ∙ ap id_in e ∙ id_in_name b
     some e = cc
 
 -- the canisters that are made of the parts and the bytes of the memories
-pub record Made (birth : ℕ) (cs : List (Bytes × CanisterPart)) (fs : List FileRow) (memories : List Bytes) (text : Bytes) : Type 0 where
-  pub files : memory_files (canisters_from birth cs memories) ++ (system_name, text) ∷ [] ≡ zip (map (λ r. r.name) fs) (memories ++ text ∷ [])
+pub record Made (birth w n : ℕ) (v : ℕ → ℕ) (cs : List (Bytes × CanisterPart)) (fs : List FileRow) (memories : List Bytes) (text : Bytes) : Type 0 where
+  pub files : memory_files w (canisters_from birth cs memories) ++ record { version = 1; name = system_name; bytes = text } ∷ [] ≡ named_files v n fs (memories ++ text ∷ [])
   pub parts : map (λ c. (c.0, part_of c.1)) (canisters_from birth cs memories) ≡ cs
   pub whole : AllByRecursion (λ c. IsMemory c.1.heap × IsMemory c.1.stable) (canisters_from birth cs memories)
   pub byte_strings : AllByRecursion IsByteCanister (canisters_from birth cs memories)
@@ -135,41 +132,48 @@ page_count k size e = omega (arith, e)
 memory_good : (k : ℕ) (b : Bytes) → k * PAGE_SIZE ≡ length b → IsMemory (record { bytes = b; rounds = [] })
 memory_good k b e = record { whole_pages = omega (arith, e) }
 
-pub made : (birth at : ℕ) (cs : List (Bytes × CanisterPart)) (ids : List Bytes) (fs : List FileRow) (memories : List Bytes) (text : Bytes)
+pub made : (birth at w n : ℕ) (v : ℕ → ℕ) (cs : List (Bytes × CanisterPart)) (ids : List Bytes) (fs : List FileRow) (memories : List Bytes) (text : Bytes)
     → map (λ r. r.name) fs ≡ file_names ids → IsTrue (list_all (λ id. is_id id && are_bytes id) ids) → 2 * length cs + 1 ≡ length fs → map (λ r. r.size) fs ≡ map (λ b. length b) (memories ++ text ∷ [])
-    → AreByteStrings memories → AllByRecursion HasBytes cs → disagreement_from at cs fs ≡ None → Made birth cs fs memories text
-made birth at [] ids [] memories text names good count sizes strings spelled agree = absurd (omega (arith, count))
-made birth at [] ids (f ∷ g ∷ fs) memories text names good count sizes strings spelled agree = absurd (omega (arith, count))
-made birth at [] ids (f ∷ []) (b ∷ memories) text names good count sizes strings spelled agree =
+    → AreByteStrings memories → AllByRecursion HasBytes cs → disagreement_from at cs fs ≡ None
+    → ((i : ℕ) → n ≤ i → i < n + 2 * length cs → v i ≡ w) → v (n + 2 * length cs) ≡ 1 → Made birth w n v cs fs memories text
+made birth at w n v [] ids [] memories text names good count sizes strings spelled agree is last = absurd (omega (arith, count))
+made birth at w n v [] ids (f ∷ g ∷ fs) memories text names good count sizes strings spelled agree is last = absurd (omega (arith, count))
+made birth at w n v [] ids (f ∷ []) (b ∷ memories) text names good count sizes strings spelled agree is last =
     absurd (omega (arith, ap length sizes, length-append memories (text ∷ []), length-map (memories ++ text ∷ []) (λ (x : Bytes). length x)))
-made birth at [] (id ∷ ids) (f ∷ []) [] text names good count sizes strings spelled agree = absurd cc
-made birth at [] [] (f ∷ []) [] text names good count sizes strings spelled agree =
+made birth at w n v [] (id ∷ ids) (f ∷ []) [] text names good count sizes strings spelled agree is last = absurd cc
+made birth at w n v [] [] (f ∷ []) [] text names good count sizes strings spelled agree is last =
     let name : system_name ≡ f.name = cc in
-    record { files = λ i. (name i, text) ∷ []; parts = refl; whole = tt; byte_strings = tt }
-made birth at (c ∷ cs) ids [] memories text names good count sizes strings spelled agree = absurd (omega (arith, count))
-made birth at (c ∷ cs) ids (f ∷ []) memories text names good count sizes strings spelled agree = absurd (omega (arith, count))
-made birth at (c ∷ cs) [] (f ∷ g ∷ fs) memories text names good count sizes strings spelled agree = absurd cc
-made birth at (c ∷ cs) ids (f ∷ g ∷ fs) [] text names good count sizes strings spelled agree = absurd cc
-made birth at (c ∷ cs) ids (f ∷ g ∷ fs) (heap ∷ []) text names good count sizes strings spelled agree =
+    let here : n + 2 * 0 ≡ n = omega arith in
+    let first : v n ≡ 1 = ap v (sym here) ∙ last in
+    record { files = λ i. record { version = sym first i; name = name i; bytes = text } ∷ []; parts = refl; whole = tt; byte_strings = tt }
+made birth at w n v (c ∷ cs) ids [] memories text names good count sizes strings spelled agree is last = absurd (omega (arith, count))
+made birth at w n v (c ∷ cs) ids (f ∷ []) memories text names good count sizes strings spelled agree is last = absurd (omega (arith, count))
+made birth at w n v (c ∷ cs) [] (f ∷ g ∷ fs) memories text names good count sizes strings spelled agree is last = absurd cc
+made birth at w n v (c ∷ cs) ids (f ∷ g ∷ fs) [] text names good count sizes strings spelled agree is last = absurd cc
+made birth at w n v (c ∷ cs) ids (f ∷ g ∷ fs) (heap ∷ []) text names good count sizes strings spelled agree is last =
     absurd (omega (arith, count, ap length sizes, length-map fs (λ (r : FileRow). r.size)))
-made birth at (c ∷ cs) (id ∷ ids) (f ∷ g ∷ fs) (heap ∷ stable ∷ memories) text names good count sizes strings spelled agree =
+made birth at w n v (c ∷ cs) (id ∷ ids) (f ∷ g ∷ fs) (heap ∷ stable ∷ memories) text names good count sizes strings spelled agree is last =
     let p = passed (same_bytes (heap_name c.0) f.name) (c.1.heap * PAGE_SIZE == f.size) (c.1.stable * PAGE_SIZE == g.size) _ _ _ (disagreement_from (at + length (canister_text c)) cs fs) agree in
     let all_names : f.name ∷ g.name ∷ map (λ r. r.name) fs ≡ heap_name id ∷ stable_name id ∷ file_names ids = names ∙ names_cons id ids in
-    let n = heads f.name (heap_name id) (g.name ∷ map (λ r. r.name) fs) (stable_name id ∷ file_names ids) all_names in
-    let o = heads g.name (stable_name id) (map (λ r. r.name) fs) (file_names ids) n.1 in
+    let first = heads f.name (heap_name id) (g.name ∷ map (λ r. r.name) fs) (stable_name id ∷ file_names ids) all_names in
+    let o = heads g.name (stable_name id) (map (λ r. r.name) fs) (file_names ids) first.1 in
     let t = and_parts (is_id id && are_bytes id) (list_all (λ id. is_id id && are_bytes id) ids) good in
     let z = heads f.size (length heap) (g.size ∷ map (λ r. r.size) fs) (length stable ∷ map (λ b. length b) (memories ++ text ∷ [])) sizes in
     let y = heads g.size (length stable) (map (λ r. r.size) fs) (map (λ b. length b) (memories ++ text ∷ [])) z.1 in
     let heap_is : heap_name c.0 ≡ f.name = same_bytes_is (heap_name c.0) f.name p.0 in
-    let same : c.0 ≡ id = same_id c.0 id spelled.0.id (by_test id (and_parts (is_id id) (are_bytes id) t.0).1) (heap_is ∙ n.0) in
+    let same : c.0 ≡ id = same_id c.0 id spelled.0.id (by_test id (and_parts (is_id id) (are_bytes id) t.0).1) (heap_is ∙ first.0) in
     let stable_is : stable_name c.0 ≡ g.name = ap stable_name same ∙ sym o.0 in
     let heap_size : c.1.heap * PAGE_SIZE ≡ length heap = eqb-true (c.1.heap * PAGE_SIZE) f.size p.1 ∙ z.0 in
     let stable_size : c.1.stable * PAGE_SIZE ≡ length stable = eqb-true (c.1.stable * PAGE_SIZE) g.size p.2 ∙ y.0 in
-    let rest = made birth (at + length (canister_text c)) cs ids fs memories text o.1 t.1 (omega (arith, count)) y.1 strings.1.1 spelled.1 p.3 in
+    let behind : n + 2 * suc (length cs) ≡ suc (suc n) + 2 * length cs = omega arith in
+    let heap_version : v n ≡ w = is n (omega arith) (omega arith) in
+    let stable_version : v (suc n) ≡ w = is (suc n) (omega arith) (omega arith) in
+    let rest = made birth (at + length (canister_text c)) w (suc (suc n)) v cs ids fs memories text o.1 t.1 (omega (arith, count)) y.1 strings.1.1 spelled.1 p.3
+    (λ i low high. is i (omega (arith, low)) (omega (arith, high))) (ap v (sym behind) ∙ last) in
     let heap_pages : length heap / PAGE_SIZE ≡ c.1.heap = page_count c.1.heap (length heap) heap_size in
     let stable_pages : length stable / PAGE_SIZE ≡ c.1.stable = page_count c.1.stable (length stable) stable_size in
     record {
-      files = λ i. (heap_is i, heap) ∷ (stable_is i, stable) ∷ rest.files i;
+      files = λ i. record { version = sym heap_version i; name = heap_is i; bytes = heap } ∷ record { version = sym stable_version i; name = stable_is i; bytes = stable } ∷ rest.files i;
       parts = λ i. (c.0, record { wasm = c.1.wasm; certified = c.1.certified; heap = heap_pages i; stable = stable_pages i }) ∷ rest.parts i;
       whole = ((memory_good c.1.heap heap heap_size, memory_good c.1.stable stable stable_size), rest.whole);
       byte_strings = (record { id = spelled.0.id; wasm = spelled.0.wasm; certified = spelled.0.certified; heap = strings.0; stable = strings.1.0 }, rest.byte_strings);

@@ -1,9 +1,9 @@
 -- What a sync knows lasts under each step.
 use Rattle.std.proofs.Common.{◌≡◌, ℕ, zero, suc, ◌+◌, ◌<◌, ◌≤◌, ◌==◌, ◌&&◌, ◌||◌, not, cond, if◌then◌else◌, Bool, true, false, List, [], ◌∷◌, ◌++◌, length, map, filter, IsTrue, IfSome, Contains, Option, Some, None, Result, Ok, Err, refl, sym, ap, ◌∙◌, subst, inl, inr, arith}
 use Rattle.std.specs.List.{flat_map, AllByRecursion, list_any, range_with_len}
-use Rattle.std.proofs.lemmas.Bool.{eqb-true, eq-eqb}
+use Rattle.std.proofs.lemmas.Bool.{eqb-true, eq-eqb, and_parts}
 use Rattle.std.proofs.lemmas.List.Elements.{Contains-append_right}
-use Rattle.format_spec.specs.Bytes.{Bytes, IsBytes}
+use Rattle.format_spec.specs.Bytes.{Bytes, IsBytes, same_bytes}
 use Rattle.format_spec.specs.declared.limits.TheConstants.{MAX_PEERS}
 use Rattle.format_spec.proofs.Readings.{same_bytes_is}
 use Rattle.state_spec.specs.State.{State, SystemPart}
@@ -12,7 +12,7 @@ use Rattle.state_spec.specs.ManifestText.{read_manifest}
 use Rattle.state_spec.specs.Root.{MetaManifest, meta_text, root_of_meta, read_meta}
 use Rattle.state_spec.proofs.BothWays.{meta_is}
 use Rattle.sync_spec.specs.Messages.{Item, meta, piece, chunk, Content, gone, here, Answer, read_answer}
-use Rattle.sync_spec.specs.Serving.{Known, is_right, has_root, pieces, rows}
+use Rattle.sync_spec.specs.Serving.{Known, is_taken, is_right, has_root, pieces, rows}
 use Rattle.sync_spec.specs.Serving as known
 use Rattle.sync_spec.specs.Core.{Core, Wanted, Heard, same_item, has_item, unasked_item, without_ask, is_asked_of, all_pieces, chunks_without, with_items, verdict_if, verdict, core_without_item, core_after_fault, core_after_failure, core_after_message, core_after_verdict, core_after_turn}
 use Rattle.sync_spec.specs.Core as core
@@ -22,7 +22,7 @@ use Rattle.sync_spec.specs.Local.{Hit, local_hits, manifests_of, bytes_at}
 use Rattle.sync_spec.specs.Install.{bytes_had, chunks_had, system_for, installed_state}
 use Rattle.sync_spec.specs.Sync.{Sync, Stage, at_meta, at_pieces, at_chunks, at_system, at_memories, Heights, SyncOutcome, sync_to, outcome_with, known_at, is_right_at, is_for, content_bytes, sync_after_asks}
 use Rattle.sync_spec.specs.Sync.{outcome_of_look, outcome_of_message, outcome_of_answer, outcome_of_verdict, outcome_after_item, outcome_of_list, outcome_of_meta, outcome_of_manifest}
-use Rattle.sync_spec.specs.Sync.{outcome_of_chunks, outcome_of_turn, outcome_at, sync_step, outcome_of_system, outcome_of_memory, with_hits, system_had, pieces_had}
+use Rattle.sync_spec.specs.Sync.{outcome_of_chunks, outcome_of_turn, outcome_at, sync_step, outcome_of_system, outcome_of_memory, with_hits, system_had, pieces_had, of_version, joined_manifest}
 use Rattle.sync_spec.specs.Sync.{late, peer_fault}
 use Rattle.sync_spec.specs.SyncLaws.{HasBytes, IsHeld, IsMissingOrHeld, KnowsMeta, KnowsManifest, IsAtStage, IsSync, IsByteGiven, AreByteEvents, ArePublished, KeepsKnowing}
 use Rattle.sync_spec.proofs.Missing.{filter_all}
@@ -45,7 +45,7 @@ module _ (s t : Sync) (root : t.root ≡ s.root) (more : (x : Item × Bytes) →
   held_moved k item same h = (h.0, has_moved item h.0 same h.1, h.2)
 
   pub meta_moved : (m : MetaManifest) → bytes_had t.had meta ≡ bytes_had s.had meta → KnowsMeta s m → KnowsMeta t m
-  meta_moved m same h = record { good = h.good; root = h.root ∙ sym root; had = has_moved meta (meta_text m) same h.had }
+  meta_moved m same h = record { good = h.good; version = h.version; root = h.root ∙ sym root; had = has_moved meta (meta_text m) same h.had }
 
   same_pieces : ((i : ℕ) → bytes_had t.had (piece i) ≡ bytes_had s.had (piece i)) → (is : List ℕ) → map (λ i. bytes_had t.had (piece i)) is ≡ map (λ i. bytes_had s.had (piece i)) is
   same_pieces same [] = refl
@@ -57,6 +57,7 @@ module _ (s t : Sync) (root : t.root ≡ s.root) (more : (x : Item × Bytes) →
     knows_meta = meta_moved h.of same h.knows_meta;
     pieces_held = λ i below. held_moved (pieces h.of) (piece i) (each i) (h.pieces_held i below);
     spelled = ap (λ (ps : List Bytes). read_manifest (flat_map (λ p. p) ps)) (same_pieces each (range_with_len 0 (length h.of.pieces))) ∙ h.spelled;
+    same_version = h.same_version;
   }
 
 -- ---- another core, or another stage
@@ -234,9 +235,10 @@ pieces_next t (Some m) e sound h =
     let u : Sync = record t { stage = at_pieces m; core = with_items t.core (all_pieces (length m.pieces)) } in
     let read : read_meta h.0 ≡ Some m = ap read_meta (sym h.1.are) ∙ e in
     let is = meta_is h.0 m h.1.byte_string read in
-    let root : root_of_meta m ≡ t.root = same_bytes_is (root_of_meta m) t.root (subst (λ (o : Option MetaManifest). has_root t.root o ≡ true) read h.2) in
+    let right = and_parts (is_taken m.version) (same_bytes (root_of_meta m) t.root) (subst (λ (o : Option MetaManifest). has_root t.root o ≡ true) read h.2) in
+    let root : root_of_meta m ≡ t.root = same_bytes_is (root_of_meta m) t.root right.1 in
     let has : HasBytes t meta (meta_text m) = subst (λ (b : Bytes). HasBytes t meta b) is.0 h.1 in
-    let knows : KnowsMeta t m = record { good = is.1; root = root; had = has } in
+    let knows : KnowsMeta t m = record { good = is.1; version = right.0; root = root; had = has } in
     record { core = pieces_good t.core (length m.pieces) sound.core; stage = (same_meta t (at_pieces m) u.core m knows, λ i below. inl (piece_missing (length m.pieces) i below)) }
 
 -- installing begins where no chunk is missing
@@ -251,9 +253,21 @@ hit_other heights had item apart_all [] = refl
 hit_other heights had item apart_all (h ∷ hits) =
     had_other (chunk h.chunk) item (bytes_at heights h.source) (bytes_of_hits heights hits ++ had) (apart_all h.chunk) ∙ hit_other heights had item apart_all hits
 
+-- a manifest that has the version of the meta-manifest
+same_manifests : (r : Result Manifest ℕ) (a b : Manifest) → r ≡ Ok a → r ≡ Ok b → a ≡ b
+same_manifests r a b e f = cc
+
+joined : (r : Result Manifest ℕ) (v : ℕ) (m : Manifest) → of_version v r ≡ Ok m → (r ≡ Ok m) × (m.version ≡ v)
+joined (Err place) v m e = absurd cc
+joined (Ok n) v m e = by (n.version == v) refl (Ok n) refl e
+  where
+    by : (b : Bool) → (n.version == v) ≡ b → (r : Result Manifest ℕ) → r ≡ Ok n → (if b then r else Err 4) ≡ Ok m → (r ≡ Ok m) × (m.version ≡ v)
+    by true is r f g = (g, ap (λ (x : Manifest). x.version) (same_manifests r m n g f) ∙ eqb-true n.version v is)
+    by false is r f g = absurd cc
+
 -- the chunks are asked for, but for those that the heights have
 module _ (heights : Heights) (published : ArePublished heights) where
-  hits_next : (t : Sync) (m : Manifest) (hits : List Hit) → AllByRecursion (IsHit heights m.chunks) hits → KnowsManifest t m → IsAtStage (at_chunks m) (with_hits heights t m hits)
+  hits_next : (t : Sync) (m : Manifest) (hits : List Hit) → AllByRecursion (IsHit heights m) hits → KnowsManifest t m → IsAtStage (at_chunks m) (with_hits heights t m hits)
   hits_next t m hits good knows =
       let u : Sync = with_hits heights t m hits in
       let more : (x : Item × Bytes) → Contains t.had x → Contains u.had x = λ x c. Contains-append_right (bytes_of_hits heights hits) t.had x c in (
@@ -265,17 +279,18 @@ module _ (heights : Heights) (published : ArePublished heights) where
       by i below true e = inr (held_back (with_hits heights t m hits) (rows m) (chunk i) (hit_held heights m t.had i hits good e))
       by i below false e = inl (chunk_missing (length m.chunks) i (map (λ (h : Hit). h.chunk) hits) below e)
 
-  manifest_next : (t : Sync) (of : MetaManifest) (r : Result Manifest ℕ) → read_manifest (flat_map (λ p. p) (pieces_had of t.had)) ≡ r → IsCore t.core → KnowsMeta t of → ((i : ℕ) → i < length of.pieces → IsHeld t (pieces of) (piece i)) → Good (outcome_of_manifest heights t r)
+  manifest_next : (t : Sync) (of : MetaManifest) (r : Result Manifest ℕ) → joined_manifest of t.had ≡ r → IsCore t.core → KnowsMeta t of → ((i : ℕ) → i < length of.pieces → IsHeld t (pieces of) (piece i)) → Good (outcome_of_manifest heights t r)
   manifest_next t of (Err place) e good knows each = tt
   manifest_next t of (Ok m) e good knows each =
+      let j = joined (read_manifest (flat_map (λ p. p) (pieces_had of t.had))) of.version m e in
       let hits : List Hit = local_hits (manifests_of heights) m in
       let u : Sync = with_hits heights t m hits in
       chunks_next u m u.core.missing refl refl (chunks_good t.core (length m.chunks) (map (λ (h : Hit). h.chunk) hits) good)
-      (hits_next t m hits (local_right heights m published) (record { of = of; knows_meta = knows; pieces_held = each; spelled = e }))
+      (hits_next t m hits (local_right heights m published) (record { of = of; knows_meta = knows; pieces_held = each; spelled = j.0; same_version = j.1 }))
 
   through : (stage : Stage) (t : Sync) → t.stage ≡ stage → t.core.missing ≡ [] → IsCore t.core → IsAtStage stage t → Brought stage t → Good (outcome_of_list heights t stage)
   through at_meta t stage none good h b = pieces_next t (read_meta (bytes_had t.had meta)) refl (record { core = good; stage = subst (λ (x : Stage). IsAtStage x t) (sym stage) tt }) b
-  through (at_pieces of) t stage none good h b = manifest_next t of (read_manifest (flat_map (λ p. p) (pieces_had of t.had))) refl good h.0 (λ i below. all_held t (pieces of) (piece i) none (h.1 i below))
+  through (at_pieces of) t stage none good h b = manifest_next t of (joined_manifest of t.had) refl good h.0 (λ i below. all_held t (pieces of) (piece i) none (h.1 i below))
   through (at_chunks m) t stage none good h b = chunks_next t m [] none stage good h
   through (at_system m) t stage none good h b = record { core = good; stage = subst (λ (x : Stage). IsAtStage x t) (sym stage) h }
   through (at_memories m state left) t stage none good h b = record { core = good; stage = subst (λ (x : Stage). IsAtStage x t) (sym stage) h }

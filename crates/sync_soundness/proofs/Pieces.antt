@@ -1,23 +1,30 @@
 -- Right pieces, against any valid state with the root of their meta-manifest.
-use Rattle.std.proofs.Common.{◌≡◌, ◌⊎◌, ℕ, zero, suc, ◌+◌, ◌<◌, ◌≤◌, ◌&&◌, ◌==◌, Bool, true, false, List, [], ◌∷◌, length, map, Ok, Err, IsTrue, Contains, slice_get, slice_index_or, get_or, refl, sym, ap, ◌∙◌, subst, inl, inr, arith}
+use Rattle.std.proofs.Common.{◌≡◌, ◌⊎◌, ℕ, zero, suc, ◌+◌, ◌<◌, ◌≤◌, ◌&&◌, ◌==◌, if◌then◌else◌, Bool, true, false, List, [], ◌∷◌, ◌++◌, length, map, codes, Result, Ok, Err, IsTrue, Contains, slice_get, slice_index_or, get_or, refl, sym, ap, ◌∙◌, subst, inl, inr, arith}
 use Rattle.std.specs.List.{flat_map, AllByRecursion, range_with_len}
+use Rattle.std.proofs.lemmas.Bool.{eq-eqb}
+use Rattle.std.proofs.lemmas.List.{append_cancel_left}
 use Rattle.std.proofs.lemmas.List.FromFn.{fill_by_all}
-use Rattle.format_spec.specs.Bytes.{Bytes, IsBytes, AreByteStrings, same_bytes}
-use Rattle.format_spec.specs.Hashes.{Clash, root_string, piece_string, piece_hash}
+use Rattle.sha2.specs.Sha256.{sha256}
+use Rattle.format_spec.specs.Bytes.{Bytes, IsBytes, AreByteStrings, same_bytes, be32, short_string}
+use Rattle.format_spec.specs.Hashes.{Clash, root_string, piece_string, piece_hash, root_hash}
+use Rattle.format_spec.specs.Versions.{is_version}
+use Rattle.format_spec.proofs.Cuts.{cut_front, be32_same}
 use Rattle.format_spec.proofs.Readings.{same_bytes_is}
 use Rattle.state_spec.specs.State.{State, IsState}
-use Rattle.state_spec.specs.Manifest.{Manifest, manifest_of}
+use Rattle.state_spec.specs.Manifest.{Manifest, manifest_of, manifest_from}
 use Rattle.state_spec.specs.ManifestText.{manifest_text, read_manifest}
-use Rattle.state_spec.specs.Root.{MetaManifest, meta_text, root_of, root_of_meta, hashed_strings}
+use Rattle.state_spec.specs.Root.{MetaManifest, IsMeta, meta_of, meta_text, root_of, root_of_meta, hashed_strings}
 use Rattle.state_spec.proofs.ManifestWhole.{manifest_only}
-use Rattle.soundness.proofs.Strings.{Meet, or_clash}
+use Rattle.state_spec.proofs.VersionCases.{version_low}
+use Rattle.soundness.proofs.Strings.{Meet, or_clash, one_or_meet, first_of_list}
+use Rattle.soundness.proofs.SameRoot.{in_root, root_is}
 use Rattle.soundness.proofs.StateManifests.{manifest_good}
 use Rattle.soundness.proofs.StateBytes.{state_strings, root_bytes, piece_string_bytes}
 use Rattle.soundness.proofs.Synced.{manifest_or_meet}
 use Rattle.sync_spec.specs.Messages.{Item, meta, piece}
 use Rattle.sync_spec.specs.Serving.{is_piece}
 use Rattle.sync_spec.specs.Install.{bytes_had}
-use Rattle.sync_spec.specs.Sync.{pieces_had, item_string}
+use Rattle.sync_spec.specs.Sync.{pieces_had, of_version, joined_manifest, item_string}
 use Rattle.sync_soundness.specs.Held.{HoldsManifest}
 
 -- ---- lists
@@ -77,6 +84,29 @@ module _ (m : MetaManifest) (had : List (Item × Bytes)) (holds : HoldsManifest 
   pub bytes : AreByteStrings (pieces_had m had)
   bytes = all_range IsBytes (λ i. bytes_had had (piece i)) 0 (length m.pieces) (λ i low high. (holds.each i (omega (arith, high))).byte_string)
 
+root_as : (m : MetaManifest) → root_of_meta m ≡ sha256 (root_string m.version m.pieces)
+unfolding root_hash
+root_as m = refl
+
+version_cut : (v w : ℕ) (ps qs : List Bytes) → is_version v ≡ true → is_version w ≡ true → root_string v ps ≡ root_string w qs → v ≡ w
+version_cut v w ps qs a b e =
+    let name : Bytes = short_string (codes "ic-state-meta-manifest") in
+    let behind = append_cancel_left name _ _ e in
+    let low = version_low v a in
+    let low_too = version_low w b in
+    be32_same v w (omega (arith, low.1)) (omega (arith, low_too.1)) (cut_front (be32 v) (be32 (length ps) ++ flat_map (λ hash. hash) ps) (be32 w) (be32 (length qs) ++ flat_map (λ hash. hash) qs) refl behind).0
+
+state_version : (s : State) → (manifest_of s).version ≡ s.version
+unfolding manifest_of manifest_from
+state_version s = refl
+
+own_version : (m : Manifest) (v : ℕ) → m.version ≡ v → of_version v (Ok m) ≡ Ok m
+own_version m v e = ap (λ (b : Bool). if b then Ok m else Err 4) (eq-eqb m.version v e)
+
+no_error : {A : Type 0} {r : Result Manifest ℕ} {m : Manifest} (place : ℕ) → (r ≡ Ok m) ⊎ A → r ≡ Err place → A
+no_error place (inl h) e = absurd cc
+no_error place (inr a) e = a
+
 module _ (s : State) (m : MetaManifest) (had : List (Item × Bytes)) (valid : IsState s) (root : root_of_meta m ≡ root_of s) (holds : HoldsManifest m had) where
   among : (x : Bytes) → Contains (root_string m.version m.pieces ∷ map piece_string (pieces_had m had)) x → Contains (map item_string had) x
   among x c =
@@ -107,12 +137,32 @@ module _ (s : State) (m : MetaManifest) (had : List (Item × Bytes)) (valid : Is
       (or_clash (read_manifest text ≡ Ok (manifest_of s)) (hashed_strings s) (root_string m.version m.pieces ∷ map piece_string (pieces_had m had)) (state_strings s valid) got_bytes
       (read_or_meet text (manifest_or_meet s m (pieces_had m had) root (right m had holds))))
 
-  pub bad_or_clash : (place : ℕ) → read_manifest (flat_map (λ p. p) (pieces_had m had)) ≡ Err place → Clash (hashed_strings s) (map item_string had)
-  bad_or_clash place e = by spells_or_clash
+  -- the version is that of the state
+  version_or_meet : IsMeta m → (m.version ≡ s.version) ⊎ Meet (hashed_strings s) (root_string m.version m.pieces ∷ map piece_string (pieces_had m had))
+  version_or_meet good = by (one_or_meet (root_string s.version (meta_of (manifest_of s)).pieces) (root_string m.version m.pieces) (hashed_strings s)
+      (root_string m.version m.pieces ∷ map piece_string (pieces_had m had)) (in_root s) (first_of_list (root_string m.version m.pieces) (map piece_string (pieces_had m had))) (sym (root_is s) ∙ sym root ∙ root_as m))
     where
-      ok_err : (a : Manifest) (b : ℕ) → Ok a ≡ Err b → ⊥
-      ok_err a b h = cc
+      by : (root_string s.version (meta_of (manifest_of s)).pieces ≡ root_string m.version m.pieces) ⊎ Meet (hashed_strings s) (root_string m.version m.pieces ∷ map piece_string (pieces_had m had))
+          → (m.version ≡ s.version) ⊎ Meet (hashed_strings s) (root_string m.version m.pieces ∷ map piece_string (pieces_had m had))
+      by (inl e) = inl (sym (version_cut s.version m.version (meta_of (manifest_of s)).pieces m.pieces valid.version good.version e))
+      by (inr c) = inr c
 
-      by : (read_manifest (flat_map (λ p. p) (pieces_had m had)) ≡ Ok (manifest_of s)) ⊎ Clash (hashed_strings s) (map item_string had) → Clash (hashed_strings s) (map item_string had)
-      by (inl h) = absurd (ok_err (manifest_of s) place (sym h ∙ e))
-      by (inr c) = c
+  pub version_or_clash : IsMeta m → (m.version ≡ s.version) ⊎ Clash (hashed_strings s) (map item_string had)
+  version_or_clash good =
+      within (m.version ≡ s.version)
+      (or_clash (m.version ≡ s.version) (hashed_strings s) (root_string m.version m.pieces ∷ map piece_string (pieces_had m had)) (state_strings s valid) got_bytes (version_or_meet good))
+
+  pub joined_or_clash : IsMeta m → (joined_manifest m had ≡ Ok (manifest_of s)) ⊎ Clash (hashed_strings s) (map item_string had)
+  joined_or_clash good = by spells_or_clash (version_or_clash good)
+    where
+      by : (read_manifest (flat_map (λ p. p) (pieces_had m had)) ≡ Ok (manifest_of s)) ⊎ Clash (hashed_strings s) (map item_string had) → (m.version ≡ s.version) ⊎ Clash (hashed_strings s) (map item_string had)
+          → (joined_manifest m had ≡ Ok (manifest_of s)) ⊎ Clash (hashed_strings s) (map item_string had)
+      by (inl e) (inl v) = inl (ap (of_version m.version) e ∙ own_version (manifest_of s) m.version (state_version s ∙ sym v))
+      by (inl e) (inr c) = inr c
+      by (inr c) v = inr c
+
+  pub bad_or_clash : (place : ℕ) → read_manifest (flat_map (λ p. p) (pieces_had m had)) ≡ Err place → Clash (hashed_strings s) (map item_string had)
+  bad_or_clash place e = no_error place spells_or_clash e
+
+  pub not_joined_or_clash : IsMeta m → (place : ℕ) → joined_manifest m had ≡ Err place → Clash (hashed_strings s) (map item_string had)
+  not_joined_or_clash good place e = no_error place (joined_or_clash good) e

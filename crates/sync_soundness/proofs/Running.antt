@@ -1,11 +1,10 @@
 -- A sync keeps its target, and knows what it is to know after any steps.
 use Rattle.std.proofs.Common.{◌≡◌, ℕ, zero, suc, ◌||◌, not, filter, ap, if◌then◌else◌, Bool, true, false, List, [], ◌∷◌, IfSome, Option, Some, None, Result, Ok, Err, refl, sym, ◌∙◌, subst}
-use Rattle.std.specs.List.{flat_map, AllByRecursion}
+use Rattle.std.specs.List.{AllByRecursion}
 use Rattle.std.specs.Option.{option_and_then, option_map_or}
 use Rattle.format_spec.specs.Bytes.{Bytes}
 use Rattle.state_spec.specs.State.{State, SameState, SystemPart}
 use Rattle.state_spec.specs.Manifest.{Manifest}
-use Rattle.state_spec.specs.ManifestText.{read_manifest}
 use Rattle.state_spec.specs.Root.{MetaManifest, hashed_strings, read_meta}
 use Rattle.soundness.proofs.Strings.{or_clash}
 use Rattle.soundness.proofs.SameRoot.{same_root}
@@ -18,7 +17,7 @@ use Rattle.sync_spec.specs.Local.{local_hits, manifests_of}
 use Rattle.sync_spec.specs.Install.{bytes_had, system_for}
 use Rattle.sync_spec.specs.Sync.{Sync, Stage, at_meta, at_pieces, at_chunks, at_system, at_memories, Heights, SyncOutcome, sync_to, outcome_with, late, peer_fault, known_at, is_right_at, is_for, content_bytes}
 use Rattle.sync_spec.specs.Sync.{sync_after_asks, outcome_of_look, outcome_of_message, outcome_of_answer, outcome_of_verdict, outcome_after_item, outcome_of_list, outcome_of_meta}
-use Rattle.sync_spec.specs.Sync.{outcome_of_manifest, outcome_of_chunks, outcome_at, sync_step, outcome_of_system, outcome_of_memory, with_hits, system_had, pieces_had}
+use Rattle.sync_spec.specs.Sync.{outcome_of_manifest, outcome_of_chunks, outcome_at, sync_step, outcome_of_system, outcome_of_memory, with_hits, system_had, joined_manifest}
 use Rattle.sync_spec.specs.SyncLaws.{IsSync, brings_right}
 use Rattle.sync_soundness.specs.Runs.{Step, IsStep, after_steps, IsRun, StaysAt, was_brought, MissingUntilRight, DoneIsTarget, DoneIsTheState, RunFailsByClash}
 use Rattle.sync_spec.specs.CoreLaws.{items_missing}
@@ -52,7 +51,7 @@ module _ (height : ℕ) (root : Bytes) where
 
     through_stays : (stage : Stage) (s : Sync) → IsFor s → Stays (outcome_of_list heights s stage)
     through_stays at_meta s h = pieces_stay s (read_meta (bytes_had s.had meta)) h
-    through_stays (at_pieces m) s h = manifest_stays s (read_manifest (flat_map (λ p. p) (pieces_had m s.had))) h
+    through_stays (at_pieces m) s h = manifest_stays s (joined_manifest m s.had) h
     through_stays (at_chunks m) s h = rows_stay s m [] h
     through_stays (at_system m) s h = h
     through_stays (at_memories m state left) s h = h

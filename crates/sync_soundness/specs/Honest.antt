@@ -1,12 +1,12 @@
 -- What a store that has the state answers, judged by what is known of the state.
-use Rattle.std.specs.Prelude.{◌≡◌, ℕ, ◌<◌, ◌==◌, ◌&&◌, true, find, length, Some, ⊤}
+use Rattle.std.specs.Prelude.{◌≡◌, ℕ, ◌<◌, ◌==◌, ◌&&◌, true, find, length, Some, IsTrue}
 use Rattle.std.specs.List.{AllByRecursion}
 use Rattle.format_spec.specs.Bytes.{same_bytes}
 use Rattle.state_spec.specs.State.{State, IsState}
 use Rattle.state_spec.specs.Manifest.{manifest_of}
 use Rattle.state_spec.specs.Root.{meta_of, root_of}
 use Rattle.sync_spec.specs.Messages.{Item, meta, piece, chunk, Ask, IsAsk, answer_text, read_answer}
-use Rattle.sync_spec.specs.Serving.{Known, root, pieces, rows, serve}
+use Rattle.sync_spec.specs.Serving.{Known, is_taken, root, pieces, rows, serve}
 use Rattle.sync_spec.specs.Sync.{Heights, Sync, known_at, is_right_at}
 use Rattle.sync_spec.specs.SyncLaws.{message_brings}
 
@@ -16,9 +16,9 @@ known_of s meta = root (root_of s)
 known_of s (piece i) = pieces (meta_of (manifest_of s))
 known_of s (chunk i) = rows (manifest_of s)
 
--- the state has this item
+-- the state has this item; the meta-manifest of a version that isn't taken is right for no sync
 abbrev pub IsItemOf : State → Item → Type 0
-IsItemOf s meta = ⊤
+IsItemOf s meta = IsTrue (is_taken s.version)
 IsItemOf s (piece i) = i < length (meta_of (manifest_of s)).pieces
 IsItemOf s (chunk i) = i < length (manifest_of s).chunks
 

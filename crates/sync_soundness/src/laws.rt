@@ -2,52 +2,64 @@
 
 ghost use Rattle.std.specs.Prelude.{◌≡◌, ◌⊎◌, ◌<◌, ◌≤◌, ℕ, List, length, map, slice_index_or, Ok, Err};
 ghost use Rattle.std.specs.List.{flat_map};
-ghost use Rattle.format_spec.specs.Bytes.{Bytes, parts};
-ghost use Rattle.format_spec.specs.declared.limits.TheConstants.{CHUNK_SIZE, MAX_PEERS};
+ghost use Rattle.format_spec.specs.Bytes.{Bytes};
+ghost use Rattle.format_spec.specs.declared.limits.TheConstants.{MAX_PEERS};
 ghost use Rattle.format_spec.specs.Hashes.{Clash};
 ghost use Rattle.state_spec.specs.State.{State, IsState, SystemPart};
-ghost use Rattle.state_spec.specs.Manifest.{Manifest, manifest_of, chunk_rows, sums_of};
-ghost use Rattle.state_spec.specs.Files.{files};
+ghost use Rattle.state_spec.specs.Manifest.{Manifest, manifest_of, manifest_from, sums_of, row_chunks};
+ghost use Rattle.state_spec.specs.Files.{File, files};
 ghost use Rattle.state_spec.specs.ManifestText.{read_manifest};
-ghost use Rattle.state_spec.specs.Root.{MetaManifest, root_of, root_of_meta, hashed_strings};
+ghost use Rattle.state_spec.specs.Root.{MetaManifest, IsMeta, root_of, root_of_meta, hashed_strings};
 ghost use Rattle.sync_spec.specs.Messages.{Item, chunk, Ask};
 ghost use Rattle.sync_spec.specs.Serving.{rows};
 ghost use Rattle.sync_spec.specs.SyncLaws.{KnowsManifest, IsHeld, IsSync, KeepsKnowing, FailsByClash};
 ghost use Rattle.sync_spec.specs.Events.{Events};
-ghost use Rattle.sync_spec.specs.Install.{file_bytes, chunks_had, system_number, system_for, installed_state};
-ghost use Rattle.sync_spec.specs.Sync.{Sync, Stage, Heights, sync_to, pieces_had, system_had, item_string};
+ghost use Rattle.sync_spec.specs.Rows.{system_number};
+ghost use Rattle.sync_spec.specs.Install.{file_bytes, chunks_had, system_for, installed_state};
+ghost use Rattle.sync_spec.specs.Sync.{Sync, Stage, Heights, sync_to, pieces_had, joined_manifest, system_had, item_string};
 ghost use Rattle.sync_soundness.specs.Held.{HoldsManifest, HoldsChunks};
 ghost use Rattle.sync_soundness.specs.Honest.{ServesRight, BringsServed};
 ghost use Rattle.sync_soundness.specs.Runs.{Step, MissingUntilRight, DoneIsTarget, DoneIsTheState, RunFailsByClash};
 
+/// Where a valid state has the target's root, the meta-manifest has its version, or two strings clash.
+pub fn meta_manifests_have_the_version()
+    ensures { (s : State) (m : MetaManifest) (had : List (Item × Bytes)) → IsState s → IsMeta m → root_of_meta m ≡ root_of s → HoldsManifest m had
+        → (m.version ≡ s.version) ⊎ Clash (hashed_strings s) (map item_string had) }
+{}
+
 /// Where a valid state has the target's root, the right pieces spell its manifest, or two strings clash.
 pub fn right_pieces_spell_the_manifest()
-    ensures { (s : State) (m : MetaManifest) (had : List (Item × Bytes)) → IsState s → root_of_meta m ≡ root_of s → HoldsManifest m had
+    ensures spelled { (s : State) (m : MetaManifest) (had : List (Item × Bytes)) → IsState s → root_of_meta m ≡ root_of s → HoldsManifest m had
         → (read_manifest (flat_map (λ p. p) (pieces_had m had)) ≡ Ok (manifest_of s)) ⊎ Clash (hashed_strings s) (map item_string had) }
+    ensures joined { (s : State) (m : MetaManifest) (had : List (Item × Bytes)) → IsState s → IsMeta m → root_of_meta m ≡ root_of s → HoldsManifest m had
+        → (joined_manifest m had ≡ Ok (manifest_of s)) ⊎ Clash (hashed_strings s) (map item_string had) }
 {}
 
-/// Where a valid state has the target's root, right pieces are no manifest only where two strings clash.
+/// Where a valid state has the target's root, right pieces are no manifest, or none of the meta-manifest's version, only where
+/// two strings clash.
 pub fn bad_manifests_clash()
-    ensures { (s : State) (m : MetaManifest) (had : List (Item × Bytes)) (place : ℕ) → IsState s → root_of_meta m ≡ root_of s → HoldsManifest m had
+    ensures spelled { (s : State) (m : MetaManifest) (had : List (Item × Bytes)) (place : ℕ) → IsState s → root_of_meta m ≡ root_of s → HoldsManifest m had
         → read_manifest (flat_map (λ p. p) (pieces_had m had)) ≡ Err place → Clash (hashed_strings s) (map item_string had) }
+    ensures joined { (s : State) (m : MetaManifest) (had : List (Item × Bytes)) (place : ℕ) → IsState s → IsMeta m → root_of_meta m ≡ root_of s → HoldsManifest m had
+        → joined_manifest m had ≡ Err place → Clash (hashed_strings s) (map item_string had) }
 {}
 
-/// The chunks of all files, taken by the rows of a manifest of these files, give back the bytes of each file.
+/// The chunks of all files that have rows, taken by the rows of a manifest of these files, give back the bytes of each file.
 pub fn chunks_give_back_the_files()
-    ensures { (fs : List (Bytes × Bytes)) (k : ℕ) (d : Bytes × Bytes) → k < length fs
-        → file_bytes (chunk_rows 0 (map sums_of fs)) (flat_map (λ f. parts CHUNK_SIZE f.1) fs) k ≡ (slice_index_or fs k d).1 }
+    ensures { (version : ℕ) (fs : List File) (k : ℕ) (d : File) → k < length fs
+        → file_bytes (manifest_from version (map sums_of fs)) (flat_map row_chunks fs) k ≡ (slice_index_or fs k d).bytes }
 {}
 
-/// Chunks that are right by the rows of a valid state's manifest are those of its files, or two strings clash.
+/// Chunks that are right by the rows of a valid state's manifest are those of its files that have rows, or two strings clash.
 pub fn right_chunks_are_the_state_s()
     ensures { (s : State) (had : List (Item × Bytes)) → IsState s → HoldsChunks (manifest_of s) had
-        → (chunks_had (manifest_of s) had ≡ flat_map (λ f. parts CHUNK_SIZE f.1) (files s)) ⊎ Clash (hashed_strings s) (map item_string had) }
+        → (chunks_had (manifest_of s) had ≡ flat_map row_chunks (files s)) ⊎ Clash (hashed_strings s) (map item_string had) }
 {}
 
 /// Right chunks give a bad system text only where two strings clash.
 pub fn bad_systems_clash()
     ensures { (s : State) (had : List (Item × Bytes)) (place : ℕ) → IsState s → HoldsChunks (manifest_of s) had
-        → system_for (manifest_of s) (file_bytes (manifest_of s).chunks (chunks_had (manifest_of s) had) (system_number (manifest_of s))) ≡ Err place
+        → system_for (manifest_of s) (file_bytes (manifest_of s) (chunks_had (manifest_of s) had) (system_number (manifest_of s))) ≡ Err place
         → Clash (hashed_strings s) (map item_string had) }
 {}
 

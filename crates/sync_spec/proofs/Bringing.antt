@@ -1,5 +1,5 @@
 -- Which items are missing after a turn of a sync.
-use Rattle.std.proofs.Common.{◌≡◌, ℕ, cond, not, ◌&&◌, ◌||◌, Bool, true, false, if◌then◌else◌, List, [], ◌∷◌, filter, Option, Some, None, Result, Ok, Err, refl, sym, ap, ◌∙◌}
+use Rattle.std.proofs.Common.{◌≡◌, ℕ, not, ◌&&◌, ◌||◌, Bool, true, false, if◌then◌else◌, List, [], ◌∷◌, filter, Option, Some, None, Result, Ok, Err, refl, sym, ap, ◌∙◌}
 use Rattle.state_spec.specs.Manifest.{Manifest}
 use Rattle.state_spec.specs.Root.{MetaManifest, read_meta}
 use Rattle.sync_spec.specs.Messages.{Item, meta, Content, Answer, read_answer}

@@ -1,9 +1,7 @@
 -- Steps of installing.
 use Rattle.std.proofs.Common.{◌≡◌, ℕ, zero, suc, ◌+◌, Bool, true, false, if◌then◌else◌, List, [], ◌∷◌, length, Option, Some, None, Result, Ok, Err, refl, ap, subst, inl, inr, arith}
-use Rattle.std.specs.List.{flat_map}
 use Rattle.state_spec.specs.State.{State, SystemPart, IsState}
 use Rattle.state_spec.specs.Manifest.{Manifest}
-use Rattle.state_spec.specs.ManifestText.{read_manifest}
 use Rattle.state_spec.specs.Root.{MetaManifest, root_of, read_meta}
 use Rattle.sync_spec.specs.Messages.{Item, meta, Content, Answer, read_answer}
 use Rattle.sync_spec.specs.Core.{Core, Wanted, Heard, verdict, core_after_message}
@@ -11,7 +9,7 @@ use Rattle.sync_spec.specs.Core as core
 use Rattle.sync_spec.specs.Events.{Events, Given, came, nothing, failed, all_went_out}
 use Rattle.sync_spec.specs.Install.{memories_to_write, system_for, bytes_had}
 use Rattle.sync_spec.specs.Sync.{Sync, Stage, at_meta, at_pieces, at_chunks, at_system, at_memories, SyncOutcome, Heights, outcome_with, outcome_at_end, steps_left, outcome_at, sync_step, outcome_of_system, system_had}
-use Rattle.sync_spec.specs.Sync.{pieces_had, content_bytes, known_at, is_right_at, is_for, sync_after_asks, outcome_of_look, outcome_of_message, outcome_of_answer, outcome_of_verdict, outcome_after_item, outcome_of_list, outcome_of_meta, outcome_of_manifest, outcome_of_chunks, outcome_of_turn}
+use Rattle.sync_spec.specs.Sync.{joined_manifest, content_bytes, known_at, is_right_at, is_for, sync_after_asks, outcome_of_look, outcome_of_message, outcome_of_answer, outcome_of_verdict, outcome_after_item, outcome_of_list, outcome_of_meta, outcome_of_manifest, outcome_of_chunks, outcome_of_turn}
 use Rattle.sync_spec.specs.Sync.{none_came, wrong, late, took, install_left, bad_manifest, bad_system, peer_fault, ready}
 use Rattle.sync_spec.specs.SyncLaws.{StepsDown, IsReady, ReadyIsTarget, IsAtStage}
 
@@ -98,7 +96,7 @@ module _ (heights : Heights) where
 
   through_not : (stage : Stage) (s : Sync) → NotReady (outcome_of_list heights s stage)
   through_not at_meta s = pieces_not s (read_meta (bytes_had s.had meta))
-  through_not (at_pieces m) s = manifest_not s (read_manifest (flat_map (λ p. p) (pieces_had m s.had)))
+  through_not (at_pieces m) s = manifest_not s (joined_manifest m s.had)
   through_not (at_chunks m) s = rows_not s m []
   through_not (at_system m) s = is_late s
   through_not (at_memories m state left) s = is_late s

@@ -1,6 +1,6 @@
 -- The state that a sync installs, from the bytes of its chunks.
-use Rattle.std.specs.Prelude.{ℕ, ◌+◌, ◌-◌, ◌*◌, ◌==◌, not, nat_lt, if◌then◌else◌, List, [], ◌∷◌, length, map, filter}
-use Rattle.std.specs.Prelude.{zip, take, find, count_by, Option, Some, None, Result, Ok, Err}
+use Rattle.std.specs.Prelude.{ℕ, ◌+◌, ◌-◌, ◌*◌, ◌==◌, ◌&&◌, not, Bool, nat_lt, if◌then◌else◌, List, [], ◌∷◌, length, map}
+use Rattle.std.specs.Prelude.{zip, take, find, replicate, count_by, Option, Some, None, Result, Ok, Err}
 use Rattle.std.specs.List.{flat_map, range_with_len}
 use Rattle.std.specs.Option.{option_map_or}
 use Rattle.format_spec.specs.Bytes.{Bytes, same_bytes}
@@ -8,8 +8,10 @@ use Rattle.format_spec.specs.declared.limits.TheConstants.{PAGE_SIZE}
 use Rattle.state_spec.specs.State.{State, SystemPart, CanisterPart, state_from}
 use Rattle.state_spec.specs.Files.{heap_name}
 use Rattle.state_spec.specs.Manifest.{Manifest, FileRow, ChunkRow}
+use Rattle.state_spec.specs.ManifestText.{Slot, slots_of}
 use Rattle.state_spec.specs.SystemText.{read_system, canister_text}
 use Rattle.sync_spec.specs.Messages.{Item, chunk}
+use Rattle.sync_spec.specs.Rows.{system_number, file_size}
 use Rattle.sync_spec.specs.Core.{same_item}
 
 -- the bytes of an item that is had
@@ -20,13 +22,19 @@ bytes_had had item = option_map_or (λ x. x.1) (find (λ x. same_item x.0 item) 
 abbrev pub chunks_had : Manifest → List (Item × Bytes) → List Bytes
 chunks_had m had = map (λ i. bytes_had had (chunk i)) (range_with_len 0 (length m.chunks))
 
--- the bytes of the file of this number: its chunks, joined
-abbrev pub file_bytes : List ChunkRow → List Bytes → ℕ → Bytes
-file_bytes rows chunks n = flat_map (λ x. x.1) (filter (λ x. x.0.file == n) (zip rows chunks))
+abbrev pub stands_at : Slot → ChunkRow × Bytes → Bool
+stands_at slot x = x.0.file == slot.file && x.0.sum.offset == slot.offset
 
--- the number of the last file, which is the system text
-abbrev pub system_number : Manifest → ℕ
-system_number m = length m.files - 1
+-- the bytes at a slot: those of the chunk whose row stands there, else zeros
+abbrev pub slot_bytes : List (ChunkRow × Bytes) → Slot → Bytes
+slot_bytes chunks slot = option_map_or (λ x. x.1) (find (stands_at slot) chunks) (replicate slot.size 0)
+
+-- the bytes of a file of this number and size
+abbrev pub bytes_by : List (ChunkRow × Bytes) → ℕ → ℕ → Bytes
+bytes_by chunks n size = flat_map (slot_bytes chunks) (slots_of n size)
+
+abbrev pub file_bytes : Manifest → List Bytes → ℕ → Bytes
+file_bytes m chunks n = bytes_by (zip m.chunks chunks) n (file_size m n)
 
 -- the memories that are not empty
 abbrev pub memories_to_write : Manifest → ℕ
@@ -65,4 +73,4 @@ system_for m text = agreeing_parts (read_system m.version text) m.files
 -- the parts that the text spells, with the bytes of the chunks; each birth is the height
 unfoldable pub installed_state : ℕ → Manifest → SystemPart → List Bytes → State
 installed_state height m s chunks =
-    state_from m.version height s (map (file_bytes m.chunks chunks) (range_with_len 0 (system_number m)))
+    state_from m.version height s (map (file_bytes m chunks) (range_with_len 0 (system_number m)))

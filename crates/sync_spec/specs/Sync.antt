@@ -9,13 +9,14 @@ use Rattle.state_spec.specs.Manifest.{Manifest, FileRow, ChunkRow, sums_in}
 use Rattle.state_spec.specs.ManifestText.{read_manifest}
 use Rattle.state_spec.specs.Root.{MetaManifest, read_meta}
 use Rattle.sync_spec.specs.Messages.{Item, meta, piece, chunk, Ask, Content, gone, here, Answer, read_answer}
+use Rattle.sync_spec.specs.Rows.{system_number}
 use Rattle.sync_spec.specs.Serving.{Known, is_right}
 use Rattle.sync_spec.specs.Serving as known
 use Rattle.sync_spec.specs.Core.{Core, Wanted, Heard, all_pieces, chunks_without, with_items, core_after_turn, verdict, core_after_message}
 use Rattle.sync_spec.specs.Core as core
 use Rattle.sync_spec.specs.Events.{Events, Asked, Given, came, failed, all_went_out, core_after_asks, FitsTurn, no_events}
 use Rattle.sync_spec.specs.Local.{Hit, local_hits, manifests_of, bytes_at}
-use Rattle.sync_spec.specs.Install.{bytes_had, chunks_had, file_bytes, system_number, memories_to_write, system_for, installed_state}
+use Rattle.sync_spec.specs.Install.{bytes_had, chunks_had, file_bytes, memories_to_write, system_for, installed_state}
 
 -- how far a sync is, and what it knows
 pub data Stage : Type 0 where
@@ -104,6 +105,14 @@ outcome_of_manifest heights s (Ok m) = outcome_of_rows heights s m
 abbrev pub pieces_had : MetaManifest → List (Item × Bytes) → List Bytes
 pieces_had m had = map (λ i. bytes_had had (piece i)) (range_with_len 0 (length m.pieces))
 
+-- the manifest that the pieces spell, which has the version of the meta-manifest
+abbrev pub of_version : ℕ → Result Manifest ℕ → Result Manifest ℕ
+of_version version (Err place) = Err place
+of_version version (Ok m) = if m.version == version then Ok m else Err 4
+
+abbrev pub joined_manifest : MetaManifest → List (Item × Bytes) → Result Manifest ℕ
+joined_manifest of had = of_version of.version (read_manifest (flat_map (λ p. p) (pieces_had of had)))
+
 abbrev pub outcome_of_meta : Sync → Option MetaManifest → SyncOutcome
 outcome_of_meta s None = outcome_with late s
 outcome_of_meta s (Some m) =
@@ -112,7 +121,7 @@ outcome_of_meta s (Some m) =
 -- all items of a list are had
 abbrev pub outcome_of_list : Heights → Sync → Stage → SyncOutcome
 outcome_of_list heights s at_meta = outcome_of_meta s (read_meta (bytes_had s.had meta))
-outcome_of_list heights s (at_pieces m) = outcome_of_manifest heights s (read_manifest (flat_map (λ p. p) (pieces_had m s.had)))
+outcome_of_list heights s (at_pieces m) = outcome_of_manifest heights s (joined_manifest m s.had)
 outcome_of_list heights s (at_chunks m) = outcome_of_chunks s m []
 outcome_of_list heights s stage = outcome_with late s
 
@@ -187,7 +196,7 @@ outcome_of_system s m (Ok parts) =
     outcome_with (install_left (steps_left stage)) (record s { stage = stage })
 
 abbrev pub system_had : Sync → Manifest → Bytes
-system_had s m = file_bytes m.chunks (chunks_had m s.had) (system_number m)
+system_had s m = file_bytes m (chunks_had m s.had) (system_number m)
 
 abbrev pub outcome_of_memory : Sync → Manifest → State → ℕ → SyncOutcome
 outcome_of_memory s m state zero = outcome_at_end (ready state)

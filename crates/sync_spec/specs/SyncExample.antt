@@ -2,12 +2,14 @@
 use Rattle.std.specs.Prelude.{ℕ, zero, suc, codes, true, false, List, [], ◌∷◌, replicate, Option, Some, None}
 use Rattle.format_spec.specs.Bytes.{Bytes}
 use Rattle.format_spec.specs.Hashes.{piece_hash}
-use Rattle.state_spec.specs.State.{State}
+use Rattle.state_spec.specs.State.{State, system_of}
+use Rattle.state_spec.specs.SystemText.{system_text}
+use Rattle.state_spec.specs.Manifest.{manifest_of}
 use Rattle.state_spec.specs.Root.{MetaManifest, meta_text, root_of_meta}
-use Rattle.state_spec.specs.Example.{from_hex}
+use Rattle.state_spec.specs.Example.{zero_page, from_hex}
 use Rattle.sync_spec.specs.Messages.{Item, meta, piece, chunk, Ask, Content, here, ask_text, answer_text}
 use Rattle.sync_spec.specs.Events.{Events, Asked, came, nothing}
-use Rattle.sync_spec.specs.Sync.{Sync, Told, Heights, sync_to, sync_step}
+use Rattle.sync_spec.specs.Sync.{Sync, Told, Heights, at_system, sync_to, sync_step}
 
 -- what is told step by step, up to where the sync ends
 abbrev pub told_by_steps : Heights → Option Sync → List Events → List Told
@@ -90,6 +92,11 @@ two_turns height =
     item_comes height (sent_ask height target 0 meta ∷ []) 0 meta
     ∷ item_comes height (sent_ask height target 0 (piece 0) ∷ []) 0 (piece 0)
     ∷ []
+
+-- ---- in version 2 the state with a page of zeros, of which the system text is had
+
+abbrev pub zeros_had : Sync
+zeros_had = record (two_peers 1) { stage = at_system (manifest_of zero_page); had = (chunk 0, system_text (system_of zero_page)) ∷ [] }
 
 -- ---- a meta-manifest with one piece, the byte 78, which is no manifest
 

@@ -10,7 +10,7 @@ use Rattle.state_spec.specs.Manifest.{Manifest}
 use Rattle.state_spec.specs.ManifestText.{read_manifest}
 use Rattle.state_spec.specs.Root.{MetaManifest, IsMeta, meta_text, root_of, root_of_meta, hashed_strings}
 use Rattle.sync_spec.specs.Messages.{Item, meta, piece, chunk, Content, Answer, read_answer}
-use Rattle.sync_spec.specs.Serving.{Known, is_right, pieces, rows}
+use Rattle.sync_spec.specs.Serving.{Known, is_taken, is_right, pieces, rows}
 use Rattle.sync_spec.specs.Core.{Heard, took, same_item, has_item, verdict}
 use Rattle.sync_spec.specs.CoreLaws.{IsCore}
 use Rattle.sync_spec.specs.Events.{Events, Given, came, all_went_out}
@@ -59,6 +59,7 @@ IsMissingOrHeld s known item = IsTrue (has_item s.core.missing item) ⊎ IsHeld 
 
 pub record KnowsMeta (s : Sync) (m : MetaManifest) : Type 0 where
   pub good : IsMeta m
+  pub version : IsTrue (is_taken m.version)
   pub root : root_of_meta m ≡ s.root
   pub had : HasBytes s meta (meta_text m)
 
@@ -67,6 +68,7 @@ pub record KnowsManifest (s : Sync) (m : Manifest) : Type 0 where
   pub knows_meta : KnowsMeta s of
   pub pieces_held : (i : ℕ) → i < length of.pieces → IsHeld s (pieces of) (piece i)
   pub spelled : read_manifest (flat_map (λ p. p) (pieces_had of s.had)) ≡ Ok m
+  pub same_version : m.version ≡ of.version
 
 abbrev pub IsAtStage : Stage → Sync → Type 0
 IsAtStage at_meta s = ⊤

@@ -1,17 +1,32 @@
 //! Syncs from peers, which the check computes.
 
 ghost use Rattle.std.specs.Prelude.{◌≡◌, [], ◌∷◌, ◌++◌, Some, None, map, replicate};
-ghost use Rattle.state_spec.specs.Example.{one_byte};
+ghost use Rattle.state_spec.specs.Example.{one_byte, zero_page};
 ghost use Rattle.state_spec.specs.State.{state_from, system_of, memory_bytes};
 ghost use Rattle.state_spec.specs.Root.{root_of};
 ghost use Rattle.sync_spec.specs.Messages.{meta, piece, chunk};
 ghost use Rattle.sync_spec.specs.Sync.{none_came, wrong, late, took, install_left, bad_manifest, bad_system, ready, sync_to, FitsSync};
-ghost use Rattle.sync_spec.specs.SyncExample.{empty_state, told_by_steps, sync_after_steps, two_peers, seven_turns, two_turns, bad_turns, bad_root, target, without_events, silence, sent_ask, failed_ask};
+ghost use Rattle.sync_spec.specs.Local.{local_hits};
+ghost use Rattle.sync_spec.specs.Example.{both_rows};
+ghost use Rattle.sync_spec.specs.SyncExample.{zeros_had, empty_state, told_by_steps, sync_after_steps, two_peers, seven_turns, two_turns, bad_turns, bad_root, target, without_events, silence, sent_ask, failed_ask};
 
 /// A state is taken from two peers, of which one sends a wrong piece.
 #[tactic(auto, unfolding(crate::specs::Computing::syncs_compute))]
 pub fn a_state_is_taken()
     ensures { told_by_steps [] (Some (two_peers 1)) (seven_turns 1 ++ without_events 3) ≡ wrong 0 ∷ took 1 ∷ wrong 1 ∷ took 2 ∷ late ∷ took 1 ∷ install_left 3 ∷ install_left 2 ∷ install_left 1 ∷ ready (state_from 1 1 (system_of one_byte) (memory_bytes one_byte)) ∷ [] }
+{}
+
+/// In version 2 a page of zeros has no chunk, and is installed.
+#[tactic(auto, unfolding(crate::specs::Computing::syncs_compute))]
+pub fn zeros_are_installed()
+    ensures { told_by_steps [] (Some zeros_had) (without_events 3) ≡ install_left 2 ∷ install_left 1 ∷ ready (state_from 2 1 (system_of zero_page) (memory_bytes zero_page)) ∷ [] }
+{}
+
+/// A chunk that a published height has is had at once, but in version 2 not where a memory's row has the hash of zeros.
+#[tactic(auto, unfolding(crate::specs::Computing::syncs_compute))]
+pub fn local_chunks_of_zeros()
+    ensures first { map (λ h. h.chunk) (local_hits ((1, both_rows 2) ∷ []) (both_rows 1)) ≡ 0 ∷ 1 ∷ [] }
+    ensures second { map (λ h. h.chunk) (local_hits ((1, both_rows 1) ∷ []) (both_rows 2)) ≡ 1 ∷ [] }
 {}
 
 /// The root hash of the example is that of its state.

@@ -1,5 +1,5 @@
 -- The height that page files of whole memories and the mark over them give.
-use Rattle.std.proofs.Common.{◌≡◌, ℕ, ◌*◌, ◌/◌, ◌≤◌, ◌==◌, Bool, true, false, ◌||◌, nat_eq, List, [], ◌∷◌, length, map, zip, inl, inr, refl, sym, ap, subst, ◌∙◌, arith}
+use Rattle.std.proofs.Common.{◌≡◌, ℕ, ◌*◌, ◌/◌, ◌≤◌, ◌==◌, Bool, IsTrue, true, false, ◌||◌, nat_eq, List, [], ◌∷◌, length, map, zip, inl, inr, refl, sym, ap, subst, ◌∙◌, arith}
 use Rattle.std.specs.List.{list_any, AllByRecursion, AllZip}
 use Rattle.std.proofs.lemmas.Bool.{cases_Bool, false≢true, eqb-true}
 use Rattle.format_spec.specs.Bytes.{Bytes}
@@ -11,7 +11,7 @@ use Rattle.state_spec.specs.State.{State, Canister, CanisterPart, SystemPart, Is
 use Rattle.state_spec.specs.Files.{memories_in, memory_pages}
 use Rattle.state_spec.proofs.FileOrder.{by_canisters}
 use Rattle.state_spec.specs.Manifest.{chunk_hashes}
-use Rattle.store_spec.specs.Mark.{Mark, MarkMemory, IsMark}
+use Rattle.store_spec.specs.Mark.{Mark, MarkMemory, IsMark, is_opened}
 use Rattle.store_spec.specs.Image.{HasTrueSums, memories_from, whole_layer}
 use Rattle.page_spec.specs.Layers.{Layer, memory_from}
 use Rattle.sys_state.specs.declared.record.CanisterRecord.{CanisterRecord}
@@ -70,8 +70,8 @@ all_fit (b ∷ memories) [] (s ∷ stacks) fit are = absurd cc
 all_fit (b ∷ memories) (f ∷ fs) (s ∷ stacks) fit are =
     let h = heads (length b) (f.1 * PAGE_SIZE) (lengths memories) (sizes fs) fit in (fits_pages b f s h.0 are.0, all_fit memories fs stacks h.1 are.1)
 
-pub fits_mark : (m : Mark) (s : SystemPart) (memories : List Bytes) (stacks : List (List NumberedFile)) → IsMark m s → map (λ x. x.layers) m.memories ≡ map numbers_of stacks → FitMemories s memories → AllZip IsWholeStack memories stacks → FitsMark m s stacks
-fits_mark m s memories stacks good layers fit are = record { mark = good; numbers = sym layers; fits = all_fit memories (memories_in s) stacks fit are }
+pub fits_mark : (m : Mark) (s : SystemPart) (memories : List Bytes) (stacks : List (List NumberedFile)) → IsMark m s → m.version ≡ 1 → map (λ x. x.layers) m.memories ≡ map numbers_of stacks → FitMemories s memories → AllZip IsWholeStack memories stacks → FitsMark m s stacks
+fits_mark m s memories stacks good one layers fit are = record { mark = good; opened = subst (λ (v : ℕ). IsTrue (is_opened v)) (sym one) refl; numbers = sym layers; fits = all_fit memories (memories_in s) stacks fit are }
 
 files_kept : (s : DiskState) (bytes : Bytes) (stack : List NumberedFile) → AreFinished s bytes stack → AllByRecursion (IsAsKnown s.files) stack
 files_kept s bytes [] done = tt
@@ -147,11 +147,11 @@ numbers_back (b ∷ memories) (s ∷ stacks) are =
     let rest = numbers_back memories stacks are.1 in
     λ i. first i ∷ rest i
 
-true_sums : (ms : List MarkMemory) (memories : List Bytes) → map (λ x. x.sums) ms ≡ map chunk_hashes memories → AllZip HasTrueSums ms memories
+true_sums : (ms : List MarkMemory) (memories : List Bytes) → map (λ x. x.sums) ms ≡ map (chunk_hashes 1) memories → AllZip (HasTrueSums 1) ms memories
 true_sums [] [] sums = tt
 true_sums [] (b ∷ memories) sums = absurd cc
 true_sums (m ∷ ms) [] sums = absurd cc
-true_sums (m ∷ ms) (b ∷ memories) sums = let h = heads m.sums (chunk_hashes b) (map (λ (x : MarkMemory). x.sums) ms) (map chunk_hashes memories) sums in (h.0, true_sums ms memories h.1)
+true_sums (m ∷ ms) (b ∷ memories) sums = let h = heads m.sums (chunk_hashes 1 b) (map (λ (x : MarkMemory). x.sums) ms) (map (chunk_hashes 1) memories) sums in (h.0, true_sums ms memories h.1)
 
 abbrev bare : Bytes × Canister → Bytes × Canister
 bare c = (c.0, canister_without_history c.1)
@@ -170,17 +170,17 @@ same_state s version birth system memories one parts =
     (subst (λ (k : System). SameState s (state_from s.version birth (part_of k) memories)) parts.parts
     (subst (λ (ms : List Bytes). SameState s (state_from s.version birth (part_of (kept_of s)) ms)) parts.bytes (own_state s birth)))
 
-pub is_made : (s : DiskState) (m : Mark) (system : System) (memories : List Bytes) (stacks : List (List NumberedFile)) (height : ℕ) (state : State) → IsMark m (part_of system) → m.height ≡ height → map (λ x. x.layers) m.memories ≡ map numbers_of stacks
-    → map (λ x. x.sums) m.memories ≡ map chunk_hashes memories → FitMemories (part_of system) memories → AllZip IsWholeStack memories stacks → AllZip (AreFinished s) memories stacks → HasParts state system memories
+pub is_made : (s : DiskState) (m : Mark) (system : System) (memories : List Bytes) (stacks : List (List NumberedFile)) (height : ℕ) (state : State) → IsMark m (part_of system) → m.version ≡ 1 → m.height ≡ height → map (λ x. x.layers) m.memories ≡ map numbers_of stacks
+    → map (λ x. x.sums) m.memories ≡ map (chunk_hashes 1) memories → FitMemories (part_of system) memories → AllZip IsWholeStack memories stacks → AllZip (AreFinished s) memories stacks → HasParts state system memories
     → IsMadeOf s.files m (part_of system) stacks (whole height state)
-is_made s m system memories stacks height state good height_is layers sums fit are done parts =
+is_made s m system memories stacks height state good one height_is layers sums fit are done parts =
     let reads : memories_from (part_of system) (all_layers memories stacks) ≡ memories = back memories (memories_in (part_of system)) stacks fit are in
     record {
-      good = fits_mark m (part_of system) memories stacks good layers fit are;
+      good = fits_mark m (part_of system) memories stacks good one layers fit are;
       height = sym height_is;
       layers = all_layers memories stacks;
       there = stacks_layers s memories stacks done;
-      same_state = subst (λ (ms : List Bytes). SameState state (state_from m.version height (part_of system) ms)) (sym reads) (same_state state m.version height system memories good.version parts);
+      same_state = subst (λ (ms : List Bytes). SameState state (state_from m.version height (part_of system) ms)) (sym reads) (same_state state m.version height system memories one parts);
       same_layers = ap (map (λ (bytes : Bytes). whole_layer (length bytes / PAGE_SIZE))) parts.bytes ∙ numbers_back memories stacks are;
-      true_sums = subst (AllZip HasTrueSums m.memories) (sym reads) (true_sums m.memories memories sums);
+      true_sums = subst (AllZip (HasTrueSums m.version) m.memories) (sym reads) (subst (λ (v : ℕ). AllZip (HasTrueSums v) m.memories memories) (sym one) (true_sums m.memories memories sums));
     }

@@ -76,9 +76,10 @@ pub record Wrote (old mid : Store) (before between : DiskView) (system : System)
   pub finished : AllZip (AreFinished between.state) memories stacks
   pub whole : AllZip IsWholeStack memories stacks
   pub good : IsMark m (part_of system)
+  pub one : m.version ≡ 1
   pub is_height : m.height ≡ height
   pub layers : map (λ x. x.layers) m.memories ≡ map numbers_of stacks
-  pub sums : map (λ x. x.sums) m.memories ≡ map chunk_hashes memories
+  pub sums : map (λ x. x.sums) m.memories ≡ map (chunk_hashes 1) memories
   pub fit : FitMemories (part_of system) memories
 
 -- until the mark is written each image stands for the heights before
@@ -94,7 +95,7 @@ pub publishes : {X : Type 0} (old mid : Store) (before between : DiskView) (syst
 publishes old mid before between system memories stacks m height ps state publish wrote parts settled keeps =
     let kept = kept_apart (is_given_since old mid) before between old.heights ps (needed_apart old mid before.state ps wrote.sound wrote.readable wrote.room keeps) wrote.touches keeps in
     publish (wrote.settled settled) (subst (λ (hs : List StoredHeight). KeepsHeights hs between.state ps) (sym wrote.heights) kept)
-    (is_made between.state m system memories stacks height state wrote.good wrote.is_height wrote.layers wrote.sums wrote.fit wrote.whole wrote.finished parts)
+    (is_made between.state m system memories stacks height state wrote.good wrote.one wrote.is_height wrote.layers wrote.sums wrote.fit wrote.whole wrote.finished parts)
     (pages_firm between.state m memories stacks wrote.layers wrote.finished)
 
 pub given_bounds : {V : Type 0} (bytes : V → Bytes) (ms : List V) (old new : Store) → length (map bytes ms) ≤ 2048 → GivesNumbers (length ms) old new → GivesFew old new

@@ -15,14 +15,14 @@ ghost use Rattle.whole_state.specs.Whole.{HasParts};
 ghost use Rattle.whole_state.specs.Written.{IsWholeStack};
 
 use byte_codec::{Blob, NoMemory};
-use hash_domain::{Hash32, chunk_hashes};
+use hash_domain::{Hash32, chunk_sums};
 use layer_stack::Stack;
 use mark_file::{Mark, MarkMem};
 use std::alloc::Global;
 use sys_state::SysState;
 
-/// The mark of a height, from 1 to 2^62, for a state with this system text whose memories have these bytes and are written
-/// whole to these page files. NoMemory where memory runs out.
+/// The mark of a height, from 1 to 2^62, for a state of version 1 with this system text whose memories have these bytes and are
+/// written whole to these page files. NoMemory where memory runs out.
 pub(crate) fn mark_of(
     alloc: Global,
     height: u64,
@@ -40,28 +40,33 @@ pub(crate) fn mark_of(
 
     ensures mark { IfOk result (λ m. IsMark m (part_of sys.now)) }
     ensures height { IfOk result (λ m. m.height ≡ height) }
+    ensures version { IfOk result (λ m. m.version ≡ 1) }
     ensures layers { IfOk result (λ m. map (λ memory. memory.layers) m.memories ≡ map numbers_of stacks.now) }
-    ensures sums { IfOk result (λ m. map (λ memory. memory.sums) m.memories ≡ map hashes_of_chunks (map (λ memory. memory.items) memories.now)) }
+    ensures sums { IfOk result (λ m. map (λ memory. memory.sums) m.memories ≡ map (hashes_of_chunks 1) (map (λ memory. memory.items) memories.now)) }
     ensures root { IfOk result (λ m. (s : State) → HasParts s sys.now (map (λ memory. memory.items) memories.now) → m.root ≡ root_of s) }
 {
     let sums = all_sums(alloc, memories)?;
     let mems = mems_of(alloc, stacks, &sums)?;
-    Mark::made(alloc, height, sys, system, mems)
+    Mark::made(alloc, height, sys, system, mems, 1)
 }
 
-// The hashes of the chunks of each memory.
-fn all_sums(alloc: Global, memories: &[Vec<u8>]) -> Result<Vec<Vec<Hash32>>, NoMemory>
-    ensures { IfOk result (λ sums. map (λ hashes. hashes.items) sums.items ≡ map hashes_of_chunks (map (λ memory. memory.items) memories.now)) }
+// The sums of the chunks of each memory in version 1: the hash of each.
+fn all_sums(alloc: Global, memories: &[Vec<u8>]) -> Result<Vec<Vec<Option<Hash32>>>, NoMemory>
+    ensures { IfOk result (λ sums. map (λ hashes. hashes.items) sums.items ≡ map (hashes_of_chunks 1) (map (λ memory. memory.items) memories.now)) }
 {
     let mut sums = Vec::with_capacity(alloc, memories.len())?;
     for memory in memories {
-        sums.push(chunk_hashes(alloc, memory)?)?;
+        sums.push(chunk_sums(alloc, 1, memory)?)?;
     }
     Ok(sums)
 }
 
 // What the mark says of each memory.
-fn mems_of(alloc: Global, stacks: &[Stack], sums: &[Vec<Hash32>]) -> Result<Vec<MarkMem>, NoMemory>
+fn mems_of(
+    alloc: Global,
+    stacks: &[Stack],
+    sums: &[Vec<Option<Hash32>>],
+) -> Result<Vec<MarkMem>, NoMemory>
     requires { length sums.now ≡ length stacks.now }
     ensures layers { IfOk result (λ mems. map (λ memory. memory.layers) mems.items ≡ map numbers_of stacks.now) }
     ensures sums { IfOk result (λ mems. map (λ memory. memory.sums) mems.items ≡ map (λ hashes. hashes.items) sums.now) }

@@ -67,7 +67,7 @@ pub fn checkpoint<D: Disk>(
         → HasParts s sys.now (map (λ memory. memory.items) memories.now)
         → IsSettled (D.view disk.old).state → KeepsHeights store.old.heights (D.view disk.old).state ps
         → LeavesOnly (D.view disk.old) (D.view disk.new) (StandsForEither ps (ps ++ whole height s ∷ [])) }
-    ensures writes { Writes D.Disk (is_given_for store.old height) (whole_length (length (system_text (part_of sys.now))) (map (λ memory. memory.items) memories.now)) disk.old disk.new result }
+    ensures writes { Writes D.Disk (is_given_for store.old height) (whole_length 1 (length (system_text (part_of sys.now))) (map (λ memory. memory.items) memories.now)) disk.old disk.new result }
 {
     let system = sys.encode(alloc)?;
     let stacks = write_memories(alloc, store, disk, memories)?;

@@ -1,4 +1,4 @@
-use Rattle.std.proofs.Common.{◌∙◌, List, length, ap, sym, subst, arith}
+use Rattle.std.proofs.Common.{◌∙◌, List, length, map, Some, ap, sym, subst, arith}
 use Rattle.std.specs.Prelude.{IfOk}
 use Rattle.state_spec.specs.Manifest.{ChunkRow}
 use Rattle.store_spec.specs.Mark.{Mark}
@@ -21,11 +21,11 @@ overflow_cast-len c = omega (arith, c.len.ensures, ap length c.deref-2.ensures.v
 
 pub with_file-requires : goal.with_file-requires
 with_file-requires c =
-    omega (arith, system_few c.args.mark.now (part_of c.args.sys.now) c.deref-3.result.now c.requires (c.deref-3.ensures.value ∙ ap (λ (m : Mark). m.system_sums) c.mark.view_is), (mark_fits c.args.mark.now (part_of c.args.sys.now) c.requires).system)
+    omega (arith, system_few c.args.mark.now (part_of c.args.sys.now) c.deref-4.result.now c.requires (c.deref-4.ensures.value ∙ c.in_ok-sums.ensures ∙ ap (map Some) (c.deref-3.ensures.value ∙ ap (λ (m : Mark). m.system_sums) c.mark.view_is)), (mark_fits c.args.mark.now (part_of c.args.sys.now) c.requires).system)
 
 pub returns : goal.returns
 returns c =
     subst (λ (all : List ChunkRow). IfOk c.with_file.result (λ index. Indexes index all))
     (mark_rows c.args.mark.now (part_of c.args.sys.now) c.deref.result.now c.deref-2.result.now _ _ _ c.requires
-    (c.deref.ensures.value ∙ ap (λ (m : Mark). m.memories) c.mark.view_is) (c.deref-2.ensures.value ∙ c.in_ok-pages.ensures.pages) (c.len.ensures ∙ sym c.deref-2.ensures.len) (ap length (c.bytes.ensures.value ∙ ap (λ (m : Mark). m.system) c.mark.view_is)) (c.deref-3.ensures.value ∙ ap (λ (m : Mark). m.system_sums) c.mark.view_is))
+    (c.deref.ensures.value ∙ ap (λ (m : Mark). m.memories) c.mark.view_is) (c.deref-2.ensures.value ∙ c.in_ok-pages.ensures.pages) (c.len.ensures ∙ sym c.deref-2.ensures.len) (ap length (c.bytes.ensures.value ∙ ap (λ (m : Mark). m.system) c.mark.view_is)) (c.deref-4.ensures.value ∙ c.in_ok-sums.ensures ∙ ap (map Some) (c.deref-3.ensures.value ∙ ap (λ (m : Mark). m.system_sums) c.mark.view_is)))
     (c.with_file.ensures _ c.in_ok-index.ensures)

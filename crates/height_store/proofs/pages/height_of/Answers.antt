@@ -19,7 +19,7 @@ stacks_of-requires-clause-named c =
 
 is_height : (c : goal.In_ok-chunks) → IsHeight (record { mark = c.mark.inside.mark; system = c.mark.inside.sys; stacks = c.in_ok-stacks.stacks.items })
 is_height c = record {
-  parts = fits_mark c.args.files.now c.mark.inside.mark (part_of c.mark.inside.sys) c.deref.result.now c.in_ok-stacks.stacks.items c.mark.invariant.good (c.deref.ensures.value ∙ ap (λ (m : Inside). m.mark.memories) c.mark-inside.view_is)
+  parts = fits_mark c.args.files.now c.mark.inside.mark (part_of c.mark.inside.sys) c.deref.result.now c.in_ok-stacks.stacks.items c.mark.invariant.good c.mark.invariant.opened (c.deref.ensures.value ∙ ap (λ (m : Inside). m.mark.memories) c.mark-inside.view_is)
       c.in_ok-stacks.ensures.numbers c.in_ok-stacks.ensures.among (subst (λ (m : ReadMark). FitNamings c.args.files.now (mark_namings (parts_of m))) (sym c.mark.view_is) c.requires.fits);
   births = c.mark.invariant.births;
 }

@@ -1,5 +1,5 @@
 use Rattle.manifest.proofs.Judging.{Judged}
 use Rattle.manifest.proofs.hashes.wrong_hash.Given as goal
 
-abbrev pub invariant-loop-row : goal.invariant-loop-row
-invariant-loop-row l = Judged l.files l.chunks l.row-index l.at l.begin
+abbrev pub invariant-loop-number : goal.invariant-loop-number
+invariant-loop-number l = Judged l.files l.chunks l.number l.at l.begin

@@ -3,4 +3,4 @@ use Rattle.state_spec.specs.Manifest.{chunk_hashes}
 use Rattle.manifest.proofs.making.from_scratch.Given as goal
 
 abbrev pub invariant-loop-memory : goal.invariant-loop-memory
-invariant-loop-memory l = map (λ hashes. hashes.items) l.sums.items ≡ map (λ memory. chunk_hashes memory.items) (take l.memory-index l.memories)
+invariant-loop-memory l = map (λ hashes. hashes.items) l.sums.items ≡ map (λ memory. chunk_hashes l.version memory.items) (take l.memory-index l.memories)

@@ -1,6 +1,6 @@
-use Rattle.std.proofs.Common.{◌≡◌, ◌++◌, drop}
+use Rattle.std.proofs.Common.{◌≡◌, ◌+◌, ◌++◌, drop}
 use Rattle.state_spec.specs.ManifestText.{slots}
 use Rattle.manifest.proofs.slots.slots_of.Given as goal
 
 abbrev pub invariant-loop-number : goal.invariant-loop-number
-invariant-loop-number l = l.found.items ++ slots l.number (drop l.number l.files) ≡ slots 0 l.files
+invariant-loop-number l = l.found.items ++ slots (l.first + l.number) (drop l.number l.files) ≡ slots l.first l.files

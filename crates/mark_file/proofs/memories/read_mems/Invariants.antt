@@ -5,5 +5,5 @@ use Rattle.mark_file.proofs.memories.read_mems.Given as goal
 
 abbrev pub invariant-loop-count : goal.invariant-loop-count
 invariant-loop-count l =
-    (each (memory_after l.pages) (length l.pages - l.count-index) l.mems.items l.reader ≡ each (memory_after l.pages) (length l.pages) [] l.fn.reader)
+    (each (memory_after l.version l.pages) (length l.pages - l.count-index) l.mems.items l.reader ≡ each (memory_after l.version l.pages) (length l.pages) [] l.fn.reader)
     × (length l.mems.items ≡ l.count-index)

@@ -1,11 +1,10 @@
 use Rattle.std.proofs.Common.{◌≡◌, ◌⊎◌, List, ◌∷◌, map, Ok, ap, ◌∙◌, subst, inl, inr}
 use Rattle.std.specs.List.{flat_map}
-use Rattle.format_spec.specs.Bytes.{Bytes, IsBytes, AreByteStrings, parts}
+use Rattle.format_spec.specs.Bytes.{Bytes, IsBytes, AreByteStrings}
 use Rattle.format_spec.specs.Hashes.{root_string, piece_string, chunk_string, piece_hash}
-use Rattle.format_spec.specs.declared.limits.TheConstants.{CHUNK_SIZE}
 use Rattle.state_spec.specs.State.{State, IsState}
 use Rattle.state_spec.specs.Files.{files}
-use Rattle.state_spec.specs.Manifest.{manifest_of}
+use Rattle.state_spec.specs.Manifest.{manifest_of, row_chunks}
 use Rattle.state_spec.specs.ManifestText.{manifest_text, read_manifest}
 use Rattle.state_spec.specs.Root.{MetaManifest, hashed_strings}
 use Rattle.state_spec.proofs.ManifestWhole.{manifest_only}
@@ -31,4 +30,4 @@ returns-clause-manifest c = λ s m ps h b r e.
 
 pub returns-clause-chunks : goal.returns-clause-chunks
 returns-clause-chunks c = λ s cs h b e.
-    or_clash (cs ≡ flat_map (λ f. parts CHUNK_SIZE f.1) (files s)) (hashed_strings s) (map chunk_string cs) (state_strings s h) (chunk_string_bytes cs b) (chunks_or_meet s cs e)
+    or_clash (cs ≡ flat_map row_chunks (files s)) (hashed_strings s) (map chunk_string cs) (state_strings s h) (chunk_string_bytes cs b) (chunks_or_meet s cs e)

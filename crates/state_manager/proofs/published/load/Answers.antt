@@ -1,4 +1,4 @@
-use Rattle.std.proofs.Common.{ℕ, ◌∙◌, ap, map, refl, sym, subst, arith}
+use Rattle.std.proofs.Common.{ℕ, ◌∙◌, ap, map, refl, sym, subst, eqb-true, arith}
 use Rattle.state_spec.specs.State.{IsSystem}
 use Rattle.sys_state.specs.System.{System, part_of}
 use Rattle.sys_state.proofs.Within.{memories_within}
@@ -15,10 +15,10 @@ loaded-requires-clause-sizes g c =
 
 pub loaded-requires-clause-within : goal.loaded-requires-clause-within
 loaded-requires-clause-within g c =
-    let mark = c.sys.ensures.good.parts.mark in
+    let parts = c.sys.ensures.good.parts in
     memories_within 1 (part_of c.args.found.now.system) (map (λ memory. memory.items) c.in_ok-memories.memories.items)
     (have_sizes (λ memory. memory.items) c.in_ok-memories.memories.items c.args.found.now.system c.in_ok-memories.ensures.sizes)
-    (subst (λ (v : ℕ). IsSystem v (part_of c.args.found.now.system)) mark.version mark.system_good)
+    (subst (λ (v : ℕ). IsSystem v (part_of c.args.found.now.system)) (eqb-true c.args.found.now.mark.version 1 parts.opened) parts.mark.system_good)
 
 pub returns-clause-state : goal.returns-clause-state
 returns-clause-state g c = λ told p shows.

@@ -34,7 +34,7 @@ returns-clause-publishes g c =
       over = λ told. over_after c.checkpoint.result c.args.store.now c.checkpoint.new.store _ _ (c.requires.over told) (c.checkpoint.ensures.readable told) (c.checkpoint.ensures.writable told);
       spends = λ told k keeps.
           subst (λ (n : ℕ). OnOk c.checkpoint.result (Spends n 0 (g.D.Disk.view c.args.disk.now) (g.D.Disk.view c.checkpoint.new.disk)))
-          (ap (λ (system : System). whole_length (length (system_text (part_of system))) (map (λ v. v.items) c.memories.result.now)) c.system.ensures
+          (ap (λ (system : System). whole_length 1 (length (system_text (part_of system))) (map (λ v. v.items) c.memories.result.now)) c.system.ensures
           ∙ written_bytes c.args.state.now k keeps _ (sym c.memories.ensures.value)) (writes_spend c.checkpoint.result _ _ _ _ (c.checkpoint.ensures.writes.only told));
       numbers_given = c.checkpoint.ensures.numbers_given;
     }

@@ -1,4 +1,4 @@
-use Rattle.std.proofs.Common.{◌∙◌, ℕ, List, length, map, ap, refl, sym, subst, Vec, Global}
+use Rattle.std.proofs.Common.{◌∙◌, ℕ, List, map, ap, Vec, Global, Option}
 use Rattle.std.proofs.lemmas.Result.{IfOk-weaker}
 use Rattle.format_spec.specs.Bytes.{Bytes}
 use Rattle.state_spec.specs.Files.{memories_in}
@@ -9,7 +9,7 @@ use Rattle.sys_state.specs.System.{part_of}
 use Rattle.whole_state.proofs.Marked.{counted, memories_fit, root_is}
 use Rattle.whole_state.proofs.marking.mark_of.Goals as goal
 
-abbrev hashes : Vec Bytes Global → List Bytes
+abbrev hashes : Vec (Option Bytes) Global → List (Option Bytes)
 hashes list = list.items
 
 abbrev bytes : Vec ℕ Global → Bytes
@@ -34,5 +34,5 @@ returns-clause-sums c =
 pub returns-clause-root : goal.returns-clause-root
 returns-clause-root c =
     let sums = c.in_ok-mems.ensures.sums ∙ ap (map hashes) c.deref.ensures.value ∙ c.in_ok-sums.ensures in
-    let made = ap (λ (hs : List (List Bytes)). root_of_meta (meta_of (manifest_from 1 (file_sums (part_of c.args.sys.now) hs)))) sums in
+    let made = ap (λ (hs : List (List (Option Bytes))). root_of_meta (meta_of (manifest_from 1 (file_sums (part_of c.args.sys.now) hs)))) sums in
     IfOk-weaker c.made.result _ _ (λ m is state parts. root_is m.root c.args.sys.now (map bytes c.args.memories.now) state c.requires.fit parts (is ∙ made)) c.made.ensures.root

@@ -1,4 +1,4 @@
-use Rattle.std.proofs.Common.{◌+◌, ℕ, length, ap, refl, ◌∙◌, arith}
+use Rattle.std.proofs.Common.{◌+◌, length, ap, refl, ◌∙◌, arith}
 use Rattle.page_spec.specs.PageFile.{index_length}
 use Rattle.disk_model.specs.Writing.{write_failed, write_then}
 use Rattle.page_file.specs.Files.{UnfinishedFile}

@@ -53,7 +53,7 @@ returns-in_err-mark-clause-images g c = λ told ps s parts settled keeps.
 pub publish-requires-clause-good : goal.publish-requires-clause-good
 publish-requires-clause-good g c = (
   part_of c.args.sys.now,
-  fits_mark c.in_ok-mark.mark (part_of c.args.sys.now) (map bytes c.args.memories.now) c.in_ok-stacks.stacks.items c.in_ok-mark.ensures.mark
+  fits_mark c.in_ok-mark.mark (part_of c.args.sys.now) (map bytes c.args.memories.now) c.in_ok-stacks.stacks.items c.in_ok-mark.ensures.mark c.in_ok-mark.ensures.version
       (c.in_ok-mark.ensures.layers ∙ ap (map numbers_of) c.deref.ensures.value) c.requires.fit c.in_ok-stacks.ensures.whole,
 )
 
@@ -104,6 +104,7 @@ returns-in_err-publish-clause-images g c = λ told ps s parts settled keeps.
       finished = c.in_ok-stacks.ensures.finished told;
       whole = c.in_ok-stacks.ensures.whole;
       good = c.in_ok-mark.ensures.mark;
+      one = c.in_ok-mark.ensures.version;
       is_height = c.in_ok-mark.ensures.height;
       layers = c.in_ok-mark.ensures.layers ∙ ap (map numbers_of) c.deref.ensures.value;
       sums = c.in_ok-mark.ensures.sums;
@@ -127,6 +128,7 @@ returns-clause-images g c = λ told ps s parts settled keeps.
       finished = c.in_ok-stacks.ensures.finished told;
       whole = c.in_ok-stacks.ensures.whole;
       good = c.in_ok-mark.ensures.mark;
+      one = c.in_ok-mark.ensures.version;
       is_height = c.in_ok-mark.ensures.height;
       layers = c.in_ok-mark.ensures.layers ∙ ap (map numbers_of) c.deref.ensures.value;
       sums = c.in_ok-mark.ensures.sums;
@@ -148,6 +150,7 @@ returns-clause-stands g c = λ told ps s parts settled keeps.
       finished = c.in_ok-stacks.ensures.finished told;
       whole = c.in_ok-stacks.ensures.whole;
       good = c.in_ok-mark.ensures.mark;
+      one = c.in_ok-mark.ensures.version;
       is_height = c.in_ok-mark.ensures.height;
       layers = c.in_ok-mark.ensures.layers ∙ ap (map numbers_of) c.deref.ensures.value;
       sums = c.in_ok-mark.ensures.sums;
@@ -170,7 +173,7 @@ returns-in_err-publish-clause-writes g c =
     let memories = map bytes c.args.memories.now in
     write_failed g.D.Disk c.publish.result _ _ _ _ _ _ _ c.from_residual-in_err-publish.ensures.1 c.in_err-publish.was (omega arith)
     (mark_written g.D.Disk _ c.publish.result c.args.store.now c.write_memories.new.store c.args.height _ (sum_by file_bytes memories) (length (mark_text c.in_ok-mark.mark)) _ _ _ _ refl c.in_ok-mark.ensures.height
-    (whole_spent c.in_ok-mark.mark (part_of c.args.sys.now) memories c.in_ok-stacks.stacks.items c.in_ok-mark.ensures.mark (c.in_ok-mark.ensures.layers ∙ ap (map numbers_of) c.deref.ensures.value) c.in_ok-mark.ensures.sums
+    (whole_spent c.in_ok-mark.mark (part_of c.args.sys.now) memories c.in_ok-stacks.stacks.items c.in_ok-mark.ensures.mark c.in_ok-mark.ensures.version (c.in_ok-mark.ensures.layers ∙ ap (map numbers_of) c.deref.ensures.value) c.in_ok-mark.ensures.sums
     (memories_good (part_of c.args.sys.now) memories c.encode.ensures.system c.requires.fit) c.in_ok-stacks.ensures.whole)
     c.in_ok-stacks.ensures.writes c.publish.ensures.writes)
 
@@ -179,6 +182,6 @@ returns-clause-writes g c =
     let memories = map bytes c.args.memories.now in
     write_done g.D.Disk c.publish.result _ _ _ _ _ _ c.in_ok-publish.was
     (mark_written g.D.Disk _ c.publish.result c.args.store.now c.write_memories.new.store c.args.height _ (sum_by file_bytes memories) (length (mark_text c.in_ok-mark.mark)) _ _ _ _ refl c.in_ok-mark.ensures.height
-    (whole_spent c.in_ok-mark.mark (part_of c.args.sys.now) memories c.in_ok-stacks.stacks.items c.in_ok-mark.ensures.mark (c.in_ok-mark.ensures.layers ∙ ap (map numbers_of) c.deref.ensures.value) c.in_ok-mark.ensures.sums
+    (whole_spent c.in_ok-mark.mark (part_of c.args.sys.now) memories c.in_ok-stacks.stacks.items c.in_ok-mark.ensures.mark c.in_ok-mark.ensures.version (c.in_ok-mark.ensures.layers ∙ ap (map numbers_of) c.deref.ensures.value) c.in_ok-mark.ensures.sums
     (memories_good (part_of c.args.sys.now) memories c.encode.ensures.system c.requires.fit) c.in_ok-stacks.ensures.whole)
     c.in_ok-stacks.ensures.writes c.publish.ensures.writes)
