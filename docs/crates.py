@@ -15,7 +15,7 @@ GROUPS = [
     ("pages", "#f3e6f3", "page_file page_pool layer_stack page_delta page_map merge_job"),
     ("published heights", "#fbe3e1", "chunk_index mark_file height_store whole_state"),
     ("sync", "#e3f3f3", "sync_plan slot_links sync_core sync_serve"),
-    ("programs", "#eeeeee", "script_text live_state state_manager state_cli icstate"),
+    ("programs", "#eeeeee", "script_text generator live_state state_manager state_cli icstate"),
 ]
 TITLE = ("The crates by group, from left to right by the longest chain of crates below each; "
          "a crate uses crates to its left only")

@@ -1,0 +1,4 @@
+pub mod Draws
+pub mod Places
+pub mod Script
+pub mod Summary
