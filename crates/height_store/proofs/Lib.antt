@@ -21,3 +21,5 @@ pub mod Swept
 pub mod Newest
 pub mod Once
 pub mod OnlyReading
+pub mod Others
+pub mod Needs

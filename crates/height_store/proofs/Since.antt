@@ -3,7 +3,6 @@ use Rattle.std.specs.Prelude.{◌≡◌, ℕ, ◌+◌, ◌≤◌, Bool, true, fa
 use Rattle.std.specs.List.{list_any, AllByRecursion}
 use Rattle.std.proofs.Common.{inl, inr, sym, ◌∙◌, ap, subst, arith}
 use Rattle.std.proofs.lemmas.Bool.{cases_Bool, false≢true}
-use Rattle.std.proofs.lemmas.Map.Views.{exact_unsigned_eq}
 use Rattle.store_spec.specs.Image.{Published, StandsFor}
 use Rattle.disk_model.specs.declared.disk.DiskError.{DiskError}
 use Rattle.disk_model.specs.declared.name.Kind.TheVariants as kind
@@ -21,6 +20,7 @@ use Rattle.page_file.specs.Files.{NumberedFile, IsAsKnown}
 use Rattle.store_spec.proofs.Images.{listing_once}
 use Rattle.height_store.specs.Bad.{marks_bytes}
 use Rattle.height_store.specs.Found.{IsFound, is_stray}
+use Rattle.height_store.specs.Needed.{kept_there}
 use Rattle.height_store.specs.Kept.{MatchesFiles, HasMark, KeepsHeights, StandsForSome, StandsAsBefore}
 use Rattle.height_store.specs.Entry.{needed_firm}
 use Rattle.height_store.specs.Standing.{heights_shown}
@@ -67,7 +67,7 @@ module _ (hs : List StoredHeight) (named : List ℕ) (names : (n : ℕ) → list
   needed_apart (name.Stage n) needed = absurd (false≢true needed)
 
 -- page files of these numbers are where they were
-kept_on : (files now : Files) (pages : List NumberedFile) → ((n : ℕ) → list_any (nat_eq n) (numbers_of pages) ≡ true → now (name.Page n) ≡ files (name.Page n)) → AllByRecursion (IsAsKnown files) pages → AllByRecursion (IsAsKnown now) pages
+pub kept_on : (files now : Files) (pages : List NumberedFile) → ((n : ℕ) → list_any (nat_eq n) (numbers_of pages) ≡ true → now (name.Page n) ≡ files (name.Page n)) → AllByRecursion (IsAsKnown files) pages → AllByRecursion (IsAsKnown now) pages
 kept_on files now [] same kept = tt
 kept_on files now (file ∷ pages) same kept =
     let has = kept.0.1 in (
@@ -75,14 +75,7 @@ kept_on files now (file ∷ pages) same kept =
       kept_on files now pages (λ n h. same n (or_right (nat_eq n file.number) (list_any (nat_eq n) (numbers_of pages)) h)) kept.1,
     )
 
-kept_there : (files : Files) (pages : List NumberedFile) (n : ℕ) → AllByRecursion (IsAsKnown files) pages → list_any (nat_eq n) (numbers_of pages) ≡ true → is_some (files (name.Page n)) ≡ true
-kept_there files [] n kept h = absurd (false≢true h)
-kept_there files (file ∷ pages) n kept h = elim (cases_Bool (nat_eq n file.number)) [
-  | inl same ↦ ap (λ (k : ℕ). is_some (files (name.Page k))) (exact_unsigned_eq n file.number same) ∙ ap is_some kept.0.1.there
-  | inr other ↦ kept_there files pages n kept.1 (rw other at h)
-]
-
-each_mark : (files now : Files) (hs : List StoredHeight) → ((n : ℕ) → now (name.Mark n) ≡ files (name.Mark n)) → AllByRecursion (HasMark files) hs → AllByRecursion (HasMark now) hs
+pub each_mark : (files now : Files) (hs : List StoredHeight) → ((n : ℕ) → now (name.Mark n) ≡ files (name.Mark n)) → AllByRecursion (HasMark files) hs → AllByRecursion (HasMark now) hs
 each_mark files now [] same marks = tt
 each_mark files now (h ∷ hs) same marks = (same h.mark.height ∙ marks.0, each_mark files now hs same marks.1)
 

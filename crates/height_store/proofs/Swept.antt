@@ -112,7 +112,7 @@ number_of_name kind.Mark n = refl
 number_of_name kind.Draft n = refl
 number_of_name kind.Stage n = refl
 
-not_swept : (k : Kind) (n : ℕ) (xs keep : List ℕ) → list_any (nat_eq n) xs ≡ false → is_swept k xs keep (name_of k n) ≡ false
+pub not_swept : (k : Kind) (n : ℕ) (xs keep : List ℕ) → list_any (nat_eq n) xs ≡ false → is_swept k xs keep (name_of k n) ≡ false
 not_swept k n xs keep none = ap (is_number_swept xs keep) (number_of_name k n) ∙ ap (λ (b : Bool). b && not (list_any (nat_eq n) keep)) none
 
 or_none : (a b : Bool) → (a || b) ≡ false → (a ≡ false) × (b ≡ false)

@@ -9,6 +9,7 @@ pub mod KnownLaws
 pub mod Laws
 pub mod Memories
 pub mod Naming
+pub mod Needed
 pub mod Opened
 pub mod Refused
 pub mod Shown

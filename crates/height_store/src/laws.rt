@@ -1,8 +1,8 @@
 //! What is so of every store and every disk, by the definitions alone.
 
-ghost use Rattle.std.specs.Prelude.{◌≡◌, ◌≤◌, ◌<◌, ◌⊎◌, ℕ, Bool, true, false, List, length, slice_get, Some, IsSomeAnd, Result};
+ghost use Rattle.std.specs.Prelude.{◌≡◌, ◌≤◌, ◌<◌, ◌⊎◌, ℕ, Bool, true, false, List, length, slice_get, Some, IsSomeAnd, is_some, nat_eq, not, Result};
 ghost use Rattle.format_spec.specs.declared.limits.TheConstants.{MAX_PUBLISHED};
-ghost use Rattle.std.specs.List.{AllByRecursion};
+ghost use Rattle.std.specs.List.{AllByRecursion, list_any};
 ghost use Rattle.format_spec.specs.Bytes.{Bytes};
 ghost use Rattle.state_spec.specs.Files.{memories_in};
 ghost use Rattle.sys_state.specs.System.{part_of};
@@ -10,17 +10,19 @@ ghost use Rattle.store_spec.specs.Mark.{Mark};
 ghost use Rattle.page_file.specs.Files.{NumberedFile};
 ghost use Rattle.store_spec.specs.Image.{Published, StandsFor, Opens};
 ghost use Rattle.disk_model.specs.declared.name.Name.{Name};
+ghost use Rattle.disk_model.specs.declared.name.Name.TheVariants as name;
 ghost use Rattle.disk_model.specs.Files.{Files};
 ghost use Rattle.disk_model.specs.State.{DiskState, IsSettled};
 ghost use Rattle.disk_model.specs.Call.{Call};
 ghost use Rattle.disk_model.specs.View.{DiskView, EachImage, LeavesOnly, Done, Failed};
-ghost use Rattle.disk_model.specs.Frame.{Spares, TouchesOnly};
+ghost use Rattle.disk_model.specs.Frame.{Spares, TouchesOnly, SameAt};
 ghost use Rattle.disk_model.specs.Laws.{IsSound};
 ghost use Rattle.height_store.specs.declared.error.StoreError.{StoreError};
 ghost use Rattle.height_store.specs.Answers.{OpensAs, Purges, ReadsAs, RangeIs};
 ghost use Rattle.height_store.specs.Bad.{IsFirstBadMark, IsFirstBadPage};
 ghost use Rattle.height_store.specs.Errors.{IsAnswered};
 ghost use Rattle.height_store.specs.Kept.{HasStacks, IsReadable, ShowsHeights, KeepsHeights};
+ghost use Rattle.height_store.specs.Needed.{is_page_needed, is_dispensable, files_swept};
 ghost use Rattle.height_store.specs.Store.{Store, StoredHeight, IsHeight, Gains, IsNextFree, height_at, is_needed};
 
 /// Where a disk keeps heights, a crash leaves files that stand for them.
@@ -58,6 +60,22 @@ pub fn stores_open()
 pub fn bad_disks_do_not_open()
     ensures mark { (files : Files) (height : ℕ) → IsFirstBadMark files height → Opens files → ⊥ }
     ensures page { (files : Files) (number : ℕ) → IsFirstBadPage files number → Opens files → ⊥ }
+{}
+
+/// A sweep leaves each file that the heights need and those that are given, as they read, and firm or loose as they were. Where the page
+/// files that are given are there, just the needed ones are there after it, and just the stage files that are given where these were there.
+pub fn sweeps_leave_what_is_needed()
+    ensures needed { (hs : List StoredHeight) (pins stages : List ℕ) (q : Name) → is_needed hs q ≡ true → is_dispensable hs pins stages q ≡ false }
+    ensures pinned { (hs : List StoredHeight) (pins stages : List ℕ) (n : ℕ) → list_any (nat_eq n) pins ≡ true → is_dispensable hs pins stages (name.Page n) ≡ false }
+    ensures staged { (hs : List StoredHeight) (pins stages : List ℕ) (n : ℕ) → list_any (nat_eq n) stages ≡ true → is_dispensable hs pins stages (name.Stage n) ≡ false }
+    ensures same { (hs : List StoredHeight) (pins stages : List ℕ) (old new : DiskView) → TouchesOnly (is_dispensable hs pins stages) old new
+        → SameAt (λ q. not (is_dispensable hs pins stages q)) old.state new.state }
+    ensures pages { (hs : List StoredHeight) (pins stages : List ℕ) (files : Files) → AllByRecursion IsHeight hs → IsReadable hs files
+        → ((n : ℕ) → list_any (nat_eq n) pins ≡ true → is_some (files (name.Page n)) ≡ true)
+        → (n : ℕ) → is_some (files_swept hs pins stages files (name.Page n)) ≡ is_page_needed hs pins n }
+    ensures stages { (hs : List StoredHeight) (pins stages : List ℕ) (files : Files)
+        → ((n : ℕ) → list_any (nat_eq n) stages ≡ true → is_some (files (name.Stage n)) ≡ true)
+        → (n : ℕ) → is_some (files_swept hs pins stages files (name.Stage n)) ≡ list_any (nat_eq n) stages }
 {}
 
 /// What the calls of a store say of their answers fixes these, but for faults and want of memory: the store that is opened over

@@ -1,4 +1,4 @@
-//! The published heights of a disk: opened, published by one rename, purged, and read: pages, ranges of bytes, memories.
+//! The published heights of a disk: opened, published by one rename, purged, swept, and read: pages, ranges of bytes, memories.
 #![tactic(auto)]
 
 mod chunks;
@@ -7,6 +7,7 @@ mod finding;
 mod laws;
 mod limits;
 mod marks;
+mod needing;
 mod opening;
 mod pages;
 mod paging;
@@ -20,7 +21,7 @@ pub use chunks::chunks_are_found_in_states;
 pub use error::StoreError;
 pub use laws::{
     bad_disks_do_not_open, heights_kept_through_calls, kept_heights_stand,
-    store_calls_have_one_answer, stores_open,
+    store_calls_have_one_answer, stores_open, sweeps_leave_what_is_needed,
 };
 pub use limits::MAX_GIVEN;
 pub use store::{HeightStore, PublishedHeight};

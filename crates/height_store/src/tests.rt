@@ -169,7 +169,7 @@ fn a_disk_that_fails_is_a_fault(rt: HostRuntime) -> Result<(), Fail> {
     Ok(())
 }
 
-// A disk with both marks and that page file.
+// A disk with both marks, that page file, and files that no mark names.
 fn disk_of_two(alloc: Global) -> Result<MemDisk, Fail> {
     let mut disk = MemDisk::new(alloc, Vec::new(alloc), None);
     let mut mark = [0; 200];
@@ -188,6 +188,11 @@ fn disk_of_two(alloc: Global) -> Result<MemDisk, Fail> {
     disk.create(alloc, Name::Page(0))?;
     disk.append(alloc, Name::Page(0), &text)?;
     disk.seal(alloc, Name::Page(0))?;
+    disk.create(alloc, Name::Page(1))?;
+    disk.create(alloc, Name::Page(2))?;
+    disk.create(alloc, Name::Draft(3))?;
+    disk.create(alloc, Name::Stage(5))?;
+    disk.create(alloc, Name::Stage(6))?;
     Ok(disk)
 }
 
@@ -208,5 +213,37 @@ fn the_first_height_with_a_chunk_is_found(rt: HostRuntime) -> Result<(), Fail> {
     assert!(rt; store.find_chunk(36, &page).is_none());
     store.purge(alloc, 1, &mut disk)?;
     assert!(rt; store.find_chunk(4_096, &page) == Some((2, 0, 0)));
+    Ok(())
+}
+
+// Which files of that disk are there, but for the marks.
+fn files_of(alloc: Global, disk: &mut MemDisk) -> Result<[bool; 6], Fail> {
+    let names = [
+        Name::Page(0),
+        Name::Page(1),
+        Name::Page(2),
+        Name::Draft(3),
+        Name::Stage(5),
+        Name::Stage(6),
+    ];
+    let mut there = [false; 6];
+    for i in 0..6 {
+        there[i] = disk.size(alloc, names[i])?.is_some();
+    }
+    Ok(there)
+}
+
+#[test]
+fn a_sweep_leaves_what_is_needed(rt: HostRuntime) -> Result<(), Fail> {
+    let alloc = rt.alloc();
+    let mut disk = disk_of_two(alloc)?;
+    let mut store = HeightStore::open_read(alloc, &mut disk)?;
+    let needed = store.needed(alloc, &[1, 1])?;
+    assert!(rt; needed.as_slice() == [0, 1].as_slice());
+    store.sweep(alloc, &[1], &[6, 6], &mut disk)?;
+    assert!(rt; files_of(alloc, &mut disk)? == [true, true, false, false, false, true]);
+    let again = HeightStore::open(alloc, &mut disk)?;
+    assert_eq!(rt; again.count(), 2);
+    assert!(rt; files_of(alloc, &mut disk)? == [true, false, false, false, false, false]);
     Ok(())
 }
