@@ -12,7 +12,7 @@ GROUPS = [
      "format_spec page_spec state_spec tree_spec sync_spec store_spec machine_spec soundness sync_soundness"),
     ("the outside", "#f6ecd9", "io_edge disk_model disk_folder peer_model"),
     ("a state", "#e4f2e6", "byte_codec hash_lanes hash_domain sys_state manifest hash_tree witness"),
-    ("pages", "#f3e6f3", "page_file page_pool layer_stack page_delta page_map merge_job"),
+    ("pages", "#f3e6f3", "page_file page_pool layer_stack page_delta page_map manifest_incr merge_job"),
     ("published heights", "#fbe3e1", "chunk_index mark_file height_store whole_state"),
     ("sync", "#e3f3f3", "sync_plan slot_links sync_core sync_serve"),
     ("programs", "#eeeeee", "script_text generator live_state state_manager state_cli icstate"),

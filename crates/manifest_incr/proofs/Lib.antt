@@ -1,0 +1,4 @@
+pub mod Lists
+pub mod Choosing
+pub mod Kept
+pub mod Taken
