@@ -2,7 +2,7 @@
 damaged, and a folder that icstate left compared with the heights that it must have."""
 import os
 
-from machine import MAX_PUBLISHED, PAGE, be, chunk_hashes, dsep, files_of, parts, root_of, sha, sized, system_text
+from machine import MAX_PUBLISHED, MEMORIES, PAGE, be, chunk_hashes, dsep, files_of, parts, root_of, sha, sized, system_text
 
 KINDS = ["page", "mark", "draft", "stage"]
 
@@ -88,17 +88,24 @@ def random_layers(rng, content):
     return layers
 
 
+def by_memory(state, rows):
+    """What stands in the order of the memories, by id and memory."""
+    return dict(zip([(name, memory) for name in sorted(state.canisters) for memory in MEMORIES], rows))
+
+
 class Folder:
-    """A folder with some published heights in it."""
+    """A folder with some published heights in it, which get the layers that are written."""
 
     def __init__(self, path, published, rng):
         self.path, self.rng, self.files, self.marks, self.healthy = path, rng, {}, {}, {}
         for kind in KINDS:
             os.makedirs(os.path.join(path, kind))
-        for height, (state, _) in published.items():
+        for height, (state, root, _) in published.items():
             *memories, _ = files_of(state)
-            self.marks[height] = state, [self.numbers_of(content) for _, content in memories]
+            numbers = [self.numbers_of(content) for _, content in memories]
+            self.marks[height] = state, numbers
             put(path_of(path, "mark", height), mark(height, *self.marks[height]))
+            published[height] = state, root, by_memory(state, [[set(self.files[number][1]) for number in row] for row in numbers])
         for kind in ["page", "draft", "stage"]:
             put(path_of(path, kind, 2**40 + rng.randrange(9)), b"stray")
             put(os.path.join(path, kind, "notes"), b"not a file of the store")
@@ -162,13 +169,16 @@ def fault_of(folder, published):
     if numbers_in(folder, "mark") != sorted(published):
         return f"marks {numbers_in(folder, 'mark')}"
     named = set()
-    for height, (state, _) in published.items():
+    for height, (state, _, wanted) in published.items():
         *memories, _ = files_of(state)
         text = got(path_of(folder, "mark", height))
         layers = layers_in(text, state)
         if text != mark(height, state, layers):
             return f"the bytes of mark {height}"
         named.update(number for numbers in layers for number in numbers)
+        found = [[set(read_page_file(got(path_of(folder, "page", number)))[1]) for number in numbers] for numbers in layers]
+        if by_memory(state, found) != wanted:
+            return f"the layers at height {height}"
         for (name, content), numbers in zip(memories, layers):
             pages = {}
             for number in numbers:

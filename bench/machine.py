@@ -12,7 +12,7 @@ PAGE, CHUNK, PIECE = 4096, 1 << 20, 4096
 MAX_CANISTERS, MAX_ID, MAX_MODULE, MAX_CERTIFIED = 1024, 29, 16384, 32
 MAX_MEMORY_PAGES, MAX_STATE_PAGES = 65536, 262144
 MAX_ENTRIES, MAX_VALUE, MAX_LABELS, MAX_LABEL = 16384, 1024, 8, 64
-MAX_HEIGHT, MAX_HEIGHTS, MAX_PUBLISHED = 2**62, 16, 16
+MAX_HEIGHT, MAX_HEIGHTS, MAX_PUBLISHED, MAX_LAYERS = 2**62, 16, 16, 32
 MAX_LINE, MAX_LINES, MAX_PATHS, MAX_READ, MAX_DEPTH = 262144, 1000000, 64, 65536, 256
 DONE, USAGE, BAD_ROOT, LONG_LINE, MANY_LINES = 0, 1, 6, 7, 8
 USAGE_LINE = "usage: icstate [--cache PAGES] [--peers K] [--generate N] [--seed S]"
@@ -47,9 +47,15 @@ def parts(string, size):
 
 # States, their texts and roots.
 
+MEMORIES = ["heap", "stable"]
+
+
 class Canister:
-    def __init__(self, module=None, certified=b"", heap=b"", stable=b""):
-        self.module, self.certified, self.heap, self.stable = module, certified, heap, stable
+    """Beside what a root is of, its birth, and of each memory the rounds of its pages."""
+
+    def __init__(self, module=None, certified=b"", heap=b"", stable=b"", birth=0, rounds=()):
+        self.module, self.certified, self.heap, self.stable, self.birth = module, certified, heap, stable, birth
+        self.rounds = {memory: dict(dict(rounds).get(memory, {})) for memory in MEMORIES}
 
 
 class State:
@@ -61,6 +67,13 @@ class State:
 
     def copy(self):
         return State(**vars(self))
+
+    def opened(self, height):
+        """As a store has it that opens at this height."""
+        state = self.copy()
+        for canister in state.canisters.values():
+            canister.birth, canister.rounds = height, {memory: {} for memory in MEMORIES}
+        return state
 
     def pages(self):
         return sum(len(canister.heap) + len(canister.stable) for canister in self.canisters.values()) // PAGE
@@ -349,13 +362,13 @@ FORMS = {
     "canister": [identifier], "drop": [identifier], "grow": [identifier, memory, number],
     "write": [identifier, memory, number, string], "module": [identifier, module], "certify": [identifier, certified],
     "time": [number], "put": [path, value], "del": [path], "read": [live_or_height, identifier, memory, number, length],
-    "round": [], "forget": [height], "checkpoint": [], "purge": [height], "reset": [height], "heights": [],
+    "round": [], "forget": [height], "checkpoint": [], "layers": [identifier, memory], "sweep": [], "purge": [height], "reset": [height], "heights": [],
     "root": [live_or_height], "scratch": [live_or_height], "tree": [live_or_height], "manifest": [live_or_height],
     "witness": [live_or_height, paths], "check": [root, string, path],
 }
 REFUSALS = ["BadLine", "Exists", "ManyCanisters", "NoCanister", "MemoryFull", "StateFull", "Reserved", "PathConflict",
-            "TreeFull", "NoPath", "NoHeight", "PastEnd", "ManyHeights", "HeightLimit", "HeightLow", "ManyMarks", "LastHeight",
-            "BadWitness", "WrongRoot"]
+            "TreeFull", "NoPath", "NoHeight", "PastEnd", "ManyHeights", "HeightLimit", "HeightLow", "ManyMarks", "NeedsMerge",
+            "NoLayer", "LastHeight", "BadWitness", "WrongRoot"]
 
 
 def command(line):
@@ -382,7 +395,8 @@ def listed(heights):
 # The machine.
 
 class Machine:
-    """Live and its height, the states in memory, and the published ones, each with its root."""
+    """Live and its height, the states in memory, and the published ones, each with its root and its layers, sets of pages by id
+    and memory; and the base with its layers."""
 
     def __init__(self, published=(), height=1):
         self.published = dict(published)
@@ -391,9 +405,10 @@ class Machine:
     def begin(self, height=1):
         """At the newest published height; or at a height of one's own, where none is published."""
         newest = max(self.published, default=None)
-        self.live = State() if newest is None else self.published[newest][0].copy()
+        self.live = State() if newest is None else self.published[newest][0].opened(newest)
         self.height = height if newest is None else newest + 1
         self.memory = {}
+        self.base, self.tip = (0, {}) if newest is None else (newest, self.published[newest][2])
 
     def answer(self, line):
         """The reply to a line, without its line feed; None where it has none."""
@@ -426,7 +441,7 @@ class Machine:
     def do_canister(self, name):
         self.refuse("Exists", name in self.live.canisters)
         self.refuse("ManyCanisters", len(self.live.canisters) == MAX_CANISTERS)
-        self.live.canisters[name] = Canister()
+        self.live.canisters[name] = Canister(birth=self.height)
 
     def do_drop(self, name):
         self.canister(name)
@@ -451,6 +466,7 @@ class Machine:
             self.extend(canister, memory, end)
             old = getattr(canister, memory)
             setattr(canister, memory, old[:offset] + string + old[end:])
+            canister.rounds[memory].update(dict.fromkeys(range(offset // PAGE, (end - 1) // PAGE + 1), self.height))
 
     def do_module(self, name, module):
         self.canister(name).module = module
@@ -496,8 +512,28 @@ class Machine:
         self.refuse("NoHeight", newest is None)
         self.refuse("HeightLow", newest <= max(self.published, default=0))
         self.refuse("ManyMarks", len(self.published) == MAX_PUBLISHED)
-        self.published[newest] = self.memory[newest], root_of(self.memory[newest])
+        layers = {key: layers for key, layers in self.new_layers(self.memory[newest])}
+        self.published[newest] = self.memory[newest], root_of(self.memory[newest]), layers
+        self.base, self.tip = newest, layers
         return f"published {newest} root {self.published[newest][1].hex()}"
+
+    def new_layers(self, state):
+        """The layers that each memory of a state is published with."""
+        for name, canister in sorted(state.canisters.items()):
+            for memory in MEMORIES:
+                below = self.tip.get((name, memory), []) if canister.birth <= self.base else []
+                written = {page for page, height in canister.rounds[memory].items() if height > self.base}
+                if written and len(below) == MAX_LAYERS:
+                    raise Refused("NeedsMerge", name.hex(), memory)
+                yield (name, memory), [*below, *[written] * bool(written)]
+
+    def do_layers(self, name, memory):
+        layers = self.tip.get((name, memory), [])
+        self.refuse("NoLayer", not layers)
+        return " ".join(map(str, ["layers", len(layers), *map(len, layers)]))
+
+    def do_sweep(self):
+        return "swept"
 
     def do_purge(self, height):
         self.refuse("NoHeight", height not in self.published)

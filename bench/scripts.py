@@ -10,9 +10,9 @@ from machine import (CHUNK, EMPTY, FORK, LABELED, LEAF, MAX_CANISTERS, MAX_ENTRI
 # How often a line comes, beside the others.
 USUAL = {"canister": 6, "drop": 1, "grow": 5, "write": 10, "module": 4, "certify": 3, "time": 3, "put": 9, "del": 3, "read": 10,
          "round": 6, "forget": 3, "checkpoint": 5, "purge": 3, "reset": 1, "heights": 3, "root": 4, "scratch": 2, "tree": 3,
-         "manifest": 3, "witness": 6, "check": 8, "silent": 2, "spoiled": 9}
+         "manifest": 3, "witness": 6, "check": 8, "layers": 3, "sweep": 1, "silent": 2, "spoiled": 9}
 LIVE = {**USUAL, "round": 1, "checkpoint": 1, "reset": 0}
-HEIGHTS = {**USUAL, "round": 25, "checkpoint": 20, "forget": 6, "purge": 6, "reset": 2, "heights": 6}
+HEIGHTS = {**USUAL, "round": 25, "checkpoint": 20, "forget": 6, "purge": 6, "reset": 2, "heights": 6, "layers": 6, "sweep": 4}
 TREES = {**USUAL, "put": 30, "del": 8, "witness": 25, "check": 30, "tree": 5}
 PAGES = {**USUAL, "grow": 12, "write": 40, "read": 30, "manifest": 6}
 WORDS = {**USUAL, "spoiled": 120}
@@ -175,6 +175,12 @@ class Script:
 
     def line_checkpoint(self):
         return "checkpoint"
+
+    def line_layers(self):
+        return f"layers {self.identifier()} {self.memory()}"
+
+    def line_sweep(self):
+        return "sweep"
 
     def line_purge(self):
         return f"purge {self.height()}"
@@ -367,6 +373,19 @@ class Case:
         self.make_folder()
         self.damaged = True
 
+    def make_layers(self):
+        """About as many layers as there may be."""
+        script = self.script()
+        for line in ["canister 00", "canister 01", "grow 00 heap 3"]:
+            script.add(line)
+        for _ in range(self.rng.choice([31, 32, 33, 34])):
+            script.add(f"write 00 heap {self.rng.randrange(4 * PAGE)} {self.rng.randbytes(2).hex()}")
+            script.some({**LIVE, "drop": 0, "round": 0, "checkpoint": 0, "check": 0, "witness": 0, "spoiled": 0}, 2)
+            height = script.machine.height
+            for line in ["round", "checkpoint", f"forget {height}", f"purge {height - 1}", "layers 00 heap"]:
+                script.add(line)
+        self.runs(HEIGHTS)
+
     def make_canisters(self):
         """About as many canisters as there may be."""
         lines = [f"canister {number:04x}" for number in range(MAX_CANISTERS - self.rng.randrange(4))]
@@ -422,5 +441,6 @@ class Case:
 
 # The kinds of cases, in turn.
 KINDS = ["heights", "live", "trees", "folder", "pages", "trees", "damaged", "words", "heights", "folder"] * 10
+KINDS[5::10] = ["trees", "layers"] * 5
 KINDS[3::10] = ["folder", "canisters", "folder", "entries", "full", "folder", "long_lines", "many_lines", "long_lines",
                 "command_line"]

@@ -58,6 +58,14 @@ impl PublishedHeight {
     {
         &self.sys
     }
+
+    /// The page files of its memories, heap and stable of each canister in order of ids, oldest first.
+    pub fn stacks(&self) -> &[Stack]
+        ensures stacks { result.now ≡ self.now.stacks }
+        ensures good { IsHeight self.now }
+    {
+        &self.stacks
+    }
 }
 
 /// The published heights of a disk, and which numbers page files may still get. After Fault or Memory in a call that

@@ -3,7 +3,7 @@ use Rattle.std.proofs.Common.{◌≡◌, ℕ, List, [], ◌∷◌, ◌++◌, Opt
 use Rattle.std.proofs.lemmas.Option.{IfSome_then}
 use Rattle.std.specs.Prelude.{codes}
 use Rattle.std.specs.Option.{IfSome}
-use Rattle.byte_codec.specs.declared.error.NoMemory.{NoMemory}
+use Rattle.page_map.specs.Maps.{Maps, Map}
 use Rattle.format_spec.specs.Bytes.{Bytes}
 use Rattle.script_text.specs.declared.reply.Reply.{Reply}
 use Rattle.sys_state.specs.Calls as calls
@@ -16,6 +16,7 @@ use Rattle.tree_spec.specs.Labelled.{Children, canister_children, root_children,
 use Rattle.hash_tree.specs.declared.tree.HashTree.{HashTree}
 use Rattle.hash_tree.specs.View.{tree_view}
 use Rattle.live_state.specs.Changes.{Alters}
+use Rattle.live_state.specs.MapChanges.{Extends, Stays}
 use Rattle.live_state.proofs.Stepped.{alters_keeps}
 
 -- a canister that has more pages
@@ -35,7 +36,7 @@ module _ (back : List (Bytes × CanisterRecord)) (id : Bytes) (mem : Mem) (more 
   same_node [] children = ap (λ (below : Children). put_node (codes "canister") (λ before. below) children) (same_children [])
   same_node (f ∷ front) children = ap (λ (below : Children). put_node (codes "canister") (λ before. below) children) (same_children (f ∷ front))
 
-same_tree : (old new : System) (id : Bytes) (mem : Mem) (more : ℕ) → calls.Changes old new id (calls.with_more_pages mem more) → state_tree (part_of new) ≡ state_tree (part_of old)
+pub same_tree : (old new : System) (id : Bytes) (mem : Mem) (more : ℕ) → calls.Changes old new id (calls.with_more_pages mem more) → state_tree (part_of new) ≡ state_tree (part_of old)
 unfolding state_tree root_children
 same_tree old new id mem more h =
     let time : new.time ≡ old.time = ap (λ (s : System). s.time) h.now in
@@ -43,9 +44,10 @@ same_tree old new id mem more h =
     rw (time, entries, h.split.new_is, h.split.old_is, same_node h.split.after id mem more h.c h.split.before) refl
 
 -- the tree that is kept stays the state's
-pub kept_grown : (why : Option SysError) (result : Result Reply NoMemory) (old new : System) (id : Bytes) (mem : Mem) (more : ℕ) (other rest : Type 0) (tree : Option HashTree)
-    → Alters why result (calls.Changes old new id (calls.with_more_pages mem more) × other) ((new ≡ old) × rest)
+pub kept_grown : {E : Type 0} (why : Option SysError) (result : Result Reply E) (old new : System) (id : Bytes) (mem : Mem) (more : ℕ) (m n : Map) (before after : Maps) (done failed : Type 0) (tree : Option HashTree)
+    → Alters why result (Extends old new id mem more m n × done) (Stays old new m n before after) failed → (failed → state_tree (part_of new) ≡ state_tree (part_of old))
     → IfSome tree (λ t. tree_view t ≡ state_tree (part_of old)) → IfSome tree (λ t. tree_view t ≡ state_tree (part_of new))
-kept_grown why result old new id mem more other rest tree alters kept =
-    let same = alters_keeps why result _ _ (state_tree (part_of new) ≡ state_tree (part_of old)) alters (λ d. same_tree old new id mem more d.0) (λ s. ap (λ (x : System). state_tree (part_of x)) s.0) in
+kept_grown why result old new id mem more m n before after done failed tree alters ends kept =
+    let same = alters_keeps why result (Extends old new id mem more m n × done) (Stays old new m n before after) failed (state_tree (part_of new) ≡ state_tree (part_of old)) alters
+        (λ d. same_tree old new id mem more d.0.changes) (λ s. ap (λ (x : System). state_tree (part_of x)) s.system) ends in
     IfSome_then tree kept (λ t is. is ∙ sym same)

@@ -20,8 +20,9 @@ use Rattle.tree_spec.specs.Witness.{witness}
 use Rattle.tree_spec.specs.Labelled.{state_tree}
 use Rattle.tree_spec.specs.Tree.{Tree, reconstruct}
 use Rattle.sys_state.specs.System.{System, part_of, kept_of}
-use Rattle.live_state.specs.StateKept.{StateView, KeepsState}
-use Rattle.sys_state.specs.Memories.{HaveSizes}
+use Rattle.disk_model.specs.State.{DiskState}
+use Rattle.page_map.specs.Plain.{PlainMap}
+use Rattle.live_state.specs.StateKept.{HeldHeight, KeepsAt}
 use Rattle.sys_state.proofs.OfState.{parts_of_state}
 
 pub root_is : (s : State) (man : Manifest) (meta : MetaManifest) (r : Bytes) → man ≡ manifest_of s → meta ≡ meta_of man → r ≡ root_of_meta meta → r ≡ root_of s
@@ -43,12 +44,8 @@ pub witness_text_is : (s : State) (paths : List (List Bytes)) (w : Tree) (text :
 unfolding witness_text
 witness_text_is s paths w text a b = a ∙ ap cbor b
 
-pub parts_kept : (held : StateView) (system : System) (k : ℕ × State) → KeepsState held k → system ≡ held.system → system_of k.1 ≡ part_of system
-parts_kept held system k keeps is = sym (ap part_of (is ∙ keeps.system) ∙ parts_of_state k.1)
-
-pub fit_kept : (held inside : StateView) (k : ℕ × State) → inside ≡ held → KeepsState held k → HaveSizes inside.system.canisters inside.memories → FitMemories (part_of inside.system) (memory_bytes k.1)
-fit_kept held inside k view keeps sizes =
-    subst (FitMemories (part_of inside.system)) (ap (λ (h : StateView). h.memories) view ∙ keeps.memories) sizes
+pub parts_kept : (d : DiskState) (b : ℕ) (held : HeldHeight PlainMap) (system : System) (k : ℕ × State) → KeepsAt d b held k → system ≡ held.state.system → system_of k.1 ≡ part_of system
+parts_kept d b held system k keeps is = sym (ap part_of (is ∙ keeps.state.system) ∙ parts_of_state k.1)
 
 -- counts by sizes are those of the state's manifest
 pub counted : (s : State) (sys : System) (c : Counts) → s.version ≡ 1 → system_of s ≡ part_of sys → FitMemories (part_of sys) (memory_bytes s) → c ≡ counts_by (part_of sys)

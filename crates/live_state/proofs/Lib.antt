@@ -1,8 +1,13 @@
+pub mod Apart
+pub mod Comings
 pub mod Grown
 pub mod Hashed
 pub mod Keeping
-pub mod Lines
+pub mod LineSteps
 pub mod MemoryLines
+pub mod Moved
 pub mod Pairs
-pub mod Sized
 pub mod Stepped
+pub mod Unsized
+pub mod SysLines
+pub mod Zipped

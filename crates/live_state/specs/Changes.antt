@@ -24,11 +24,15 @@ refusal_of errors.NoPath = Some refusals.NoPath
 refusal_of (errors.BadSystem place) = None
 refusal_of errors.Memory = None
 
+-- the reply is this refusal
+abbrev pub IsRefusal : Option Refusal → Reply → Type 0
+IsRefusal (Some refusal) reply = reply ≡ Refused refusal
+IsRefusal None reply = ⊥
+
 -- a reply that refuses, and none where memory ran out
 abbrev pub Refuses : Option Refusal → Result Reply NoMemory → Type 0
-Refuses (Some refusal) (Ok reply) = reply ≡ Refused refusal
+Refuses why (Ok reply) = IsRefusal why reply
 Refuses (Some refusal) (Err e) = ⊥
-Refuses None (Ok reply) = ⊥
 Refuses None (Err e) = Unit {0}
 
 -- what a change of the system that was done or refused is answered
@@ -43,8 +47,8 @@ RefusedBy (witnesses.BadWitness place) result = result ≡ Ok (Refused (refusals
 RefusedBy (witnesses.WrongRoot hash) result = result ≡ Ok (Refused (refusals.WrongRoot hash))
 RefusedBy witnesses.Memory result = IsErr result
 
--- a change that is refused for a reason, or done; where it is not done everything is the same
-abbrev pub Alters : Option SysError → Result Reply NoMemory → Type 0 → Type 0 → Type 0
-Alters why (Err e) done same = same
-Alters None (Ok reply) done same = (reply ≡ Fine) × done
-Alters (Some error) (Ok reply) done same = Refuses (refusal_of error) (Ok reply) × same
+-- a change that is refused for a reason, with everything the same; or done; or ended by an error
+abbrev pub Alters : {E : Type 0} → Option SysError → Result Reply E → Type 0 → Type 0 → Type 0 → Type 0
+Alters why (Err e) done same failed = failed
+Alters None (Ok reply) done same failed = (reply ≡ Fine) × done
+Alters (Some error) (Ok reply) done same failed = IsRefusal (refusal_of error) reply × same

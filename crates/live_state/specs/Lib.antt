@@ -1,3 +1,6 @@
 pub mod Changes
+pub mod MapChanges
 pub mod Memories
+pub mod Rest
+pub mod Rebased
 pub mod StateKept

@@ -1,61 +1,78 @@
 //! Canisters that come and go, with their memories.
 
-ghost use Rattle.std.specs.Prelude.{◌≡◌, ◌*◌, ◌∷◌, ◌++◌, [], map, take, drop, length, vec_len};
+ghost use Rattle.std.specs.Prelude.{◌≡◌, ◌*◌, ◌++◌, [], take, drop, length};
 ghost use Rattle.format_spec.specs.Bytes.{bytes_cmp};
 ghost use Rattle.sys_state.specs.Calls.{Creates, Removes, create_refusal, find_refusal, newborn};
 ghost use Rattle.state_spec.specs.Places.{place_of};
+ghost use Rattle.page_map.specs.Held.{AreMaps, handles};
 ghost use Rattle.live_state.specs.Changes.{Alters};
+ghost use Rattle.live_state.specs.MapChanges.{PutsPair};
+ghost use Rattle.live_state.specs.Rest.{KeepsLive, KeepsRest, maps_in};
 
-use crate::memories::{insert_pair, remove_pair};
-use crate::refusals::reply_to;
+use crate::memories::{give_up_pair, insert_pair, new_pair, remove_pair};
+use crate::refusals::{refused, reply_to};
 use byte_codec::NoMemory;
+use page_map::{Held, Pages};
 use script_text::{Refusal, Reply};
 use std::alloc::Global;
-use sys_state::{CanisterId, SysState};
+use sys_state::CanisterId;
 
-/// Adds an empty canister, born at this height.
+/// Adds an empty canister, born at this height. After a refusal or an error the state and all maps are as they were.
 pub fn create_canister(
     alloc: Global,
-    sys: &mut SysState,
-    memories: &mut Vec<Vec<u8>>,
+    held: &mut Held,
+    pages: &mut Pages,
     id: &CanisterId,
     birth: u64,
 ) -> Result<Reply, NoMemory>
-    requires { vec_len memories.old ≡ 2 * length sys.old.canisters }
-    ensures { let at = 2 * place_of bytes_cmp id.now sys.old.canisters in let old = map (λ v. v.items) memories.old.items in
-        Alters (create_refusal sys.old id.now) result
-        (Creates sys.old sys.new id.now (newborn birth) × (map (λ v. v.items) memories.new.items ≡ take at old ++ ([] ∷ [] ∷ drop at old)))
-        ((sys.new ≡ sys.old) × (map (λ v. v.items) memories.new.items ≡ old)) }
+    requires count { length held.old.mems ≡ 2 * length held.old.system.canisters }
+    ensures answer { Alters (create_refusal held.old.system id.now) result
+        (Creates held.old.system held.new.system id.now (newborn birth)
+            × PutsPair pages.old pages.new held.old.mems held.new.mems (2 * place_of bytes_cmp id.now held.old.system.canisters) id.now)
+        ((held.new ≡ held.old) × KeepsLive pages.old pages.new)
+        ((held.new ≡ held.old) × KeepsLive pages.old pages.new) }
+    ensures version { held.new.version ≡ held.old.version }
 {
-    memories.reserve(2)?;
-    let Err(place) = sys.place(id) else {
+    let Err(place) = held.sys.place(id) else {
         return Ok(Reply::Refused(Refusal::Exists));
     };
-    let change = sys.create(alloc, id.copy(), birth);
-    if change.is_ok() {
-        insert_pair(alloc, memories, place as usize);
+    held.mems.reserve(2)?;
+    let pair = new_pair(alloc, pages)?;
+    match held.sys.create(alloc, id.copy(), birth) {
+        Ok(()) => {
+            insert_pair(&mut held.mems, place as usize, id, pair);
+            Ok(Reply::Fine)
+        }
+        Err(error) => {
+            give_up_pair(pages, pair);
+            refused(error)
+        }
     }
-    reply_to(change)
 }
 
-/// Removes a canister.
+/// Removes a canister, and gives its two maps up. After a refusal the state and all maps are as they were.
 pub fn remove_canister(
-    sys: &mut SysState,
-    memories: &mut Vec<Vec<u8>>,
+    held: &mut Held,
+    pages: &mut Pages,
     id: &CanisterId,
 ) -> Result<Reply, NoMemory>
-    requires { vec_len memories.old ≡ 2 * length sys.old.canisters }
-    ensures { let at = 2 * place_of bytes_cmp id.now sys.old.canisters in let old = map (λ v. v.items) memories.old.items in
-        Alters (find_refusal sys.old id.now) result
-        (Removes sys.old sys.new id.now × (map (λ v. v.items) memories.new.items ≡ take at old ++ drop 2 (drop at old)))
-        ((sys.new ≡ sys.old) × (map (λ v. v.items) memories.new.items ≡ old)) }
+    requires count { length held.old.mems ≡ 2 * length held.old.system.canisters }
+    requires maps { AreMaps pages.old (handles held.old) }
+    ensures answer { let at = 2 * place_of bytes_cmp id.now held.old.system.canisters in
+        Alters (find_refusal held.old.system id.now) result
+        (Removes held.old.system held.new.system id.now
+            × (held.new.mems ≡ take at held.old.mems ++ drop 2 (drop at held.old.mems))
+            × KeepsRest pages.old pages.new (maps_in (take 2 (drop at held.old.mems))) [])
+        ((held.new ≡ held.old) × KeepsLive pages.old pages.new)
+        ((held.new ≡ held.old) × KeepsLive pages.old pages.new) }
+    ensures version { held.new.version ≡ held.old.version }
 {
-    let Ok(place) = sys.place(id) else {
+    let Ok(place) = held.sys.place(id) else {
         return Ok(Reply::Refused(Refusal::NoCanister));
     };
-    let change = sys.remove(id);
+    let change = held.sys.remove(id);
     if change.is_ok() {
-        remove_pair(memories, place as usize);
+        remove_pair(pages, &mut held.mems, place as usize);
     }
     reply_to(change)
 }

@@ -1,58 +1,49 @@
-//! A state at its height, and the lines on it.
+//! A state at its height.
 
-ghost use Rattle.std.specs.Prelude.{◌≡◌, ◌≤◌, ◌<◌, ◌+◌, ◌-◌, ◌^◌, ℕ, length, map, IfOk, IfSome};
-ghost use Rattle.format_spec.specs.declared.limits.TheConstants.{MAX_MODULE, MAX_CERTIFIED, MAX_VALUE};
-ghost use Rattle.state_spec.specs.Manifest.{manifest_of};
-ghost use Rattle.state_spec.specs.Root.{root_of};
-ghost use Rattle.state_spec.specs.State.{State, memory_bytes, system_of};
-ghost use Rattle.state_spec.specs.SystemText.{system_text};
-ghost use Rattle.sys_state.specs.System.{part_of};
-ghost use Rattle.tree_spec.specs.Labelled.{state_tree};
-ghost use Rattle.manifest.specs.Fits.{FitMemories, FitsText};
-ghost use Rattle.hash_tree.specs.View.{tree_view};
-ghost use Rattle.machine_spec.specs.HeightSteps.{counts_of, tree_root};
-ghost use Rattle.machine_spec.specs.LiveSteps.{read_reply};
-ghost use Rattle.machine_spec.specs.Machine.{Machine};
+ghost use Rattle.std.specs.Prelude.{◌≡◌, ◌≤◌, ◌<◌, ◌+◌, ◌-◌, ◌^◌, ℕ, [], List, length, None, IsTrue, IfOk, OnErr};
+ghost use Rattle.std.specs.List.{AllByRecursion, AllZip};
+ghost use Rattle.format_spec.specs.Versions.{is_version};
+ghost use Rattle.disk_model.specs.State.{DiskState};
+ghost use Rattle.state_spec.specs.State.{State};
+ghost use Rattle.sys_state.specs.Memories.{index_of};
+ghost use Rattle.layer_stack.specs.Stacks.{EndBy};
 ghost use Rattle.machine_spec.specs.States.{empty_state};
-ghost use Rattle.machine_spec.specs.WitnessSteps.{witness_text};
-ghost use Rattle.sys_state.specs.Memories.{index_of, HaveSizes, AreWithin};
-ghost use Rattle.live_state.specs.StateKept.{KeepsState, PerformsState, live_of};
+ghost use Rattle.page_map.specs.Maps.{Maps};
+ghost use Rattle.page_map.specs.Held.{AreMaps, IsHeldAt, handles, plain_state, sizes_of};
+ghost use Rattle.live_state.specs.MapChanges.{AreForks, IsOverStack};
+ghost use Rattle.live_state.specs.Rest.{KeepsLive, KeepsRest};
+ghost use Rattle.live_state.specs.StateKept.{IsWithin, KeepsAt, plain_height};
 
-use crate::canisters::{create_canister, remove_canister};
-use crate::memories::{copy_memories, grow_memory, write_memory};
-use crate::refusals::reply_to;
-use byte_codec::{Blob, NoMemory};
+use crate::memories::{copy_memories, give_up_all};
+use crate::opening::open_memories;
+use byte_codec::NoMemory;
 use format_spec::VERSION;
-use hash_domain::Hash32;
 use hash_tree::StateTree;
-use manifest::{Manifest, count, from_scratch};
-use script_text::{Command, Refusal, Reply};
+use layer_stack::Stack;
+use page_map::{Held, Pages};
 use std::alloc::Global;
 use std::marker::Model;
-use sys_state::{CanisterId, Mem, Path, SysState};
-use witness::{to_cbor, witness_of_state};
+use sys_state::{Mem, SysState};
 
-/// A state with all its bytes, and its height.
+/// A state whose memories are maps, and its height.
 #[derive(Drop)]
 pub struct HeightState {
-    sys: SysState,
-    // The bytes of the memories, heap and stable of each canister in order of ids.
-    memories: Vec<Vec<u8>>,
-    height: u64,
+    pub(crate) held: Held,
+    pub(crate) height: u64,
     // The tree of the state, from the first line on that asks for it until it may change. Memories have no place in it.
-    tree: Option<StateTree>,
+    pub(crate) tree: Option<StateTree>,
 }
 
 // Contracts see no tree: each line answers the same with one and without.
 impl Model for HeightState {
-    ghost use Rattle.std.specs.Prelude.{map};
-    ghost use Rattle.live_state.specs.StateKept.{StateView, IsStateView};
+    ghost use Rattle.page_map.specs.Maps.{Map};
+    ghost use Rattle.live_state.specs.StateKept.{HeldHeight, IsHeightState};
 
-    ghost Value = { StateView };
+    ghost Value = { HeldHeight Map };
 
-    ghost view = { λ m. record { system = m.sys; memories = map (λ v. v.items) m.memories.items; height = m.height } };
+    ghost view = { λ m. record { height = m.height; state = m.held } };
 
-    ghost invariant = { λ m. IsStateView (record { system = m.sys; memories = map (λ v. v.items) m.memories.items; height = m.height }) m.tree };
+    ghost invariant = { λ m. IsHeightState (record { height = m.height; state = m.held }) m.tree };
 }
 
 /// Where a memory of the canister at a place stands among all memories.
@@ -68,166 +59,91 @@ pub fn memory_index(place: u32, mem: Mem) -> usize
 impl HeightState {
     /// The state of an empty store: no canister and no entry, at time 0 and height 1.
     pub fn new(alloc: Global) -> HeightState
-        ensures { KeepsState result (1, empty_state) }
+        ensures kept { (maps : Maps) (s : DiskState) (b : ℕ) → KeepsAt s b (plain_height maps result) (1, empty_state) }
+        ensures good { (maps : Maps) → IsHeldAt 1 (plain_state maps result.state) }
+        ensures none { result.state.mems ≡ [] }
     {
-        HeightState {
+        let held = Held {
             sys: SysState::new(alloc),
-            memories: Vec::new(alloc),
+            mems: Vec::new(alloc),
+            version: VERSION,
+        };
+        HeightState {
+            held,
             height: 1,
             tree: None,
         }
     }
 
-    /// The state with these parts and these bytes of memories, heap and stable of each canister in order of ids, at a height.
-    /// It is within the limits of version 1.
-    pub fn loaded(sys: SysState, memories: Vec<Vec<u8>>, height: u64) -> HeightState
-        requires sizes { HaveSizes sys.canisters (map (λ memory. memory.items) memories.items) }
-        requires within { AreWithin 1 (map (λ memory. memory.items) memories.items) }
+    /// The state of this version with these parts at a height, its memories over these layers, heap and stable of each canister in
+    /// order of ids. It has the pages of its parts, and is within the limits of the version. NoMemory where memory ran out; every map
+    /// is then as before, and none is left.
+    pub fn opened(
+        alloc: Global,
+        pages: &mut Pages,
+        sys: SysState,
+        stacks: Vec<Stack>,
+        version: u32,
+        height: u64,
+    ) -> Result<HeightState, NoMemory>
+        requires version { IsTrue (is_version version) }
+        requires within { IsWithin version sys }
         requires from_one { 1 ≤ height }
-        ensures { result ≡ record { system = sys; memories = map (λ memory. memory.items) memories.items; height = height } }
+        requires births { AllByRecursion (λ c. c.1.birth ≤ height) sys.canisters }
+        requires layers { AllZip (λ stack size. EndBy size.pages stack) stacks.items (sizes_of sys) }
+
+        ensures parts { IfOk result (λ opened. (opened.height ≡ height) × (opened.state.version ≡ version) × (opened.state.system ≡ sys)) }
+        ensures layers { IfOk result (λ opened. AllZip (IsOverStack pages.old pages.new) stacks.items opened.state.mems) }
+        ensures maps { IfOk result (λ opened. AreMaps pages.new (handles opened.state)) }
+        ensures good { IfOk result (λ opened. IsHeldAt height (plain_state pages.new opened.state)) }
+        ensures others { IfOk result (λ opened. KeepsRest pages.old pages.new [] (handles opened.state)) }
+        ensures unchanged { OnErr result (KeepsLive pages.old pages.new) }
     {
-        HeightState {
-            sys,
-            memories,
+        let mems = open_memories(alloc, pages, &sys, stacks)?;
+        let held = Held { sys, mems, version };
+        Ok(HeightState {
+            held,
             height,
             tree: None,
-        }
+        })
     }
 
-    /// `canister ID`
-    pub fn create(&mut self, alloc: Global, id: &CanisterId) -> Result<Reply, NoMemory>
-        ensures { (m : Machine) → KeepsState self.old (live_of m) → PerformsState result self.new m (Command.Canister id.now) }
+    /// Gives all its maps up.
+    pub fn give_up(self, pages: &mut Pages)
+        requires { AreMaps pages.old (handles self.state) }
+        ensures { KeepsRest pages.old pages.new (handles self.state) [] }
     {
-        self.tree = None;
-        create_canister(alloc, &mut self.sys, &mut self.memories, id, self.height)
+        give_up_all(pages, self.held.mems);
     }
 
-    /// `drop ID`
-    pub fn remove(&mut self, id: &CanisterId) -> Result<Reply, NoMemory>
-        ensures { (m : Machine) → KeepsState self.old (live_of m) → PerformsState result self.new m (Command.Remove id.now) }
-    {
-        self.tree = None;
-        remove_canister(&mut self.sys, &mut self.memories, id)
-    }
+    /// The same state at the same height: each map is forked, and no page is copied. A tree that is kept goes to the copy. NoMemory
+    /// where memory ran out; every map is then as before, and none is left.
+    pub fn copy(&mut self, alloc: Global, pages: &mut Pages) -> Result<HeightState, NoMemory>
+        requires maps { AreMaps pages.old (handles self.old.state) }
+        requires good { IsHeldAt self.old.height (plain_state pages.old self.old.state) }
 
-    /// `grow ID MEM N`
-    pub fn grow(&mut self, id: &CanisterId, mem: Mem, pages: u64) -> Result<Reply, NoMemory>
-        ensures { (m : Machine) → KeepsState self.old (live_of m) → PerformsState result self.new m (Command.Grow id.now mem pages) }
+        ensures copy { IfOk result (λ copy. (copy.height ≡ self.old.height) × (copy.state.version ≡ self.old.state.version) × (copy.state.system ≡ self.old.state.system)) }
+        ensures forks { IfOk result (λ copy. AreForks pages.old pages.new self.old.state.mems copy.state.mems) }
+        ensures kept { IfOk result (λ copy. (s : DiskState) (b : ℕ) (k : ℕ × State)
+            → KeepsAt s b (plain_height pages.old self.old) k → KeepsAt s b (plain_height pages.new copy) k) }
+        ensures maps { IfOk result (λ copy. AreMaps pages.new (handles copy.state)) }
+        ensures good { IfOk result (λ copy. IsHeldAt copy.height (plain_state pages.new copy.state)) }
+        ensures others { IfOk result (λ copy. KeepsRest pages.old pages.new [] (handles copy.state)) }
+        ensures unchanged { OnErr result (KeepsLive pages.old pages.new) }
+        ensures same { self.new ≡ self.old }
     {
-        let Ok(place) = self.sys.place(id) else {
-            return Ok(Reply::Refused(Refusal::NoCanister));
+        let sys = self.held.sys.copy(alloc)?;
+        let mems = copy_memories(alloc, pages, &self.held.mems)?;
+        let held = Held {
+            sys,
+            mems,
+            version: self.held.version,
         };
-        let memory = &mut self.memories[memory_index(place, mem)];
-        grow_memory(&mut self.sys, memory, id, mem, pages)
-    }
-
-    /// `write ID MEM OFFSET HEX`
-    pub fn write(
-        &mut self,
-        id: &CanisterId,
-        mem: Mem,
-        offset: u64,
-        bytes: &[u8],
-    ) -> Result<Reply, NoMemory>
-        ensures { (m : Machine) → KeepsState self.old (live_of m) → PerformsState result self.new m (Command.Write id.now mem offset bytes.now) }
-    {
-        let Ok(place) = self.sys.place(id) else {
-            return Ok(Reply::Refused(Refusal::NoCanister));
-        };
-        let memory = &mut self.memories[memory_index(place, mem)];
-        write_memory(&mut self.sys, memory, id, mem, offset, bytes)
-    }
-
-    /// `module ID HEX` and `module ID none`
-    pub fn install(&mut self, id: &CanisterId, module: Option<Blob>) -> Result<Reply, NoMemory>
-        requires { IfSome «module» (λ wasm. length wasm ≤ MAX_MODULE) }
-        ensures { (m : Machine) → KeepsState self.old (live_of m) → PerformsState result self.new m (Command.Module id.now «module») }
-    {
-        self.tree = None;
-        reply_to(self.sys.set_module(id, module))
-    }
-
-    /// `certify ID HEX`
-    pub fn certify(&mut self, id: &CanisterId, bytes: Blob) -> Result<Reply, NoMemory>
-        requires { length bytes ≤ MAX_CERTIFIED }
-        ensures { (m : Machine) → KeepsState self.old (live_of m) → PerformsState result self.new m (Command.Certify id.now bytes) }
-    {
-        self.tree = None;
-        reply_to(self.sys.set_certified(id, bytes))
-    }
-
-    /// `put PATH HEX`
-    pub fn put(&mut self, alloc: Global, path: Path, value: Blob) -> Result<Reply, NoMemory>
-        requires { length value ≤ MAX_VALUE }
-        ensures { (m : Machine) → KeepsState self.old (live_of m) → PerformsState result self.new m (Command.Put path value) }
-    {
-        self.tree = None;
-        reply_to(self.sys.put(alloc, path, value))
-    }
-
-    /// `time N`
-    pub fn set_time(&mut self, time: u64) -> Result<Reply, NoMemory>
-        ensures { (m : Machine) → KeepsState self.old (live_of m) → PerformsState result self.new m (Command.Time time) }
-    {
-        self.tree = None;
-        self.sys.set_time(time);
-        Ok(Reply::Fine)
-    }
-
-    /// `del PATH`
-    pub fn delete(&mut self, path: &Path) -> Result<Reply, NoMemory>
-        ensures { (m : Machine) → KeepsState self.old (live_of m) → PerformsState result self.new m (Command.Del path.now) }
-    {
-        self.tree = None;
-        reply_to(self.sys.del(path))
-    }
-
-    /// `read` of the state.
-    pub fn read(
-        &self,
-        alloc: Global,
-        id: &CanisterId,
-        mem: Mem,
-        offset: u64,
-        len: u64,
-    ) -> Result<Reply, NoMemory>
-        ensures { (k : ℕ × State) → KeepsState self.now k → IfOk result (λ reply. reply ≡ read_reply k.1 id.now mem offset len) }
-    {
-        let Ok(place) = self.sys.place(id) else {
-            return Ok(Reply::Refused(Refusal::NoCanister));
-        };
-        let memory = &self.memories[memory_index(place, mem)];
-        if offset.saturating_add(len) > memory.len() as u64 {
-            return Ok(Reply::Refused(Refusal::PastEnd));
-        }
-        let bytes = &memory[offset as usize..offset as usize + len as usize];
-        Ok(Reply::Bytes(Blob::from_slice(alloc, bytes)?))
-    }
-
-    // The manifest of the state, all of whose bytes are hashed.
-    pub fn manifest(&self, alloc: Global) -> Result<Manifest, NoMemory>
-        ensures value { (k : ℕ × State) → KeepsState self.now k → IfOk result (λ found. found ≡ manifest_of k.1) }
-        ensures fits { IfOk result FitsText }
-    {
-        let system = self.sys.encode(alloc)?;
-        from_scratch(alloc, system.bytes(), &self.sys, &self.memories, VERSION)
-    }
-
-    /// The root hash of the manifest of the state, all of whose bytes are hashed.
-    pub fn root(&self, alloc: Global) -> Result<Hash32, NoMemory>
-        ensures { (k : ℕ × State) → KeepsState self.now k → IfOk result (λ root. root ≡ root_of k.1) }
-    {
-        let manifest = self.manifest(alloc)?;
-        let meta = manifest.meta(alloc)?;
-        Ok(meta.root())
-    }
-
-    /// What the manifest of the state counts. It hashes nothing.
-    pub fn count_manifest(&self, alloc: Global) -> Result<Reply, NoMemory>
-        ensures { (k : ℕ × State) → KeepsState self.now k → IfOk result (λ reply. reply ≡ counts_of k.1) }
-    {
-        let system = self.sys.encode(alloc)?;
-        Ok(manifest_counts(system.bytes(), &self.sys))
+        Ok(HeightState {
+            held,
+            height: self.height,
+            tree: self.tree.take(),
+        })
     }
 
     /// The height, 1 or above.
@@ -238,120 +154,28 @@ impl HeightState {
         self.height
     }
 
-    /// The state but for its memories.
+    /// The state but for its memories, within the limits of its version.
     pub fn system(&self) -> &SysState
-        ensures { result.now ≡ self.now.system }
+        ensures value { result.now ≡ self.now.state.system }
+        ensures within { IsWithin self.now.state.version self.now.state.system }
     {
-        &self.sys
+        &self.held.sys
     }
 
-    /// The bytes of the memories, heap and stable of each canister in order of ids, as many as its pages have, and within
-    /// the limits of version 1.
-    pub fn memories(&self) -> &[Vec<u8>]
-        ensures value { map (λ memory. memory.items) result.now ≡ self.now.memories }
-        ensures fit { FitMemories (part_of self.now.system) self.now.memories }
-        ensures within { AreWithin 1 self.now.memories }
+    /// The state with its maps.
+    pub fn held(&self) -> &Held
+        ensures value { result.now ≡ self.now.state }
+        ensures version { IsTrue (is_version self.now.state.version) }
     {
-        &self.memories
+        &self.held
     }
 
     /// Goes on at the next height.
     pub fn advance(&mut self)
         requires { self.old.height < 2 ^ 64 - 1 }
-        ensures { self.new ≡ record self.old { height = self.old.height + 1 } }
+        ensures height { self.new ≡ record self.old { height = self.old.height + 1 } }
+        ensures good { (maps : Maps) → IsHeldAt self.old.height (plain_state maps self.old.state) → IsHeldAt self.new.height (plain_state maps self.new.state) }
     {
         self.height += 1;
-    }
-
-    /// The same state at the same height. A tree that is kept goes to the copy.
-    pub fn copy(&mut self, alloc: Global) -> Result<HeightState, NoMemory>
-        ensures copy { IfOk result (λ copy. copy ≡ self.old) }
-        ensures same { self.new ≡ self.old }
-    {
-        Ok(HeightState {
-            sys: self.sys.copy(alloc)?,
-            memories: copy_memories(alloc, &self.memories)?,
-            height: self.height,
-            tree: self.tree.take(),
-        })
-    }
-
-    /// Keeps the tree of the state until it may change, so that lines that ask for it build none. NoMemory where memory runs out.
-    pub fn keep_tree(&mut self, alloc: Global) -> Result<(), NoMemory>
-        ensures { self.new ≡ self.old }
-    {
-        if self.tree.is_none() {
-            self.tree = Some(StateTree::build(alloc, &self.sys)?);
-        }
-        Ok(())
-    }
-
-    /// The root of the tree of the state.
-    pub fn tree_root(&self, alloc: Global) -> Result<Hash32, NoMemory>
-        ensures { (k : ℕ × State) → KeepsState self.now k → IfOk result (λ root. root ≡ tree_root k.1) }
-    {
-        match &self.tree {
-            Some(tree) => Ok(tree.root()),
-            None => tree_root_of(alloc, &self.sys),
-        }
-    }
-
-    /// The witness of these paths in the tree of the state.
-    pub fn witness(&self, alloc: Global, paths: &[Path]) -> Result<Blob, NoMemory>
-        requires { 1 ≤ length paths.now }
-        ensures { (k : ℕ × State) → KeepsState self.now k → IfOk result (λ text. text ≡ witness_text k.1 paths.now) }
-    {
-        match &self.tree {
-            Some(tree) => witness_in(alloc, &self.sys, tree, paths),
-            None => witness_of(alloc, &self.sys, paths),
-        }
-    }
-}
-
-/// The root hash of the tree of a state with these parts.
-pub fn tree_root_of(alloc: Global, sys: &SysState) -> Result<Hash32, NoMemory>
-    ensures { (s : State) → system_of s ≡ part_of sys.now → IfOk result (λ root. root ≡ tree_root s) }
-{
-    let tree = StateTree::build(alloc, sys)?;
-    Ok(tree.root())
-}
-
-/// The bytes of the witness of these paths in the tree of a state with these parts.
-pub fn witness_of(alloc: Global, sys: &SysState, paths: &[Path]) -> Result<Blob, NoMemory>
-    requires { 1 ≤ length paths.now }
-    ensures { (s : State) → system_of s ≡ part_of sys.now → IfOk result (λ text. text ≡ witness_text s paths.now) }
-{
-    let tree = StateTree::build(alloc, sys)?;
-    witness_in(alloc, sys, &tree, paths)
-}
-
-// The same, where the tree is there.
-fn witness_in(
-    alloc: Global,
-    sys: &SysState,
-    tree: &StateTree,
-    paths: &[Path],
-) -> Result<Blob, NoMemory>
-    requires tree { tree_view tree.now ≡ state_tree (part_of sys.now) }
-    requires paths { 1 ≤ length paths.now }
-    ensures { (s : State) → system_of s ≡ part_of sys.now → IfOk result (λ text. text ≡ witness_text s paths.now) }
-{
-    // Its contract says that the state is valid, as `witness_of_state` needs.
-    let _count = sys.canisters();
-    let shown = witness_of_state(alloc, tree, paths)?;
-    to_cbor(alloc, &shown)
-}
-
-/// What the manifest of a state with these parts counts, by the sizes of its memories. It hashes nothing and takes no memory.
-pub fn manifest_counts(system: &[u8], sys: &SysState) -> Reply
-    requires { system.now ≡ system_text (part_of sys.now) }
-    ensures { (s : State) → s.version ≡ 1 → system_of s ≡ part_of sys.now → FitMemories (part_of sys.now) (memory_bytes s) → result ≡ counts_of s }
-{
-    let counts = count(system, sys);
-    Reply::Manifest {
-        files: counts.files,
-        chunks: counts.chunks,
-        pieces: counts.pieces,
-        bytes: counts.bytes,
     }
 }

@@ -1,9 +1,17 @@
-//! A state with all its bytes: applies the lines of a script that speak of one state.
+//! A state whose memories are maps: applies the lines of a script that speak of one state.
 #![tactic(auto)]
 
 mod canisters;
+mod hashing;
 mod height_state;
+mod lines;
 mod memories;
+mod opening;
+mod reading;
+mod rebasing;
 mod refusals;
+mod trees;
 
-pub use height_state::{HeightState, manifest_counts, memory_index, tree_root_of, witness_of};
+pub use hashing::manifest_counts;
+pub use height_state::{HeightState, memory_index};
+pub use trees::{tree_root_of, witness_of};

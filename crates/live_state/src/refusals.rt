@@ -4,9 +4,9 @@ use byte_codec::NoMemory;
 use script_text::{Refusal, Reply};
 use sys_state::SysError;
 
-// The reply to a change of the system that was refused. No change of the system reads a text, so an error that is no
-// refusal is want of memory.
-fn refused(error: SysError) -> Result<Reply, NoMemory>
+/// The reply to a change of the system that was refused. No change of the system reads a text, so an error that is no
+/// refusal is want of memory.
+pub fn refused(error: SysError) -> Result<Reply, NoMemory>
     ensures { Refuses (refusal_of error) result }
 {
     let refusal = match error {

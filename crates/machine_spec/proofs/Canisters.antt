@@ -7,7 +7,7 @@ use Rattle.std.specs.Ordering.{eq_by_cmp}
 use Rattle.std.specs.declared.cmp.Ordering.{Ordering}
 use Rattle.std.specs.declared.cmp.Ordering.TheVariants.{Less, Equal, Greater}
 use Rattle.format_spec.specs.Bytes.{Bytes, bytes_cmp, same_bytes}
-use Rattle.state_spec.specs.State.{Canister, Memory, without}
+use Rattle.state_spec.specs.State.{Canister, Memory, IsMemory, without}
 use Rattle.state_spec.proofs.Keys.{ids_apart}
 use Rattle.sys_state.specs.declared.mem.Mem.{Mem}
 use Rattle.sys_state.specs.declared.mem.Mem.TheVariants.{Heap, Stable}
@@ -19,6 +19,12 @@ abbrev pub Canisters : Type 0
 Canisters = List (Bytes × Canister)
 
 -- ---- each memory
+
+-- of whole pages
+pub each_memory : (cs : Canisters) → AllByRecursion (λ c. IsMemory c.1.heap × IsMemory c.1.stable) cs
+    → AllByRecursion (λ n. IsMemory n.memory) (named_memories cs)
+each_memory [] all = tt
+each_memory (c ∷ cs) all = (all.0.0, (all.0.1, each_memory cs all.1))
 
 module _ (P : NamedMemory → Type 0) where
   pub of_found : (id : Bytes) (c : Canister) (cs : Canisters) → find bytes_cmp id cs ≡ Some c → AllByRecursion P (named_memories cs) → AllByRecursion P (named_memories ((id, c) ∷ []))

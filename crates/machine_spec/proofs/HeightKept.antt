@@ -1,21 +1,26 @@
 -- Soundness is kept by the steps on heights, and by those that change nothing.
-use Rattle.std.proofs.Common.{◌≡◌, ℕ, ◌+◌, ◌<◌, ◌≤◌, ◌==◌, Bool, true, false, not, cond, List, [], ◌∷◌, ◌++◌, map, filter, length, Some, None, is_some, refl, sym, ap, subst, arith, nat_le, nat_lt, length-append}
-use Rattle.std.specs.List.{AllByRecursion, last_or}
-use Rattle.std.proofs.lemmas.Bool.{leb-false}
-use Rattle.format_spec.specs.declared.limits.TheConstants.{MAX_HEIGHT, MAX_HEIGHTS, MAX_PUBLISHED}
+use Rattle.std.proofs.Common.{◌≡◌, ◌⊎◌, ℕ, ◌+◌, ◌<◌, ◌≤◌, ◌==◌, Bool, true, false, not, cond, List, [], ◌∷◌, ◌++◌, map, filter, length, Option, Some, None}
+use Rattle.std.proofs.Common.{is_some, refl, sym, ap, ◌∙◌, subst, inl, inr, arith, nat_le, nat_lt, length-append}
+use Rattle.std.specs.List.{last_or}
+use Rattle.std.specs.Option.{option_map_or}
+use Rattle.std.proofs.lemmas.Bool.{le-leb, leb-false}
+use Rattle.format_spec.specs.Bytes.{Bytes}
+use Rattle.format_spec.specs.declared.limits.TheConstants.{MAX_HEIGHT, MAX_HEIGHTS}
 use Rattle.state_spec.specs.State.{State}
-use Rattle.state_spec.specs.Root.{root_of}
-use Rattle.store_spec.specs.Image.{Published, heights_of, without_published, whole_layers}
+use Rattle.store_spec.specs.Image.{Published, without_published}
+use Rattle.sys_state.specs.declared.mem.Mem.{Mem}
 use Rattle.script_text.specs.declared.command.HeightOrLive.{HeightOrLive}
 use Rattle.script_text.specs.declared.reply.Reply.{Reply}
 use Rattle.script_text.specs.declared.reply.Reply.TheVariants as replies
-use Rattle.script_text.specs.declared.reply.Refusal.TheVariants.{ManyHeights, HeightLimit, HeightLow, ManyMarks, NoHeight, LastHeight}
-use Rattle.machine_spec.specs.Machine.{Machine, outcome_of, unless, unless_none, kept_at, without_height, state_at, newest, published_at, resumed_at}
+use Rattle.script_text.specs.declared.reply.Refusal.TheVariants.{ManyHeights, HeightLimit, HeightLow, NoHeight, LastHeight, NoLayer}
+use Rattle.machine_spec.specs.Machine.{Machine, outcome_of, unless_none, kept_at, without_height, state_at, newest, published_at, resumed_at}
 use Rattle.machine_spec.specs.States.{memories_of}
 use Rattle.machine_spec.specs.HeightSteps.{round_step, forget_step, tree_root}
-use Rattle.machine_spec.specs.StoreSteps.{is_low, is_newest, checkpoint_step, purge_step, reset_step}
-use Rattle.machine_spec.specs.Sound.{IsSound, IsWholeState, IsWithin, IsBornBy, EachLater, Ascend, MayBegin}
-use Rattle.machine_spec.proofs.Lists.{before_one, later_one, later_kept, of_map, to_map, later_of_map, later_to_map, last_holds}
+use Rattle.machine_spec.specs.StoreSteps.{is_low, is_newest, purge_step, reset_step}
+use Rattle.machine_spec.specs.TipSteps.{tip_layers, layers_step}
+use Rattle.machine_spec.specs.Sound.{IsSound, IsWholeState, IsWithin, IsBornBy, Follows, EachLater, Ascend, MayBegin}
+use Rattle.machine_spec.proofs.Later.{follows_itself}
+use Rattle.machine_spec.proofs.Lists.{before_one, later_one, later_kept, of_map, to_map, later_of_map, later_to_map}
 use Rattle.machine_spec.proofs.LiveKept.{if_not_refused, if_some, live_within}
 use Rattle.machine_spec.proofs.StartKept.{resumed_is_sound}
 use Rattle.format_spec.proofs.Lists.{all_weaker, all_join, all_parts, all_filtered}
@@ -34,7 +39,21 @@ Below a b = a < b
 pub asked_kept : (m : Machine) (at : HeightOrLive) (reply : State → Reply) → IsSound m → IsSound (unless_none (state_at m at) NoHeight m (λ s. outcome_of (reply s) m)).after
 asked_kept m at reply s = if_some IsSound (state_at m at) NoHeight m (λ t. outcome_of (reply t) m) s (λ t _. s)
 
+pub layers_kept : (m : Machine) (id : Bytes) (mem : Mem) → IsSound m → IsSound (layers_step m id mem).after
+layers_kept m id mem s =
+    if_not_refused IsSound ((length (tip_layers m id mem) == 0, NoLayer) ∷ []) m
+    (λ m. outcome_of (replies.Layers (map (λ layer. length layer) (tip_layers m id mem))) m) s (λ _. s)
+
 -- ---- round
+
+filter_longer : {X : Type 0} (t : X → Bool) (xs : List X) (y : X) → t y ≡ true → filter t (xs ++ y ∷ []) ≡ filter t xs ++ y ∷ []
+filter_longer t [] y passes = ap (λ (b : Bool). cond b (y ∷ []) []) passes
+filter_longer {X} t (x ∷ xs) y passes = by (t x) (filter_longer t xs y passes)
+  where
+    by : (b : Bool) → filter t (xs ++ y ∷ []) ≡ filter t xs ++ y ∷ []
+        → cond b (x ∷ filter t (xs ++ y ∷ [])) (filter t (xs ++ y ∷ [])) ≡ cond b (x ∷ filter t xs) (filter t xs) ++ y ∷ []
+    by true e = ap (λ (l : List X). x ∷ l) e
+    by false e = e
 
 map_longer : {X Y : Type 0} (f : X → Y) (xs : List X) (y : X) → map f (xs ++ y ∷ []) ≡ map f xs ++ f y ∷ []
 map_longer f [] y = refl
@@ -49,11 +68,21 @@ within_next h s all = all_weaker (IsBornBy h) (IsBornBy (h + 1)) (λ n b. record
 round_sound : (m : Machine) → IsSound m → length m.memory < MAX_HEIGHTS → IsSound (record m { height = m.height + 1; memory = m.memory ++ (m.height, m.live) ∷ [] })
 round_sound m s few =
     let e : Kept = (m.height, m.live) in
+    let next : Kept = (m.height + 1, m.live) in
+    let base : Kept = (m.base, m.base_state) in
+    let above : Kept → Bool = λ k. nat_le m.base k.0 in
+    let inside : IsWithin e = live_within m s in
+    let front = base ∷ filter above m.memory in
+    let order = before_one Follows front e s.in_order in
+    let more : EachLater Follows ((front ++ e ∷ []) ++ next ∷ []) =
+    later_one Follows (front ++ e ∷ []) next s.in_order
+    (all_join (λ k. Follows k next) front (e ∷ []) order.1 (follows_itself m.height (m.height + 1) m.live s.live inside, tt)) in
     let heights = before_one Below (0 ∷ map (λ k. k.0) m.memory) m.height s.ascends in
     record {
       live = s.live;
       memory = all_join (λ k. IsWholeState k.1) m.memory (e ∷ []) s.memory (s.live, tt);
-      within = all_join IsWithin (m.memory ++ e ∷ []) ((m.height + 1, m.live) ∷ []) s.within (within_next m.height m.live (live_within m s), tt);
+      base_whole = s.base_whole;
+      within = (s.within.0, all_join IsWithin (m.memory ++ e ∷ []) (next ∷ []) s.within.1 (within_next m.height m.live inside, tt));
       ascends =
           subst (λ (ns : List ℕ). Ascend (0 ∷ (ns ++ (m.height + 1) ∷ []))) (sym (map_longer (λ (k : Kept). k.0) m.memory e))
           (later_one Below (0 ∷ (map (λ k. k.0) m.memory ++ m.height ∷ [])) (m.height + 1) s.ascends
@@ -61,6 +90,11 @@ round_sound m s few =
       published = s.published;
       above = all_weaker (λ p. p.height < m.height) (λ p. p.height < m.height + 1) (λ p lt. omega (arith, lt)) m.published s.above;
       few_in_memory = omega (arith, few, length-append m.memory (e ∷ []));
+      above_base = omega (arith, s.above_base);
+      base_low = s.base_low;
+      in_order = subst (λ (l : List Kept). EachLater Follows (base ∷ (l ++ next ∷ [])))
+          (sym (filter_longer above m.memory e (le-leb m.base m.height (omega (arith, s.above_base))))) more;
+      tip = s.tip;
     }
 
 pub round_kept : (m : Machine) → IsSound m → IsSound (round_step m).after
@@ -79,17 +113,33 @@ fewer t (x ∷ xs) = by (t x) (fewer t xs)
     by true le = omega (arith, le)
     by false le = omega (arith, le)
 
+filters_commute : {X : Type 0} (t u : X → Bool) (xs : List X) → filter t (filter u xs) ≡ filter u (filter t xs)
+filters_commute t u [] = refl
+filters_commute {X} t u (x ∷ xs) = by (t x) refl (u x) refl (filters_commute t u xs)
+  where
+    by : (a : Bool) → t x ≡ a → (b : Bool) → u x ≡ b → filter t (filter u xs) ≡ filter u (filter t xs)
+        → filter t (cond b (x ∷ filter u xs) (filter u xs)) ≡ filter u (cond a (x ∷ filter t xs) (filter t xs))
+    by true e true f rest = ap (λ (c : Bool). cond c (x ∷ filter t (filter u xs)) (filter t (filter u xs))) e ∙ ap (λ (l : List X). x ∷ l) rest
+        ∙ sym (ap (λ (c : Bool). cond c (x ∷ filter u (filter t xs)) (filter u (filter t xs))) f)
+    by true e false f rest = rest ∙ sym (ap (λ (c : Bool). cond c (x ∷ filter u (filter t xs)) (filter u (filter t xs))) f)
+    by false e true f rest = ap (λ (c : Bool). cond c (x ∷ filter t (filter u xs)) (filter t (filter u xs))) e ∙ rest
+    by false e false f rest = rest
+
 forget_sound : (m : Machine) (h : ℕ) → IsSound m → IsSound (record m { memory = without_height h m.memory })
 forget_sound m h s =
     let keep : Kept → Bool = λ k. not (k.0 == h) in
+    let above : Kept → Bool = λ k. nat_le m.base k.0 in
+    let base : Kept = (m.base, m.base_state) in
     let live : Kept = (m.height, m.live) in
-    let inside = all_parts IsWithin m.memory (live ∷ []) s.within in
+    let inside = all_parts IsWithin m.memory (live ∷ []) s.within.1 in
+    let order = before_one Follows (base ∷ filter above m.memory) live s.in_order in
     let heights = before_one Below (0 ∷ map (λ k. k.0) m.memory) m.height s.ascends in
     let pairs : EachLater Lower m.memory = later_of_map (λ k. k.0) Below m.memory heights.0.1 in
     record {
       live = s.live;
       memory = all_filtered (λ k. IsWholeState k.1) keep m.memory s.memory;
-      within = all_join IsWithin (filter keep m.memory) (live ∷ []) (all_filtered IsWithin keep m.memory inside.0) inside.1;
+      base_whole = s.base_whole;
+      within = (s.within.0, all_join IsWithin (filter keep m.memory) (live ∷ []) (all_filtered IsWithin keep m.memory inside.0) inside.1);
       ascends = later_one Below (0 ∷ map (λ k. k.0) (filter keep m.memory)) m.height (
         to_map (λ k. k.0) (λ x. 0 < x) (filter keep m.memory) (all_filtered (λ k. 0 < k.0) keep m.memory (of_map (λ k. k.0) (λ x. 0 < x) m.memory heights.0.0)),
         later_to_map (λ k. k.0) Below (filter keep m.memory) (later_kept Lower keep m.memory pairs),
@@ -98,6 +148,13 @@ forget_sound m h s =
       published = s.published;
       above = s.above;
       few_in_memory = omega (arith, s.few_in_memory, fewer keep m.memory);
+      above_base = s.above_base;
+      base_low = s.base_low;
+      in_order = subst (λ (l : List Kept). EachLater Follows (base ∷ (l ++ live ∷ []))) (sym (filters_commute above keep m.memory))
+          (later_one Follows (base ∷ filter keep (filter above m.memory)) live
+          (all_filtered (Follows base) keep (filter above m.memory) order.0.0, later_kept Follows keep (filter above m.memory) order.0.1)
+          (order.1.0, all_filtered (λ k. Follows k live) keep (filter above m.memory) order.1.1));
+      tip = s.tip;
     }
 
 pub forget_kept : (m : Machine) (h : ℕ) → IsSound m → IsSound (forget_step m h).after
@@ -105,62 +162,31 @@ forget_kept m h s =
     if_not_refused IsSound ((not (is_some (kept_at h m.memory)), NoHeight) ∷ []) m
     (λ m. outcome_of replies.Fine (record m { memory = without_height h m.memory })) s (λ no. forget_sound m h s)
 
--- ---- checkpoint
-
--- the newest height is below one that isn't low, and so is each other
-above_newest : (h : ℕ) (ps : List Published) → EachLater Below (heights_of ps) → is_low h ps ≡ false → AllByRecursion (λ p. p.height < h) ps
-above_newest h [] each high = tt
-above_newest h (p ∷ []) each high = (leb-false h p.height high, tt)
-above_newest h (p ∷ q ∷ ps) each high =
-    let rest = above_newest h (q ∷ ps) each.1 high in
-    (omega (arith, each.0.0, rest.0), rest)
-
-checkpoint_sound : (m : Machine) (k : Kept) → IsSound m → last_or None m.memory ≡ Some k → is_low k.0 m.published ≡ false → length m.published < MAX_PUBLISHED
-    → IsSound (record m { published = m.published ++ record { height = k.0; state = k.1; layers = whole_layers k.1 } ∷ [] })
-checkpoint_sound m k s last high few =
-    let p : Published = record { height = k.0; state = k.1; layers = whole_layers k.1 } in
-    let heights = before_one Below (0 ∷ map (λ k. k.0) m.memory) m.height s.ascends in
-    let positive : 0 < k.0 = last_holds (λ k. 0 < k.0) None m.memory k tt (of_map (λ k. k.0) (λ x. 0 < x) m.memory heights.0.0) last in
-    let under : k.0 < m.height = last_holds (λ k. k.0 < m.height) None m.memory k tt (of_map (λ k. k.0) (λ x. x < m.height) m.memory heights.1.1) last in
-    let whole : IsWholeState k.1 = last_holds (λ k. IsWholeState k.1) None m.memory k tt s.memory last in
-    let over : AllByRecursion (λ p. p.height < k.0) m.published = above_newest k.0 m.published s.published.ascend high in
-    record {
-      live = s.live;
-      memory = s.memory;
-      within = s.within;
-      ascends = s.ascends;
-      published = record {
-        ascend = subst Ascend (sym (map_longer (λ (p : Published). p.height) m.published p)) (later_one Below (heights_of m.published) k.0 s.published.ascend (to_map (λ p. p.height) (λ x. x < k.0) m.published over));
-        few = omega (arith, few, length-append m.published (p ∷ []));
-        each = all_join MayBegin m.published (p ∷ []) s.published.each (record { from_one = positive; valid = whole.valid; version = whole.version }, tt);
-      };
-      above = all_join (λ p. p.height < m.height) m.published (p ∷ []) s.above (under, tt);
-      few_in_memory = s.few_in_memory;
-    }
-
-pub checkpoint_kept : (m : Machine) → IsSound m → IsSound (checkpoint_step m).after
-checkpoint_kept m s =
-    if_some IsSound (last_or None m.memory) NoHeight m (λ k. unless (
-    (is_low k.0 m.published, HeightLow)
-    ∷ (nat_le MAX_PUBLISHED (length m.published), ManyMarks)
-    ∷ []
-    ) m (λ m. outcome_of (replies.Published k.0 (root_of k.1)) (record m { published = m.published ++ record { height = k.0; state = k.1; layers = whole_layers k.1 } ∷ [] }))) s (λ k last.
-    if_not_refused IsSound (
-    (is_low k.0 m.published, HeightLow)
-    ∷ (nat_le MAX_PUBLISHED (length m.published), ManyMarks)
-    ∷ []
-    ) m (λ m. outcome_of (replies.Published k.0 (root_of k.1)) (record m { published = m.published ++ record { height = k.0; state = k.1; layers = whole_layers k.1 } ∷ [] })) s (λ no.
-    checkpoint_sound m k s last no.0 (leb-false MAX_PUBLISHED (length m.published) no.1.0)))
-
 -- ---- purge
 
-purge_sound : (m : Machine) (h : ℕ) → IsSound m → IsSound (record m { published = without_published m.published h })
-purge_sound m h s =
+newest_stays : (h : ℕ) (o : Option Published) (ps : List Published) → option_map_or (λ p. p.height == h) (last_or o ps) false ≡ false
+    → last_or o (without_published ps h) ≡ last_or o ps
+newest_stays h o [] e = refl
+newest_stays h o (p ∷ []) e = by (p.height == h) e
+  where
+    by : (b : Bool) → b ≡ false → last_or o (cond (not b) (p ∷ []) []) ≡ Some p
+    by true e = absurd cc
+    by false e = refl
+newest_stays h o (p ∷ q ∷ ps) e = by (p.height == h) (newest_stays h (Some p) (q ∷ ps) e) (newest_stays h o (q ∷ ps) e)
+  where
+    by : (b : Bool) → last_or (Some p) (without_published (q ∷ ps) h) ≡ last_or (Some q) ps → last_or o (without_published (q ∷ ps) h) ≡ last_or (Some q) ps
+        → last_or o (cond (not b) (p ∷ without_published (q ∷ ps) h) (without_published (q ∷ ps) h)) ≡ last_or (Some q) ps
+    by true later here = here
+    by false later here = later
+
+purge_sound : (m : Machine) (h : ℕ) → IsSound m → is_newest h m.published ≡ false → IsSound (record m { published = without_published m.published h })
+purge_sound m h s other =
     let keep : Published → Bool = λ p. not (p.height == h) in
     let less : Published → Published → Type 0 = λ a b. a.height < b.height in
     record {
       live = s.live;
       memory = s.memory;
+      base_whole = s.base_whole;
       within = s.within;
       ascends = s.ascends;
       published = record {
@@ -170,12 +196,21 @@ purge_sound m h s =
       };
       above = all_filtered (λ p. p.height < m.height) keep m.published s.above;
       few_in_memory = s.few_in_memory;
+      above_base = s.above_base;
+      base_low = low (newest_stays h None m.published other) s.base_low;
+      in_order = s.in_order;
+      tip = s.tip;
     }
+  where
+    low : newest (without_published m.published h) ≡ newest m.published → (m.base ≡ 0) ⊎ (is_low m.base m.published ≡ true)
+        → (m.base ≡ 0) ⊎ (is_low m.base (without_published m.published h) ≡ true)
+    low rest (inl none) = inl none
+    low rest (inr le) = inr (ap (λ (o : Option Published). option_map_or (λ p. nat_le m.base p.height) o false) rest ∙ le)
 
 pub purge_kept : (m : Machine) (h : ℕ) → IsSound m → IsSound (purge_step m h).after
 purge_kept m h s =
     if_not_refused IsSound ((not (is_some (published_at h m.published)), NoHeight) ∷ (is_newest h m.published, LastHeight) ∷ []) m
-    (λ m. outcome_of replies.Fine (record m { published = without_published m.published h })) s (λ no. purge_sound m h s)
+    (λ m. outcome_of replies.Fine (record m { published = without_published m.published h })) s (λ no. purge_sound m h s no.1.0)
 
 -- ---- reset
 

@@ -1,29 +1,35 @@
 -- Soundness is kept by each step on the live state.
-use Rattle.std.proofs.Common.{◌≡◌, ℕ, ◌+◌, ◌-◌, ◌*◌, ◌≤◌, Bool, true, false, ◌&&◌, not, List, [], ◌∷◌, length, Option, Some, None, is_some, refl, sym, subst, arith, nat_le, nat_lt}
+use Rattle.std.proofs.Common.{◌≡◌, ℕ, ◌+◌, ◌-◌, ◌*◌, ◌<◌, ◌≤◌, Bool, true, false, ◌&&◌, not, List, [], ◌∷◌, map, filter, length, Option, Some, None}
+use Rattle.std.proofs.Common.{is_some, refl, sym, subst, arith, nat_le, nat_lt}
 use Rattle.std.specs.List.{AllByRecursion}
 use Rattle.std.specs.FinMap.{find, put}
 use Rattle.std.proofs.lemmas.Bool.{leb-false, ltb-false}
 use Rattle.format_spec.specs.Bytes.{Bytes, bytes_cmp, path_cmp}
 use Rattle.format_spec.specs.declared.limits.TheConstants.{PAGE_SIZE, MAX_CANISTERS, MAX_ENTRIES}
 use Rattle.format_spec.specs.Versions.{memory_limit, state_limit}
-use Rattle.state_spec.specs.State.{State, AreEntries, Canister, Memory, IsState, HasPageRounds, pages_in, pages_of, part_of, is_reserved, has_conflict, without}
+use Rattle.state_spec.specs.State.{State, AreEntries, Canister, Memory, IsMemory, IsState, HasPageRounds, pages_in, pages_of, part_of, is_reserved}
+use Rattle.state_spec.specs.State.{has_conflict, without}
 use Rattle.state_spec.specs.Memory.{grow, write, no_memory}
 use Rattle.state_spec.proofs.Memories.{grow_bytes, grow_good, grow_keeps_rounds, grow_pages, grow_rounds, write_IsBytes, write_good, write_keeps_rounds}
 use Rattle.sys_state.specs.declared.mem.Mem.{Mem}
+use Rattle.sys_state.specs.declared.mem.Mem.TheVariants.{Heap, Stable}
 use Rattle.script_text.specs.Commands.{IsCommand}
 use Rattle.script_text.specs.declared.command.Command.TheVariants as commands
 use Rattle.script_text.specs.declared.reply.Refusal.{Refusal}
 use Rattle.script_text.specs.declared.reply.Refusal.TheVariants.{Exists, ManyCanisters, NoCanister, MemoryFull, StateFull}
 use Rattle.script_text.specs.declared.reply.Refusal.TheVariants.{Reserved, PathConflict, TreeFull, NoPath}
-use Rattle.machine_spec.specs.Machine.{Machine, Outcome, now_live, refused_if, unless, unless_none}
+use Rattle.machine_spec.specs.Machine.{Machine, Outcome, now_live, refused_if, unless, unless_none, unless_some}
 use Rattle.machine_spec.specs.States.{NamedMemory, named_memories, memories_of, canister_in, with_canister, without_canister, newborn, memory_of, with_memory, pages_with, state_pages}
 use Rattle.machine_spec.specs.LiveSteps.{canister_step, drop_step, grow_step, write_step, module_step, certify_step, time_step, put_step, del_step}
-use Rattle.machine_spec.specs.Sound.{IsSound, IsWholeState, IsWithin, IsBornBy}
-use Rattle.machine_spec.proofs.Canisters.{Canisters, of_found, with_one, without_one, with_other}
+use Rattle.machine_spec.specs.Sound.{IsSound, IsWholeState, IsWithin, IsBornBy, ComesFrom, Follows}
+use Rattle.machine_spec.proofs.Canisters.{Canisters, each_memory, of_found, with_one, without_one, with_other}
 use Rattle.machine_spec.proofs.Valid.{AreGood, IsGood, canisters_of, changed, created, entries_of, removed, time_of, valid_from}
-use Rattle.machine_spec.proofs.ValidSteps.{Follows, all_pages_are, entry_gone, entry_set, new_pages, newborn_good, with_certified, with_new, with_wasm, written_few, written_pages}
+use Rattle.machine_spec.proofs.Later.{Advances, advanced_comes, grow_advances, write_advances}
+use Rattle.machine_spec.proofs.Lists.{both, before_one, later_one, of_map}
+use Rattle.machine_spec.proofs.ValidSteps.{MayReplace, all_pages_are, entry_gone, entry_set, new_pages, newborn_good, with_certified, with_new, with_wasm}
+use Rattle.machine_spec.proofs.ValidSteps.{written_few, written_pages}
 use Rattle.machine_spec.proofs.WrittenRounds.{write_each_round}
-use Rattle.format_spec.proofs.Lists.{all_join, all_parts}
+use Rattle.format_spec.proofs.Lists.{all_filtered, all_join, all_parts}
 
 -- ---- refusals change nothing
 
@@ -43,26 +49,48 @@ pub if_some : {A : Type 0} (P : Machine → Type 0) (o : Option A) (refusal : Re
 if_some P None refusal m act so h = so
 if_some P (Some x) refusal m act so h = h x refl
 
+pub if_none : {A : Type 0} (P : Machine → Type 0) (o : Option A) (refusal : A → Refusal) (m : Machine) (act : Machine → Outcome) → P m
+    → (o ≡ None → P (act m).after) → P (unless_some o refusal m act).after
+if_none P None refusal m act so h = h refl
+if_none P (Some x) refusal m act so h = so
+
 -- ---- another live state
 
-pub with_live : (m : Machine) (t : State) → IsSound m → IsWholeState t → IsWithin (m.height, t) → IsSound (record m { live = t })
-with_live m t s whole within = record {
-  live = whole;
-  memory = s.memory;
-  within = all_join IsWithin m.memory ((m.height, t) ∷ []) (all_parts IsWithin m.memory ((m.height, m.live) ∷ []) s.within).0 (within, tt);
-  ascends = s.ascends;
-  published = s.published;
-  above = s.above;
-  few_in_memory = s.few_in_memory;
-}
+-- each height in order but live is below it
+below_live : (m : Machine) → IsSound m → AllByRecursion (λ e. e.0 < m.height) ((m.base, m.base_state) ∷ filter (λ k. nat_le m.base k.0) m.memory)
+below_live m s =
+    let all = before_one (λ (a b : ℕ). a < b) (0 ∷ map (λ k. k.0) m.memory) m.height s.ascends in
+    (s.above_base, all_filtered (λ e. e.0 < m.height) (λ k. nat_le m.base k.0) m.memory (of_map (λ k. k.0) (λ h. h < m.height) m.memory all.1.1))
+
+pub with_live : (m : Machine) (t : State) → IsSound m → IsWholeState t → IsWithin (m.height, t)
+    → ((e : ℕ × State) → e.0 < m.height → Follows e (m.height, m.live) → Follows e (m.height, t)) → IsSound (record m { live = t })
+with_live m t s whole within follows =
+    let front = (m.base, m.base_state) ∷ filter (λ k. nat_le m.base k.0) m.memory in
+    let order = before_one Follows front (m.height, m.live) s.in_order in
+    let inside = all_parts IsWithin m.memory ((m.height, m.live) ∷ []) s.within.1 in
+    record {
+      live = whole;
+      memory = s.memory;
+      base_whole = s.base_whole;
+      within = (s.within.0, all_join IsWithin m.memory ((m.height, t) ∷ []) inside.0 (within, tt));
+      ascends = s.ascends;
+      published = s.published;
+      above = s.above;
+      few_in_memory = s.few_in_memory;
+      above_base = s.above_base;
+      base_low = s.base_low;
+      in_order = later_one Follows front (m.height, t) order.0
+          (both (λ e. e.0 < m.height) (λ e. Follows e (m.height, m.live)) (λ e. Follows e (m.height, t)) follows front (below_live m s) order.1);
+      tip = s.tip;
+    }
 
 pub live_within : (m : Machine) → IsSound m → IsWithin (m.height, m.live)
-live_within m s = (all_parts IsWithin m.memory ((m.height, m.live) ∷ []) s.within).1.0
+live_within m s = (all_parts IsWithin m.memory ((m.height, m.live) ∷ []) s.within.1).1.0
 
 -- what is so of each memory of the live state
 pub with_memories : (m : Machine) (t : State) → IsSound m → IsWholeState t
     → ((P : NamedMemory → Type 0) → AllByRecursion P (memories_of m.live) → AllByRecursion P (memories_of t)) → IsSound (record m { live = t })
-with_memories m t s whole all = with_live m t s whole (all (IsBornBy m.height) (live_within m s))
+with_memories m t s whole all = with_live m t s whole (all (IsBornBy m.height) (live_within m s)) (λ e below follows. all (ComesFrom e.0 e.1) follows)
 
 -- ---- the steps that leave memories as they are
 
@@ -148,6 +176,13 @@ drop_kept m id s = if_some IsSound (canister_in m.live id) NoCanister m (λ c. n
 no_rounds : HasPageRounds no_memory
 no_rounds = record { rounds_ascend = refl; rounds_within = tt }
 
+-- and its birth is above each earlier height
+newborn_comes : (height : ℕ) (e : ℕ × State) (id : Bytes) → e.0 < height → AllByRecursion (ComesFrom e.0 e.1) (named_memories ((id, newborn height) ∷ []))
+newborn_comes height e id below = (one Heap, (one Stable, tt))
+  where
+    one : (mem : Mem) → ComesFrom e.0 e.1 (record { id = id; mem = mem; birth = height; memory = no_memory })
+    one mem = record { old = λ le. absurd (omega (arith, le, below)); young = λ _ q there low. absurd (omega (arith, there)) }
+
 pub canister_kept : (m : Machine) (id : Bytes) → IsCommand (commands.Canister id) → IsSound m → IsSound (canister_step m id).after
 canister_kept m id fits s =
     if_not_refused IsSound ((is_some (canister_in m.live id), Exists) ∷ (nat_le MAX_CANISTERS (length m.live.canisters), ManyCanisters) ∷ []) m (λ m. now_live m (with_canister m.live id (newborn m.height))) s (λ none.
@@ -158,16 +193,18 @@ canister_kept m id fits s =
           (created id c cs (canisters_of m.live s.live.valid s.live.version) (newborn_good id m.height fits.types.0 fits.types.1) refl (leb-false MAX_CANISTERS (length cs) none.1.0));
       version = s.live.version;
       rounds = with_one (λ n. HasPageRounds n.memory) id c cs s.live.rounds (no_rounds, (no_rounds, tt));
-    }) (with_one (IsBornBy m.height) id c cs (live_within m s) (record { birth = omega arith; rounds = tt }, (record { birth = omega arith; rounds = tt }, tt))))
+    }) (with_one (IsBornBy m.height) id c cs (live_within m s) (record { birth = omega arith; rounds = tt }, (record { birth = omega arith; rounds = tt }, tt)))
+    (λ e below follows. with_one (ComesFrom e.0 e.1) id c cs follows (newborn_comes m.height e id below)))
 
 -- ---- one memory changes in the round of the live height
 
 changed_kept : (m : Machine) (id : Bytes) (mem : Mem) (c : Canister) (new : Memory) → canister_in m.live id ≡ Some c → IsSound m
-    → Follows (memory_of c mem) new → state_pages m.live + pages_of new ≤ state_limit 1 + pages_of (memory_of c mem)
+    → MayReplace (memory_of c mem) new → state_pages m.live + pages_of new ≤ state_limit 1 + pages_of (memory_of c mem)
     → (HasPageRounds (memory_of c mem) → HasPageRounds new)
     → (AllByRecursion (λ r. r.1 ≤ m.height) (memory_of c mem).rounds → AllByRecursion (λ r. r.1 ≤ m.height) new.rounds)
+    → (IsMemory (memory_of c mem) → Advances m.height (memory_of c mem) new)
     → IsSound (record m { live = with_canister m.live id (with_memory c mem new) })
-changed_kept m id mem c new found s follows sum rounds low =
+changed_kept m id mem c new found s replaces sum rounds low advances =
     let cs = m.live.canisters in
     let d = with_memory c mem new in
     let one : (P : NamedMemory → Type 0) → AllByRecursion P (memories_of m.live) → (P (record { id = id; mem = mem; birth = c.birth; memory = memory_of c mem }) → P (record { id = id; mem = mem; birth = c.birth; memory = new }))
@@ -175,10 +212,20 @@ changed_kept m id mem c new found s follows sum rounds low =
     λ P h f. with_one P id d cs h (with_other P id c mem new (of_found P id c cs found h) f) in
     with_live m (with_canister m.live id d) s (record {
       valid = with_canisters m (put bytes_cmp id d cs) s
-          (changed id c d cs (canisters_of m.live s.live.valid s.live.version) found (with_new id c mem new follows) (omega (arith, sum, all_pages_are m.live, new_pages c mem new)));
+          (changed id c d cs (canisters_of m.live s.live.valid s.live.version) found (with_new id c mem new replaces)
+          (omega (arith, sum, all_pages_are m.live, new_pages c mem new)));
       version = s.live.version;
       rounds = one (λ n. HasPageRounds n.memory) s.live.rounds rounds;
     }) (one (IsBornBy m.height) (live_within m s) (λ born. record { birth = born.birth; rounds = low born.rounds }))
+    (λ e below follows. one (ComesFrom e.0 e.1) follows
+    (λ comes. advanced_comes m.height e (record { id = id; mem = mem; birth = c.birth; memory = memory_of c mem }) new below (advances was) comes))
+  where
+    at_mem : (x : Mem) → AllByRecursion (λ n. IsMemory n.memory) (named_memories ((id, c) ∷ [])) → IsMemory (memory_of c x)
+    at_mem Heap all = all.0
+    at_mem Stable all = all.1.0
+
+    was : IsMemory (memory_of c mem)
+    was = at_mem mem (of_found (λ n. IsMemory n.memory) id c m.live.canisters found (each_memory m.live.canisters s.live.valid.memories))
 
 pub grow_kept : (m : Machine) (id : Bytes) (mem : Mem) (n : ℕ) → IsSound m → IsSound (grow_step m id mem n).after
 grow_kept m id mem n s =
@@ -198,7 +245,8 @@ grow_kept m id mem n s =
     changed_kept m id mem c (grow old n) found s
     (record { whole = grow_good old n; bytes = grow_bytes old n; few = λ _. omega (arith, few, grow_pages old n) })
     (omega (arith, sum, grow_pages old n)) (grow_keeps_rounds old n)
-    (λ all. subst (AllByRecursion (λ r. r.1 ≤ m.height)) (sym (grow_rounds (memory_of c mem) n)) all)))
+    (λ all. subst (AllByRecursion (λ r. r.1 ≤ m.height)) (sym (grow_rounds (memory_of c mem) n)) all)
+    (grow_advances m.height (memory_of c mem) n)))
 
 pub write_kept : (m : Machine) (id : Bytes) (mem : Mem) (at : ℕ) (bytes : Bytes) → IsCommand (commands.Write id mem at bytes) → IsSound m → IsSound (write_step m id mem at bytes).after
 write_kept m id mem at bytes fits s =
@@ -226,4 +274,5 @@ write_kept m id mem at bytes fits s =
       few = λ few. subst (λ (n : ℕ). n ≤ memory_limit 1) (sym now) (written_few old at (length bytes) within few);
     })
     (omega (arith, sum, now, all_pages_are m.live, (canisters_of m.live s.live.valid s.live.version).room)) (write_keeps_rounds m.height old at bytes)
-    (write_each_round (λ r. r.1 ≤ m.height) m.height (memory_of c mem) at bytes (λ p. omega arith))))
+    (write_each_round (λ r. r.1 ≤ m.height) m.height (memory_of c mem) at bytes (λ p. omega arith))
+    (write_advances m.height (memory_of c mem) at bytes)))

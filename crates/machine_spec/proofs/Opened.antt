@@ -1,12 +1,12 @@
 -- The live state of a store that opens at a height.
 use Rattle.std.proofs.Common.{◌≡◌, ℕ, ◌≤◌, List, [], ◌∷◌, map, refl, sym, ap, ap₂, ◌∙◌, subst}
-use Rattle.std.specs.List.{AllByRecursion}
+use Rattle.std.specs.List.{AllByRecursion, AllZip}
 use Rattle.format_spec.specs.Bytes.{Bytes}
 use Rattle.state_spec.specs.FileOrder.{in_turn}
 use Rattle.state_spec.specs.State.{State, heap_bytes, stable_bytes, Canister, CanisterPart, HasPageRounds, IsState, SameState, part_of, canister_from, canisters_from, state_from, system_of, memory_bytes, without_history, canister_without_history}
 use Rattle.store_spec.specs.Image.{Published, SamePublished, opened_state}
-use Rattle.machine_spec.specs.Sound.{IsWholeState, IsWithin, IsBornBy, MayBegin}
-use Rattle.machine_spec.specs.States.{named_memories}
+use Rattle.machine_spec.specs.Sound.{IsWholeState, IsWithin, IsBornBy, AreTipLayers, MayBegin}
+use Rattle.machine_spec.specs.States.{memories_of, named_memories}
 use Rattle.machine_spec.proofs.Canisters.{Canisters}
 use Rattle.machine_spec.proofs.Valid.{IsGood, Named, back_good, canisters_of, entries_of, over_good, time_of, valid_from}
 
@@ -54,6 +54,20 @@ opened_whole p valid is =
       version = is;
       rounds = fresh_rounds p.height p.state.canisters;
     })
+
+-- layers are those of memories of as many pages
+fresh_layers : (h : ℕ) (cs : Canisters) (ls : List (List (List ℕ))) → AllZip AreTipLayers (named_memories cs) ls
+    → AllZip AreTipLayers (named_memories (map (fresh h) cs)) ls
+fresh_layers h [] [] all = tt
+fresh_layers h [] (l ∷ ls) all = absurd all
+fresh_layers h (c ∷ cs) [] all = absurd all
+fresh_layers h (c ∷ cs) (l ∷ []) all = absurd all.1
+fresh_layers h (c ∷ cs) (l ∷ k ∷ ls) all =
+    (record { few = all.0.few; each = all.0.each }, (record { few = all.1.0.few; each = all.1.0.each }, fresh_layers h cs ls all.1.1))
+
+pub opened_layers : (p : Published) → AllZip AreTipLayers (memories_of p.state) p.layers → AllZip AreTipLayers (memories_of (opened_state p)) p.layers
+opened_layers p all = subst (λ (s : State). AllZip AreTipLayers (memories_of s) p.layers) (sym (opened_is p))
+    (fresh_layers p.height p.state.canisters p.layers all)
 
 -- ---- heights that differ in births and rounds alone open alike
 
@@ -108,4 +122,6 @@ begins_alike p q same may = record {
   from_one = subst (λ (h : ℕ). 1 ≤ h) same.height may.from_one;
   valid = same_valid p.state q.state same.state may.valid may.version;
   version = sym (same_version p.state q.state same.state) ∙ may.version;
+  layers = subst (λ (l : List (List (List ℕ))). AllZip AreTipLayers (memories_of (opened_state q)) l) same.layers
+      (subst (λ (s : State). AllZip AreTipLayers (memories_of s) p.layers) (opens_alike p q same) may.layers);
 }

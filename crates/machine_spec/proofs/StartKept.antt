@@ -1,10 +1,13 @@
 -- The machine of a store that opens at published heights is sound, and so is one that begins again at the newest of them.
-use Rattle.std.proofs.Common.{◌≡◌, ℕ, ◌+◌, ◌<◌, List, [], ◌∷◌, Option, Some, None, refl, arith}
+use Rattle.std.proofs.Common.{◌≡◌, ℕ, ◌+◌, ◌<◌, false, List, [], ◌∷◌, Option, Some, None, refl, ap, ◌∙◌, inl, inr, arith, nat_le}
+use Rattle.std.proofs.lemmas.Bool.{le-leb}
 use Rattle.std.specs.List.{AllByRecursion, last_or}
+use Rattle.std.specs.Option.{option_map_or}
 use Rattle.state_spec.specs.State.{IsState}
-use Rattle.store_spec.specs.Image.{Published, heights_of}
+use Rattle.store_spec.specs.Image.{Published, heights_of, opened_state}
 use Rattle.machine_spec.specs.Machine.{Machine, anew, newest, machine_from, resumed_at}
-use Rattle.machine_spec.specs.Sound.{IsSound, AreHeights, MayBegin, EachLater, StartIsSound}
+use Rattle.machine_spec.specs.Sound.{IsSound, IsWholeState, IsWithin, AreHeights, MayBegin, EachLater, StartIsSound}
+use Rattle.machine_spec.proofs.Later.{follows_itself}
 use Rattle.machine_spec.proofs.Lists.{last_holds}
 use Rattle.machine_spec.specs.States.{empty_state}
 use Rattle.machine_spec.proofs.Opened.{opened_whole, opened_within}
@@ -21,14 +24,21 @@ up_to_newest (q ∷ r ∷ ps) p each e =
 resumed_sound : (m : Machine) (p : Published) → AreHeights m.published → newest m.published ≡ Some p → IsSound (machine_from p m)
 resumed_sound m p h e =
     let may : MayBegin p = last_holds MayBegin None m.published p tt h.each e in
+    let whole : IsWholeState (opened_state p) = opened_whole p may.valid may.version in
+    let within : IsWithin (p.height, opened_state p) = opened_within p p.height (omega arith) in
     record {
-      live = opened_whole p may.valid may.version;
+      live = whole;
       memory = tt;
-      within = (opened_within p (p.height + 1) (omega arith), tt);
+      base_whole = whole;
+      within = (within, (opened_within p (p.height + 1) (omega arith), tt));
       ascends = ((omega arith, tt), (tt, tt));
       published = h;
       above = up_to_newest m.published p h.ascend e;
       few_in_memory = omega arith;
+      above_base = omega arith;
+      base_low = inr (ap (λ (o : Option Published). option_map_or (λ q. nat_le p.height q.height) o false) e ∙ le-leb p.height p.height (omega arith));
+      in_order = ((follows_itself p.height (p.height + 1) (opened_state p) whole within, tt), (tt, tt));
+      tip = may.layers;
     }
 
 pub resumed_is_sound : (m : Machine) → IsSound m → IsSound (resumed_at (newest m.published) m)
@@ -41,6 +51,9 @@ resumed_is_sound m s = by (newest m.published) refl
 empty_valid : IsState empty_state
 empty_valid = valid_from empty_state refl (omega arith) (record { few = omega arith; sorted = refl; each = tt; room = omega arith })
     (record { few = omega arith; paths_ascend = refl; paths_apart = refl; fit = tt; bytes = tt })
+
+empty_whole : IsWholeState empty_state
+empty_whole = record { valid = empty_valid; version = refl; rounds = tt }
 
 -- nothing is published where there is no newest height
 none_above : (ps : List Published) → newest ps ≡ None → AllByRecursion (λ p. p.height < 1) ps
@@ -56,12 +69,17 @@ start_is_sound ps h = by (newest ps) refl
   where
     by : (o : Option Published) → newest ps ≡ o → IsSound (resumed_at o (anew ps))
     by None e = record {
-      live = record { valid = empty_valid; version = refl; rounds = tt };
+      live = empty_whole;
       memory = tt;
-      within = (tt, tt);
+      base_whole = empty_whole;
+      within = (tt, (tt, tt));
       ascends = ((omega arith, tt), (tt, tt));
       published = h;
       above = none_above ps e;
       few_in_memory = omega arith;
+      above_base = omega arith;
+      base_low = inl refl;
+      in_order = ((tt, tt), (tt, tt));
+      tip = tt;
     }
     by (Some p) e = resumed_sound (anew ps) p h e

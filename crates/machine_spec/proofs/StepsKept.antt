@@ -7,7 +7,7 @@ use Rattle.script_text.specs.declared.parsing.Parsed.TheVariants.{Silent, BadLin
 use Rattle.script_text.specs.declared.command.Command.{Command}
 use Rattle.script_text.specs.declared.command.Command.TheVariants.{Canister, Remove, Grow, Write, Module, Certify, Time}
 use Rattle.script_text.specs.declared.command.Command.TheVariants.{Put, Del, Read, Heights, Root, Manifest, Round, Forget, Tree, Witness, Check}
-use Rattle.script_text.specs.declared.command.Command.TheVariants.{Checkpoint, Scratch, Purge, Reset}
+use Rattle.script_text.specs.declared.command.Command.TheVariants.{Checkpoint, Layers, Sweep, Scratch, Purge, Reset}
 use Rattle.script_text.specs.declared.reply.Reply.TheVariants as replies
 use Rattle.machine_spec.specs.Machine.{Machine}
 use Rattle.machine_spec.specs.HeightSteps.{tree_root, counts_of}
@@ -17,7 +17,8 @@ use Rattle.machine_spec.specs.Answers.{Turn, after_by, after_line, after_turn, a
 use Rattle.machine_spec.specs.Sound.{IsSound, StepKeeps}
 use Rattle.machine_spec.proofs.LiveKept.{canister_kept, drop_kept, grow_kept, write_kept, module_kept, certify_kept, time_kept, put_kept, del_kept}
 use Rattle.script_text.proofs.Spelled.{line_spells}
-use Rattle.machine_spec.proofs.HeightKept.{asked_kept, round_kept, forget_kept, checkpoint_kept, purge_kept, reset_kept}
+use Rattle.machine_spec.proofs.HeightKept.{asked_kept, round_kept, forget_kept, layers_kept, purge_kept, reset_kept}
+use Rattle.machine_spec.proofs.PublishKept.{at_once_kept}
 
 pub step_keeps : (m : Machine) (command : Command) → StepKeeps m command
 step_keeps m (Canister id) c s = canister_kept m id c s
@@ -35,7 +36,9 @@ step_keeps m (Root at) c s = asked_kept m at (λ t. replies.Root (root_of t)) s
 step_keeps m (Manifest at) c s = asked_kept m at counts_of s
 step_keeps m Round c s = round_kept m s
 step_keeps m (Forget height) c s = forget_kept m height s
-step_keeps m Checkpoint c s = checkpoint_kept m s
+step_keeps m Checkpoint c s = at_once_kept m s
+step_keeps m (Layers id mem) c s = layers_kept m id mem s
+step_keeps m Sweep c s = s
 step_keeps m (Purge height) c s = purge_kept m height s
 step_keeps m (Reset height) c s = reset_kept m height s
 step_keeps m (Scratch at) c s = asked_kept m at (λ t. replies.Scratch (root_of t)) s

@@ -80,12 +80,12 @@ with_certified id c bytes short are g = record {
 -- ---- one memory
 
 -- a memory that may come in the place of another
-pub record Follows (old new : Memory) : Type 0 where
+pub record MayReplace (old new : Memory) : Type 0 where
   pub whole : IsMemory old → IsMemory new
   pub bytes : IsBytes old.bytes → IsBytes new.bytes
   pub few : pages_of old ≤ memory_limit 1 → pages_of new ≤ memory_limit 1
 
-pub with_new : (id : Bytes) (c : Canister) (mem : Mem) (new : Memory) → Follows (memory_of c mem) new → IsGood (id, c) → IsGood (id, with_memory c mem new)
+pub with_new : (id : Bytes) (c : Canister) (mem : Mem) (new : Memory) → MayReplace (memory_of c mem) new → IsGood (id, c) → IsGood (id, with_memory c mem new)
 with_new id c Heap new f g = record {
   fits = record { id = g.fits.id; wasm = g.fits.wasm; certified = g.fits.certified; heap = f.few g.fits.heap; stable = g.fits.stable };
   heap = f.whole g.heap;

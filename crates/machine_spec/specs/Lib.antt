@@ -1,12 +1,15 @@
 pub mod Answers
+pub mod CheckpointSteps
 pub mod Computing
 pub mod Costs
 pub mod HeightSteps
 pub mod LiveSteps
 pub mod Machine
+pub mod Rows
 pub mod Script
 pub mod Sound
 pub mod States
 pub mod Step
 pub mod StoreSteps
+pub mod TipSteps
 pub mod WitnessSteps

@@ -13,12 +13,23 @@ use Rattle.script_text.specs.declared.reply.Refusal.{Refusal}
 use Rattle.script_text.specs.declared.reply.Refusal.TheVariants.{NoCanister, NoHeight}
 use Rattle.machine_spec.specs.States.{empty_state, canister_in}
 
--- the live state and its height, the states in memory by their heights, and the published heights; both lists ascend
+-- The live state and its height, the states in memory by their heights, and the published heights; both lists ascend.
+-- The base, which is the height that the next checkpoint builds on, 0 for none; its state, which stays where that height
+-- is purged; and the layers of that state's memories, in the order of files, oldest first.
 pub record Machine : Type 0 where
   pub live : State
   pub height : ℕ
   pub memory : List (ℕ × State)
   pub published : List Published
+  pub base : ℕ
+  pub base_state : State
+  pub tip : List (List (List ℕ))
+
+-- a checkpoint: its height, the state there, and the bytes that each step but the last has still to append
+pub record Checkpointing : Type 0 where
+  pub height : ℕ
+  pub state : State
+  pub writes : List ℕ
 
 -- the newest of published heights
 abbrev pub newest : List Published → Option Published
@@ -26,11 +37,21 @@ newest ps = last_or None ps
 
 -- the machine of a store with these heights, where nothing is there yet to go on from
 abbrev pub anew : List Published → Machine
-anew ps = record { live = empty_state; height = 1; memory = []; published = ps }
+anew ps = record {
+  live = empty_state;
+  height = 1;
+  memory = [];
+  published = ps;
+  base = 0;
+  base_state = empty_state;
+  tip = [];
+}
 
--- the machine begun again at a published height: live is its state, one height above, and nothing is in memory
+-- the machine begun again at a published height: live is its state, one height above, nothing is in memory, and the height is
+-- the base
 abbrev pub machine_from : Published → Machine → Machine
-machine_from p m = record m { live = opened_state p; height = p.height + 1; memory = [] }
+machine_from p m =
+    record m { live = opened_state p; height = p.height + 1; memory = []; base = p.height; base_state = opened_state p; tip = p.layers }
 
 -- begun again at this height, if there is one
 abbrev pub resumed_at : Option Published → Machine → Machine
@@ -67,6 +88,11 @@ unless (check ∷ checks) m act = refused_if check.0 check.1 m (λ n. unless che
 abbrev pub unless_none : {A : Type 0} → Option A → Refusal → Machine → (A → Outcome) → Outcome
 unless_none None refusal m act = outcome_of (Refused refusal) m
 unless_none (Some x) refusal m act = act x
+
+-- the refusal of a value where there is one, else what the step does
+abbrev pub unless_some : {A : Type 0} → Option A → (A → Refusal) → Machine → (Machine → Outcome) → Outcome
+unless_some None refusal m act = act m
+unless_some (Some x) refusal m act = outcome_of (Refused (refusal x)) m
 
 -- what a step does with a canister of the live state
 abbrev pub on_canister : Machine → Bytes → (Canister → Outcome) → Outcome

@@ -1,7 +1,7 @@
 -- Plain states, as the steps of the machine change them.
-use Rattle.std.specs.Prelude.{ℕ, ◌+◌, ◌==◌, max, if◌then◌else◌, List, [], Option, None}
+use Rattle.std.specs.Prelude.{ℕ, ◌+◌, ◌==◌, ◌&&◌, Bool, true, false, max, if◌then◌else◌, List, [], find as first_with, Option, None}
 use Rattle.std.specs.FinMap.{find, put}
-use Rattle.format_spec.specs.Bytes.{Bytes, bytes_cmp}
+use Rattle.format_spec.specs.Bytes.{Bytes, bytes_cmp, same_bytes}
 use Rattle.state_spec.specs.State.{State, Canister, Memory, pages_of, system_of, all_pages, without}
 use Rattle.state_spec.specs.FileOrder.{in_turn}
 use Rattle.state_spec.specs.Memory.{no_memory, pages_for}
@@ -57,3 +57,15 @@ named_memories cs = in_turn (named_memory Heap) (named_memory Stable) cs
 
 abbrev pub memories_of : State → List NamedMemory
 memories_of s = named_memories s.canisters
+
+abbrev pub same_mem : Mem → Mem → Bool
+same_mem Heap Heap = true
+same_mem Stable Stable = true
+same_mem _ _ = false
+
+abbrev pub is_named : Bytes → Mem → NamedMemory → Bool
+is_named id mem n = same_bytes id n.id && same_mem mem n.mem
+
+-- a memory of a state
+abbrev pub memory_named : State → Bytes → Mem → Option NamedMemory
+memory_named s id mem = first_with (is_named id mem) (memories_of s)

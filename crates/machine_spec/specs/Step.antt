@@ -2,12 +2,14 @@
 use Rattle.script_text.specs.declared.command.Command.{Command}
 use Rattle.script_text.specs.declared.command.Command.TheVariants.{Canister, Remove, Grow, Write, Module, Certify, Time}
 use Rattle.script_text.specs.declared.command.Command.TheVariants.{Put, Del, Read, Heights, Root, Manifest, Round, Forget, Tree, Witness, Check}
-use Rattle.script_text.specs.declared.command.Command.TheVariants.{Checkpoint, Scratch, Purge, Reset}
+use Rattle.script_text.specs.declared.command.Command.TheVariants.{Checkpoint, Layers, Sweep, Scratch, Purge, Reset}
 use Rattle.machine_spec.specs.Machine.{Machine, Outcome}
 use Rattle.machine_spec.specs.LiveSteps.{canister_step, drop_step, grow_step, write_step, module_step, certify_step}
 use Rattle.machine_spec.specs.LiveSteps.{time_step, put_step, del_step, read_step}
 use Rattle.machine_spec.specs.HeightSteps.{heights_step, root_step, manifest_step, round_step, forget_step, tree_step}
-use Rattle.machine_spec.specs.StoreSteps.{checkpoint_step, purge_step, reset_step, scratch_step}
+use Rattle.machine_spec.specs.StoreSteps.{purge_step, reset_step, scratch_step}
+use Rattle.machine_spec.specs.TipSteps.{layers_step, sweep_step}
+use Rattle.machine_spec.specs.CheckpointSteps.{checkpoint_at_once}
 use Rattle.machine_spec.specs.WitnessSteps.{witness_step, check_step}
 
 abbrev pub step : Machine → Command → Outcome
@@ -26,7 +28,9 @@ step m (Root at) = root_step m at
 step m (Manifest at) = manifest_step m at
 step m Round = round_step m
 step m (Forget height) = forget_step m height
-step m Checkpoint = checkpoint_step m
+step m Checkpoint = checkpoint_at_once m
+step m (Layers id mem) = layers_step m id mem
+step m Sweep = sweep_step m
 step m (Purge height) = purge_step m height
 step m (Reset height) = reset_step m height
 step m (Scratch at) = scratch_step m at

@@ -1,15 +1,12 @@
 -- The steps of lines on published heights.
-use Rattle.std.specs.Prelude.{ℕ, ◌==◌, not, nat_le, Bool, false, List, [], ◌∷◌, ◌++◌, length}
-use Rattle.std.specs.Prelude.{is_some, None}
-use Rattle.std.specs.List.{last_or}
+use Rattle.std.specs.Prelude.{ℕ, ◌==◌, not, nat_le, Bool, false, List, [], ◌∷◌, is_some}
 use Rattle.std.specs.Option.{option_map_or}
-use Rattle.format_spec.specs.declared.limits.TheConstants.{MAX_PUBLISHED}
 use Rattle.state_spec.specs.Root.{root_of}
-use Rattle.store_spec.specs.Image.{Published, without_published, whole_layers}
+use Rattle.store_spec.specs.Image.{Published, without_published}
 use Rattle.script_text.specs.declared.command.HeightOrLive.{HeightOrLive}
 use Rattle.script_text.specs.declared.reply.Reply.TheVariants as replies
-use Rattle.script_text.specs.declared.reply.Refusal.TheVariants.{NoHeight, HeightLow, ManyMarks, LastHeight}
-use Rattle.machine_spec.specs.Machine.{Machine, Outcome, outcome_of, unless, unless_none, on_state, resumed_at, newest, published_at}
+use Rattle.script_text.specs.declared.reply.Refusal.TheVariants.{NoHeight, HeightLow, LastHeight}
+use Rattle.machine_spec.specs.Machine.{Machine, Outcome, outcome_of, unless, on_state, resumed_at, newest, published_at}
 
 -- there is a newest published height, and this one isn't above it
 abbrev pub is_low : ℕ → List Published → Bool
@@ -18,16 +15,6 @@ is_low h ps = option_map_or (λ p. nat_le h p.height) (newest ps) false
 -- this is the newest published height
 abbrev pub is_newest : ℕ → List Published → Bool
 is_newest h ps = option_map_or (λ p. p.height == h) (newest ps) false
-
--- `checkpoint` publishes the newest height in memory, which stays there
-abbrev pub checkpoint_step : Machine → Outcome
-checkpoint_step m = unless_none (last_or None m.memory) NoHeight m (λ k.
-    unless (
-    (is_low k.0 m.published, HeightLow)
-    ∷ (nat_le MAX_PUBLISHED (length m.published), ManyMarks)
-    ∷ []
-    ) m (λ m. outcome_of (replies.Published k.0 (root_of k.1))
-    (record m { published = m.published ++ record { height = k.0; state = k.1; layers = whole_layers k.1 } ∷ [] })))
 
 -- `purge H` removes a published height that isn't the newest
 abbrev pub purge_step : Machine → ℕ → Outcome

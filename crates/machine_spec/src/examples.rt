@@ -89,18 +89,27 @@ pub fn questions()
     ensures nowhere { (step (start (one_height ∷ [])) (commands.Tree (Height 2))).reply ≡ replies.Refused NoHeight }
 {}
 
-/// A checkpoint of one canister with one page appends a page file of 4,140 bytes and a mark of 200.
+/// A checkpoint of one canister with one page that was written appends a page file of 4,140 bytes and a mark of 200. What grew
+/// and wasn't written is in no page file.
 #[tactic(auto, unfolding(crate::specs::Computing::scripts_compute))]
-pub fn bytes_of_lines()
-    ensures appended { appends (machine_after (codes "canister 00\ngrow 00 heap 1\nround")) Checkpoint ≡ 4340 }
+pub fn bytes_that_lines_append()
+    ensures appended { appends (machine_after (codes "canister 00\nwrite 00 heap 0 01\nround")) Checkpoint ≡ 4340 }
+    ensures grown { appends (machine_after (codes "canister 00\ngrow 00 heap 1\nround")) Checkpoint ≡ 192 }
     ensures refused { appends (machine_after (codes "round\ncheckpoint")) Checkpoint ≡ 0 }
+{}
+
+/// A line that reads or writes bytes reads the pages that hold them, `root` and `scratch` read all, and a mark has its root.
+#[tactic(auto, unfolding(crate::specs::Computing::scripts_compute))]
+pub fn bytes_that_lines_read()
     ensures page { reads (start (one_height ∷ [])) (commands.Read (Height 1) (0 ∷ []) Heap 4094 2) ≡ 4096 }
-    ensures pages { reads (machine_after (codes "canister 00\ngrow 00 heap 2\nround\ncheckpoint")) (commands.Read (Height 1) (0 ∷ []) Heap 4095 2) ≡ 8192 }
+    ensures pages { reads (machine_after (codes "canister 00\ngrow 00 heap 2\nround\ncheckpoint")) (commands.Read Live (0 ∷ []) Heap 4095 2) ≡ 8192 }
     ensures past_end { reads (start (one_height ∷ [])) (commands.Read (Height 1) (0 ∷ []) Heap 4095 2) ≡ 0 }
-    ensures live { reads (start (one_height ∷ [])) (commands.Read Live (0 ∷ []) Heap 4094 2) ≡ 0 }
+    ensures written { reads (start (one_height ∷ [])) (commands.Write (0 ∷ []) Heap 4095 (1 ∷ 2 ∷ [])) ≡ 8192 }
+    ensures nothing_written { reads (start (one_height ∷ [])) (commands.Write (1 ∷ []) Heap 4095 (1 ∷ 2 ∷ [])) ≡ 0 }
     ensures all { reads (start (one_height ∷ [])) (Scratch (Height 1)) ≡ 4096 }
-    ensures again { reads (start (one_height ∷ [])) (commands.Reset 1) ≡ 4096 }
-    ensures nowhere { reads (start (one_height ∷ [])) (commands.Reset 2) ≡ 0 }
+    ensures live_root { reads (start (one_height ∷ [])) (commands.Root Live) ≡ 4096 }
+    ensures marked_root { reads (start (one_height ∷ [])) (commands.Root (Height 1)) ≡ 0 }
+    ensures again { reads (start (one_height ∷ [])) (commands.Reset 1) ≡ 0 }
 {}
 
 /// Lines on published heights where there are none.
@@ -115,8 +124,8 @@ pub fn nothing_published()
 pub fn checkpoints()
     ensures root { (step (machine_after (codes "round")) Checkpoint).reply ≡ replies.Published 1 (root_of empty_state) }
     ensures newest { (step (machine_after (codes "round\nround\ncheckpoint")) Heights).reply ≡ replies.Heights 3 (1 ∷ 2 ∷ []) (2 ∷ []) }
-    ensures layers { map (λ p. p.layers) (machine_after (codes "canister 00\ngrow 00 stable 2\nround\ncheckpoint")).published
-        ≡ ([] ∷ ((0 ∷ 1 ∷ []) ∷ []) ∷ []) ∷ [] }
+    ensures layers { map (λ p. p.layers) (machine_after (codes "canister 00\ngrow 00 stable 2\nwrite 00 stable 4096 01\nround\ncheckpoint")).published
+        ≡ ([] ∷ ((1 ∷ []) ∷ []) ∷ []) ∷ [] }
     ensures once { (step (machine_after (codes "round\ncheckpoint")) Checkpoint).reply ≡ replies.Refused HeightLow }
     ensures many { (step (after_script (start (map (λ h. record one_height { height = h }) (range_with_len 1 16))) (codes "round")) Checkpoint).reply
         ≡ replies.Refused ManyMarks }

@@ -7,3 +7,4 @@ pub mod Owned
 pub mod Plain
 pub mod Memories
 pub mod Laws
+pub mod Held

@@ -1,6 +1,7 @@
 //! Maps of a memory's pages: the layers of page files, and above them the pages that were written since. Forks share their pages.
 #![tactic(auto)]
 
+mod held;
 mod laws;
 mod map;
 mod own;
@@ -9,6 +10,7 @@ mod pieces;
 mod reads;
 mod writes;
 
+pub use held::{Held, HeldMem};
 pub use laws::{
     a_map_has_the_bytes_of_its_pages, a_map_is_its_memory_after_its_calls,
     a_map_is_its_memory_after_other_calls, a_map_reads_as_one,

@@ -1,13 +1,19 @@
 -- Forms, and words that are too few or too many for them.
 use Rattle.std.proofs.Common.{◌≡◌, List, [], ◌∷◌, length, map, None, refl}
 use Rattle.format_spec.specs.Bytes.{Bytes}
-use Rattle.script_text.specs.Commands.{module_command_of, grow_of, write_of, read_of}
+use Rattle.script_text.specs.Commands.{module_command_of, grow_of, layers_of, write_of, read_of}
 
 pub module_other : {W : Type 0} (bytes : W → Bytes) (rest : List W) → (length rest ≡ 2 → ⊥) → None ≡ module_command_of (map bytes rest)
 module_other bytes [] n = refl
 module_other bytes (p ∷ []) n = refl
 module_other bytes (p ∷ q ∷ []) n = absurd (n refl)
 module_other bytes (p ∷ q ∷ r ∷ more) n = refl
+
+pub layers_other : {W : Type 0} (bytes : W → Bytes) (rest : List W) → (length rest ≡ 2 → ⊥) → None ≡ layers_of (map bytes rest)
+layers_other bytes [] n = refl
+layers_other bytes (p ∷ []) n = refl
+layers_other bytes (p ∷ q ∷ []) n = absurd (n refl)
+layers_other bytes (p ∷ q ∷ r ∷ more) n = refl
 
 pub grow_other : {W : Type 0} (bytes : W → Bytes) (rest : List W) → (length rest ≡ 3 → ⊥) → None ≡ grow_of (map bytes rest)
 grow_other bytes [] n = refl

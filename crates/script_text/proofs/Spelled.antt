@@ -18,7 +18,8 @@ use Rattle.state_spec.specs.Id.{IsId}
 use Rattle.script_text.specs.declared.command.Command.{Command}
 use Rattle.script_text.specs.declared.command.Command.TheVariants as commands
 use Rattle.script_text.specs.declared.parsing.Parsed.TheVariants.{Silent}
-use Rattle.script_text.specs.Commands.{canister_of, certify_of, check_of, del_of, drop_of, forget_of, grow_of, manifest_of, module_command_of, purge_of, put_of, read_of, reset_of, root_of, scratch_of, time_of, tree_of, witness_of, write_of}
+use Rattle.script_text.specs.Commands.{canister_of, certify_of, check_of, del_of, drop_of, forget_of, grow_of, layers_of, manifest_of, module_command_of}
+use Rattle.script_text.specs.Commands.{purge_of, put_of, read_of, reset_of, root_of, scratch_of, time_of, tree_of, witness_of, write_of}
 use Rattle.script_text.specs.Commands.{Form, FoundSpells, IsCommand, SpellsCommand, alone, command_by, command_of, command_of_words, forms, parsed_line, parsed_by}
 use Rattle.script_text.specs.Script.{is_silent, words}
 use Rattle.script_text.specs.Words.{each_of, hash_of, height_of, height_or_live, hex_of, hex_up_to, id_of, is_label_byte, is_number, is_path_count, label_of, mem_of, module_of, number_of, number_up_to, onto, path_of, path_of_parts, paths_of, plain_label, such_that}
@@ -227,6 +228,14 @@ forget_spells (height ∷ []) =
     map_spells (λ h. commands.Forget h) (height_of height) (λ h e0. record { form = tt; types = tt })
 forget_spells (height ∷ more ∷ others) = tt
 
+layers_spells : (ws : List Bytes) → FoundSpells (layers_of ws)
+layers_spells [] = tt
+layers_spells (id ∷ []) = tt
+layers_spells (id ∷ mem ∷ []) =
+    then_spells (λ i. option_map (λ m. commands.Layers i m) (mem_of mem)) (id_of id)
+    (λ i e0. map_spells (λ m. commands.Layers i m) (mem_of mem) (λ m e1. record { form = tt; types = tt }))
+layers_spells (id ∷ mem ∷ more ∷ others) = tt
+
 root_spells : (ws : List Bytes) → FoundSpells (root_of ws)
 root_spells [] = tt
 root_spells (at ∷ []) =
@@ -319,7 +328,22 @@ all_forms = (
                         (
                           alone_spells commands.Checkpoint
                               (record { form = tt; types = tt }),
-                          (alone_spells commands.Heights (record { form = tt; types = tt }), (root_spells, (scratch_spells, (tree_spells, (manifest_spells, (purge_spells, (reset_spells, (witness_spells, (check_spells, tt))))))))),
+                          (
+                            layers_spells,
+                            (
+                              alone_spells commands.Sweep (record { form = tt; types = tt }),
+                              (
+                                alone_spells commands.Heights (record { form = tt; types = tt }),
+                                (
+                                  root_spells,
+                                  (
+                                    scratch_spells,
+                                    (tree_spells, (manifest_spells, (purge_spells, (reset_spells, (witness_spells, (check_spells, tt)))))),
+                                  ),
+                                ),
+                              ),
+                            ),
+                          ),
                         ),
                       ),
                     ),

@@ -86,6 +86,11 @@ abbrev pub forget_of : List Bytes → Option Command
 forget_of (height ∷ []) = option_map commands.Forget (height_of height)
 forget_of _ = None
 
+-- `layers ID MEM`
+abbrev pub layers_of : List Bytes → Option Command
+layers_of (id ∷ mem ∷ []) = option_and_then (λ i. option_map (λ m. commands.Layers i m) (mem_of mem)) (id_of id)
+layers_of _ = None
+
 -- `root HL`
 abbrev pub root_of : List Bytes → Option Command
 root_of (at ∷ []) = option_map commands.Root (height_or_live at)
@@ -150,6 +155,8 @@ forms =
     ∷ (codes "round", alone commands.Round)
     ∷ (codes "forget", forget_of)
     ∷ (codes "checkpoint", alone commands.Checkpoint)
+    ∷ (codes "layers", layers_of)
+    ∷ (codes "sweep", alone commands.Sweep)
     ∷ (codes "heights", alone commands.Heights)
     ∷ (codes "root", root_of)
     ∷ (codes "scratch", scratch_of)

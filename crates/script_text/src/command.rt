@@ -79,6 +79,13 @@ pub enum Command {
     },
     /// `checkpoint` publishes the newest height in memory.
     Checkpoint,
+    /// `layers ID MEM` asks how many pages the layers of a memory have.
+    Layers {
+        id: CanisterId,
+        mem: Mem,
+    },
+    /// `sweep` removes the files that aren't needed.
+    Sweep,
     /// `heights` asks which heights there are.
     Heights,
     /// `root HL` asks for the root hash of a state's manifest.

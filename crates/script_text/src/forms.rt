@@ -2,7 +2,7 @@
 
 ghost use Rattle.std.specs.Prelude.{◌≡◌, IfOk, map};
 ghost use Rattle.script_text.specs.Commands.{alone as alone_of, canister_of, drop_of, grow_of, write_of, module_command_of, certify_of};
-ghost use Rattle.script_text.specs.Commands.{time_of, put_of, del_of, read_of, forget_of};
+ghost use Rattle.script_text.specs.Commands.{time_of, put_of, del_of, read_of, forget_of, layers_of};
 ghost use Rattle.script_text.specs.Commands.{root_of, scratch_of, tree_of, manifest_of, purge_of, reset_of};
 ghost use Rattle.script_text.specs.Commands.{witness_of, check_of, FitsForm, FoundFits};
 
@@ -191,6 +191,19 @@ pub fn forget(rest: &[&[u8]]) -> Option<Command>
     };
     let height = read_height(height)?;
     Some(Command::Forget { height })
+}
+
+/// `layers ID MEM`
+pub fn layers(rest: &[&[u8]]) -> Option<Command>
+    ensures command { result ≡ layers_of (map (λ word. word.now) rest.now) }
+    ensures fits { FoundFits result }
+{
+    let [id, mem] = rest else {
+        return None;
+    };
+    let id = read_id(id)?;
+    let mem = read_mem(mem)?;
+    Some(Command::Layers { id, mem })
 }
 
 /// `root HL`

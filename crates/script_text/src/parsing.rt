@@ -6,8 +6,8 @@ ghost use Rattle.script_text.specs.Script.{is_silent as is_silent_line};
 
 use crate::command::Command;
 use crate::forms::{
-    alone, canister, certify, check, del, drop, forget, grow, manifest, module, purge, put, read,
-    reset, root, scratch, time, tree, witness, write,
+    alone, canister, certify, check, del, drop, forget, grow, layers, manifest, module, purge, put,
+    read, reset, root, scratch, time, tree, witness, write,
 };
 use crate::words::words_of;
 use byte_codec::NoMemory;
@@ -50,6 +50,8 @@ fn read_form(alloc: Global, word: &[u8], rest: &[&[u8]]) -> Result<Option<Comman
         _ if word == b"round".as_slice() => Ok(alone(Command::Round, rest)),
         _ if word == b"forget".as_slice() => Ok(forget(rest)),
         _ if word == b"checkpoint".as_slice() => Ok(alone(Command::Checkpoint, rest)),
+        _ if word == b"layers".as_slice() => Ok(layers(rest)),
+        _ if word == b"sweep".as_slice() => Ok(alone(Command::Sweep, rest)),
         _ if word == b"heights".as_slice() => Ok(alone(Command::Heights, rest)),
         _ if word == b"root".as_slice() => Ok(root(rest)),
         _ if word == b"scratch".as_slice() => Ok(scratch(rest)),

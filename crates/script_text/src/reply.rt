@@ -3,9 +3,10 @@
 use crate::numbers::Numbers;
 use byte_codec::Blob;
 use hash_domain::Hash32;
+use sys_state::{CanisterId, Mem};
 
 /// Why a command changes nothing.
-#[derive(Clone, Copy, Debug, PartialEq, Eq)]
+#[derive(Debug, Drop)]
 pub enum Refusal {
     /// The canister is there.
     Exists,
@@ -37,6 +38,10 @@ pub enum Refusal {
     HeightLow,
     /// As many heights are published as may be.
     ManyMarks,
+    /// This memory has pages to write, and as many layers as it may have: they have to be merged first.
+    NeedsMerge { id: CanisterId, mem: Mem },
+    /// The memory has no layer.
+    NoLayer,
     /// The height is the newest published one.
     LastHeight,
     /// The bytes are no witness: the field at this place, in bytes, breaks its rule.
@@ -62,6 +67,10 @@ pub enum Reply {
         height: u64,
         root: Hash32,
     },
+    /// `layers N S1 .. SN`: how many layers a memory has, and the pages of each, oldest first.
+    Layers(Numbers),
+    /// `swept`: the files that weren't needed are gone.
+    Swept,
     /// `heights live L memory A,B published C,D`: the live height, the heights in memory and those published.
     Heights {
         live: u64,

@@ -5,6 +5,7 @@ use std::alloc::Global;
 use std::process::Abort;
 use std::rt::HostRuntime;
 use std::test::Fail;
+use sys_state::{CanisterId, Mem};
 
 // Lines that fit a form.
 const GOOD: &[&str] = &[
@@ -12,6 +13,9 @@ const GOOD: &[&str] = &[
     "forget 1",
     "forget 4611686018427387904",
     "checkpoint",
+    "layers 00 heap",
+    "layers ff00 stable",
+    "sweep",
     "scratch live",
     "scratch 3",
     "purge 1",
@@ -45,8 +49,13 @@ const BAD: &[&str] = &[
     "reset 4611686018427387905",
     "step checkpoint",
     "merge 00 heap",
-    "layers 00 heap",
-    "sweep",
+    "layers",
+    "layers 00",
+    "layers 00 stack",
+    "layers 0 heap",
+    "layers 00 heap 1",
+    "sweep 1",
+    "sweeps",
     "sync 1 0000000000000000000000000000000000000000000000000000000000000000",
     "stop sync",
     "tree",
@@ -126,6 +135,33 @@ fn replies_with_bytes_are_written(rt: HostRuntime) -> Result<(), Fail> {
     let nothing = Blob::from_slice(alloc, &[])?;
     check_text(&rt, alloc, &Reply::Found(nothing), "found -")?;
     check_text(&rt, alloc, &Reply::Absent, "absent")
+}
+
+#[test]
+fn layers_are_written(rt: HostRuntime) -> Result<(), Fail> {
+    let alloc = rt.alloc();
+    let mut sizes = Vec::new(alloc);
+    sizes.push(3)?;
+    sizes.push(12)?;
+    check_text(
+        &rt,
+        alloc,
+        &Reply::Layers(Numbers::new(sizes)),
+        "layers 2 3 12",
+    )?;
+    check_text(&rt, alloc, &Reply::Swept, "swept")?;
+    check_refusal(&rt, alloc, Refusal::NoLayer, "refused NoLayer")
+}
+
+#[test]
+fn a_memory_that_needs_a_merge_is_named(rt: HostRuntime) -> Result<(), Fail> {
+    let alloc = rt.alloc();
+    let id = CanisterId::new(&[0, 255]).ok_or("no id")?;
+    let refusal = Refusal::NeedsMerge {
+        id,
+        mem: Mem::Stable,
+    };
+    check_refusal(&rt, alloc, refusal, "refused NeedsMerge 00ff stable")
 }
 
 #[test]

@@ -3,13 +3,15 @@
 ghost use Rattle.std.specs.Prelude.{◌≡◌, ◌++◌, IfOk, OnOk, codes, decimal};
 ghost use Rattle.std.specs.List.{flat_map};
 ghost use Rattle.hex.specs.Hex.{encode_lower};
-ghost use Rattle.script_text.specs.Texts.{hex_or_dash, numbers_text, refusal_text, reply_text as text_of, bad_line_text};
+ghost use Rattle.script_text.specs.Texts.{hex_or_dash, mem_text, numbers_text, spaced_numbers, refusal_text, reply_text as text_of};
+ghost use Rattle.script_text.specs.Texts.{bad_line_text};
 
 use crate::reply::{Refusal, Reply};
 use byte_codec::{Blob, NoMemory};
 use hash_domain::Hash32;
 use itoa::Buffer;
 use std::alloc::Global;
+use sys_state::{CanisterId, Mem};
 
 fn write_number(number: u64, out: &mut Vec<u8>) -> Result<(), NoMemory>
     ensures { OnOk result (out.new.items ≡ out.old.items ++ decimal number) }
@@ -96,6 +98,33 @@ fn write_bytes(name: &[u8], bytes: &Blob, out: &mut Vec<u8>) -> Result<(), NoMem
     write_hex(bytes.bytes(), out)
 }
 
+// A name and a memory.
+fn write_mem(name: &[u8], mem: Mem, out: &mut Vec<u8>) -> Result<(), NoMemory>
+    ensures { OnOk result (out.new.items ≡ out.old.items ++ (name.now ++ mem_text mem)) }
+{
+    out.extend_from_slice(name)?;
+    match mem {
+        Mem::Heap => out.extend_from_slice(b"heap")?,
+        Mem::Stable => out.extend_from_slice(b"stable")?,
+    }
+    Ok(())
+}
+
+// A name and an id.
+fn write_id(name: &[u8], id: &CanisterId, out: &mut Vec<u8>) -> Result<(), NoMemory>
+    ensures { OnOk result (out.new.items ≡ out.old.items ++ (name.now ++ encode_lower id.now)) }
+{
+    out.extend_from_slice(name)?;
+    write_digits(id.bytes(), out)
+}
+
+fn write_needs_merge(id: &CanisterId, mem: Mem, out: &mut Vec<u8>) -> Result<(), NoMemory>
+    ensures { OnOk result (out.new.items ≡ out.old.items ++ refusal_text (Refusal.NeedsMerge id.now mem)) }
+{
+    write_id(b"NeedsMerge ", id, out)?;
+    write_mem(b" ", mem, out)
+}
+
 fn write_refusal(refusal: &Refusal, out: &mut Vec<u8>) -> Result<(), NoMemory>
     ensures { OnOk result (out.new.items ≡ out.old.items ++ refusal_text refusal.now) }
 {
@@ -115,6 +144,8 @@ fn write_refusal(refusal: &Refusal, out: &mut Vec<u8>) -> Result<(), NoMemory>
         Refusal::HeightLimit => out.extend_from_slice(b"HeightLimit")?,
         Refusal::HeightLow => out.extend_from_slice(b"HeightLow")?,
         Refusal::ManyMarks => out.extend_from_slice(b"ManyMarks")?,
+        Refusal::NeedsMerge { id, mem } => write_needs_merge(id, *mem, out)?,
+        Refusal::NoLayer => out.extend_from_slice(b"NoLayer")?,
         Refusal::LastHeight => out.extend_from_slice(b"LastHeight")?,
         Refusal::BadWitness(place) => write_count(b"BadWitness ", *place, out)?,
         Refusal::WrongRoot(found) => write_hash(b"WrongRoot ", found, out)?,
@@ -134,6 +165,24 @@ fn write_published(height: u64, root: &Hash32, out: &mut Vec<u8>) -> Result<(), 
 {
     write_count(b"published ", height, out)?;
     write_hash(b" root ", root, out)
+}
+
+// Numbers, each behind a space.
+fn write_spaced(numbers: &[u64], out: &mut Vec<u8>) -> Result<(), NoMemory>
+    ensures { OnOk result (out.new.items ≡ out.old.items ++ spaced_numbers numbers.now) }
+{
+    for number in numbers {
+        write_count(b" ", *number, out)?;
+    }
+    Ok(())
+}
+
+fn write_layers(sizes: &[u64], out: &mut Vec<u8>) -> Result<(), NoMemory>
+    ensures { OnOk result (out.new.items ≡ out.old.items ++ text_of (Reply.Layers sizes.now)) }
+{
+    write_count(b"layers ", sizes.len() as u64, out)?;
+    write_spaced(sizes, out)?;
+    Ok(())
 }
 
 fn write_heights(
@@ -175,6 +224,8 @@ pub fn write_reply(reply: &Reply, out: &mut Vec<u8>) -> Result<(), NoMemory>
         Reply::Bytes(bytes) => write_bytes(b"data ", bytes, out)?,
         Reply::Round { height, tree } => write_round(*height, tree, out)?,
         Reply::Published { height, root } => write_published(*height, root, out)?,
+        Reply::Layers(sizes) => write_layers(sizes.items(), out)?,
+        Reply::Swept => out.extend_from_slice(b"swept")?,
         Reply::Heights {
             live,
             memory,

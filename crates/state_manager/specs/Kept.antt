@@ -1,110 +1,107 @@
--- What a manager holds, and which plain machines it and its disk keep.
-use Rattle.std.specs.Prelude.{◌≡◌, ◌==◌, ◌≤◌, ℕ, IsTrue, OnOk, Bool, true, false, if◌then◌else◌, List, [], ◌∷◌, find, Option, Some, None, is_some, Result, Ok, Err, ⊤}
-use Rattle.std.specs.List.{AllByRecursion, AllZip, last_or}
-use Rattle.std.specs.Option.{option_map_or}
-use Rattle.format_spec.specs.declared.limits.TheConstants.{MAX_HEIGHT}
+-- Which plain machines a manager and its disk keep.
+use Rattle.std.specs.Prelude.{◌≡◌, ℕ, ◌≤◌, Bool, true, false, IsTrue, OnOk, List, Option, None, Result, Ok, Err}
+use Rattle.std.specs.List.{AllByRecursion, AllZip}
 use Rattle.byte_codec.specs.declared.error.NoMemory.{NoMemory}
 use Rattle.state_spec.specs.State.{State}
+use Rattle.disk_model.specs.declared.name.Name.{Name}
+use Rattle.disk_model.specs.declared.disk.DiskError.{DiskError}
 use Rattle.disk_model.specs.State.{DiskState, IsSettled}
 use Rattle.disk_model.specs.Spending.{Spends}
 use Rattle.disk_model.specs.View.{DiskView, LeavesOnly}
-use Rattle.disk_model.specs.declared.disk.DiskError.{DiskError}
-use Rattle.height_store.specs.Store.{Store, StoredHeight, GivesFew, height_at, heights_in}
+use Rattle.disk_model.specs.Frame.{TouchesOnly}
+use Rattle.page_map.specs.Plain.{PlainMap}
+use Rattle.page_map.specs.Memories.{AreSealed}
+use Rattle.height_store.specs.Store.{GivesFew}
 use Rattle.height_store.specs.Kept.{MatchesFiles, KeepsHeights, StandsForEither}
-use Rattle.height_store.specs.Known.{KnowsHeight, bytes_at}
+use Rattle.height_store.specs.Known.{KnowsHeight}
 use Rattle.script_text.specs.declared.command.Command.{Command}
-use Rattle.script_text.specs.declared.command.Command.TheVariants.{Read, Scratch, Checkpoint, Purge, Reset}
-use Rattle.script_text.specs.declared.command.HeightOrLive.{HeightOrLive}
-use Rattle.script_text.specs.declared.command.HeightOrLive.TheVariants.{Live, Height}
 use Rattle.script_text.specs.declared.reply.Reply.{Reply}
 use Rattle.machine_spec.specs.Costs.{appends, reads}
 use Rattle.machine_spec.specs.Machine.{Machine}
 use Rattle.machine_spec.specs.Sound.{IsSound}
 use Rattle.machine_spec.specs.Step.{step}
-use Rattle.live_state.specs.StateKept.{StateView, KeepsState, live_of}
+use Rattle.live_state.specs.StateKept.{HeldHeight, KeepsAt, live_of}
+use Rattle.checkpoint_job.specs.Tip.{KeepsTip}
+use Rattle.checkpoint_job.specs.Written.{AreNamedFirm}
 use Rattle.state_manager.specs.declared.stop.Stop.{Stop}
+use Rattle.state_manager.specs.Held.{ManagerView, is_needed_name}
+use Rattle.state_manager.specs.Line.{SparesNeeded, SweepsFor, StaysBelow}
 
--- the live state, the states in memory, ascending by height, the published heights, and how an earlier call stopped
-pub record ManagerView : Type 0 where
-  pub live : StateView
-  pub memory : List StateView
-  pub store : Store
-  pub stopped : Option Stop
+-- A state in memory, over this disk. Where it is below the base, its own pages are those written after an earlier base.
+pub record KeepsInMemory (s : DiskState) (b : ℕ) (held : HeldHeight PlainMap) (k : ℕ × State) : Type 0 where
+  pub since : ℕ
+  pub at_base : b ≤ k.0 → since ≡ b
+  pub keeps : KeepsAt s since held k
 
--- heights in memory are at most 2^62
-abbrev pub HaveHeights : ManagerView → Type 0
-HaveHeights held = AllByRecursion (λ state. state.height ≤ MAX_HEIGHT) held.memory
-
--- the state in memory that a line asks about
-abbrev pub held_at : ManagerView → HeightOrLive → Option StateView
-held_at held Live = Some held.live
-held_at held (Height h) = find (λ state. state.height == h) held.memory
-
--- what is published at the height that a line asks about
-abbrev pub published_height : ManagerView → HeightOrLive → Option StoredHeight
-published_height held Live = None
-published_height held (Height h) = height_at held.store.heights h
-
--- the bytes of the memories of the newest published height
-abbrev pub newest_bytes : List StoredHeight → ℕ
-newest_bytes hs = option_map_or (bytes_at hs) (last_or None (heights_in hs)) 0
-
--- each state in memory is the machine's
-abbrev pub KeepsEach : List StateView → List (ℕ × State) → Type 0
-KeepsEach [] [] = ⊤
-KeepsEach (held ∷ helds) (k ∷ ks) = KeepsState held k × KeepsEach helds ks
-KeepsEach _ _ = ⊥
-
--- What the manager holds in memory is that machine's, but for the rounds of pages, and each published height is known.
-pub record KeepsStates (held : ManagerView) (m : Machine) : Type 0 where
+-- The manager and its disk are that machine, which is sound. In memory: numbers, systems and layers. On the disk: every image now
+-- stands for the machine's published heights, and the page files of maps and tip are there and read as the machine's bytes.
+pub record Keeps (held : ManagerView PlainMap) (s : DiskState) (m : Machine) : Type 0 where
   pub usable : held.stopped ≡ None
-  pub live : KeepsState held.live (live_of m)
-  pub memory : KeepsEach held.memory m.memory
-  pub published : AllZip KnowsHeight held.store.heights m.published
-
--- The manager and its disk are that machine, which is sound: besides, every image of the disk stands for the machine's
--- published heights, nothing is pending, and the store is over the files.
-pub record Keeps (held : ManagerView) (s : DiskState) (m : Machine) : Type 0 where
   pub sound : IsSound m
-  pub states : KeepsStates held m
+  pub base : held.base ≡ m.base
+  pub published : AllZip KnowsHeight held.store.heights m.published
   pub over : MatchesFiles held.store s.files
   pub settled : IsSettled s
   pub heights : KeepsHeights held.store.heights s m.published
+  pub live : KeepsAt s m.base held.live (live_of m)
+  pub memory : AllZip (KeepsInMemory s m.base) held.memory m.memory
+  pub tip : KeepsTip s held.tip m
 
--- whether a line may read or change the disk
-abbrev pub needs_disk : Command → Bool
-needs_disk (Read at id mem offset len) = true
-needs_disk (Scratch at) = true
-needs_disk Checkpoint = true
-needs_disk (Purge height) = true
-needs_disk (Reset height) = true
-needs_disk command = false
+-- ---- what the manager needs of its disk, whatever machine is kept
 
--- the reply to a command that needs no disk is that of the machine's step; the machine after it is kept, and its published
--- heights are the same
-abbrev pub Performs : Result Reply NoMemory → ManagerView → Machine → Command → Type 0
-Performs (Ok reply) now m command =
-    (reply ≡ (step m command).reply) × KeepsStates now (step m command).after × ((step m command).after.published ≡ m.published)
-Performs (Err e) now m command = Unit {0}
+abbrev pub StateIsOn : DiskState → HeldHeight PlainMap → Type 0
+StateIsOn s h = AllByRecursion (λ m. AreSealed s m.map.stack) h.state.mems
+
+-- the files are as the last call left them, and those that are needed are sealed
+pub record IsLeftOn (held : ManagerView PlainMap) (s : DiskState) : Type 0 where
+  pub over : MatchesFiles held.store s.files
+  pub firm : AreNamedFirm s held.store.heights
+  pub live : StateIsOn s held.live
+  pub memory : AllByRecursion (StateIsOn s) held.memory
+  pub tip : AllByRecursion (λ t. AreSealed s t.stack) held.tip
+
+-- ---- calls that touch nothing that is needed
+
+-- What is kept is kept through calls that are given no name which the manager needs, where no name is pending afterwards and the
+-- store is still over the files.
+abbrev pub KeptThrough : ManagerView PlainMap → Machine → (Name → Bool) → DiskView → DiskView → Type 0
+KeptThrough held m given old new =
+    ((q : Name) → is_needed_name held q ≡ true → given q ≡ false) → TouchesOnly given old new
+    → IsSettled new.state → MatchesFiles held.store new.state.files
+    → Keeps held old.state m → Keeps held new.state m
+
+-- ---- what a line does
 
 -- the reply to a command is that of the machine's step, and the machine after it is kept
-abbrev pub PerformsOn : Result Reply DiskError → ManagerView → DiskState → Machine → Command → Type 0
+abbrev pub PerformsOn : {E : Type 0} → Result Reply E → ManagerView PlainMap → DiskState → Machine → Command → Type 0
 PerformsOn (Ok reply) now s m command = (reply ≡ (step m command).reply) × Keeps now s (step m command).after
 PerformsOn (Err e) now s m command = Unit {0}
 
 -- the same of a call that may stop
-abbrev pub Applies : Result Reply Stop → ManagerView → DiskState → Machine → Command → Type 0
+abbrev pub Applies : Result Reply Stop → ManagerView PlainMap → DiskState → Machine → Command → Type 0
 Applies (Ok reply) now s m command = (reply ≡ (step m command).reply) × Keeps now s (step m command).after
 Applies (Err stop) now s m command = Unit {0}
 
--- What a line that may call the disk does, whatever it answers: while it runs every image stands for the published heights
--- before it or for those after the machine's step, and it gives few numbers to page files. Where it is answered, it has appended
--- just the bytes that the machine says, and read no more.
-pub record DoesLine (tells : Bool) (old new : ManagerView) (before after : DiskView) (result : Result Reply DiskError) (command : Command) : Type 0 where
+-- What a line does, whatever it answers: while it runs every image stands for the published heights before it or for those after
+-- the machine's step, no needed page file changes, and few numbers are given. Where it is answered, it has appended just the
+-- bytes that the machine says, and read no more.
+pub record DoesLine (tells : Bool) (old new : ManagerView PlainMap) (before after : DiskView) (result : Result Reply DiskError) (command : Command) : Type 0 where
   pub reply : IsTrue tells → (m : Machine) → Keeps old before.state m → PerformsOn result new after.state m command
   pub images : IsTrue tells → (m : Machine) → Keeps old before.state m
       → LeavesOnly before after (StandsForEither m.published (step m command).after.published)
-  pub over : IsTrue tells → OnOk result (MatchesFiles new.store after.state.files)
+  pub left : IsTrue tells → OnOk result (IsLeftOn new after.state)
+  pub needed : IsTrue tells → (m : Machine) → Keeps old before.state m → SparesNeeded old new before after
+  pub swept : IsTrue tells → (m : Machine) → Keeps old before.state m → OnOk result (SweepsFor command new after.state)
   pub spends : IsTrue tells → (m : Machine) → Keeps old before.state m → OnOk result (Spends (appends m command) (reads m command) before after)
+  pub below : OnOk result (StaysBelow old new)
   pub numbers_given : GivesFew old.store new.store
+  pub same : new.stopped ≡ old.stopped
+
+-- What a line does that needs no disk, over whatever disk there is; the published heights are the same.
+pub record DoesInMemory (old new : ManagerView PlainMap) (result : Result Reply NoMemory) (command : Command) : Type 0 where
+  pub reply : (s : DiskState) (m : Machine) → Keeps old s m
+      → PerformsOn result new s m command × ((step m command).after.published ≡ m.published)
+  pub left : (s : DiskState) → IsLeftOn old s → OnOk result (IsLeftOn new s)
+  pub below : OnOk result (StaysBelow old new)
+  pub store : new.store ≡ old.store
   pub same : new.stopped ≡ old.stopped

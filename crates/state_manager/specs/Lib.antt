@@ -1,3 +1,7 @@
-pub mod Causes
+pub mod Commands
+pub mod Asked
+pub mod Held
+pub mod Line
 pub mod Kept
-pub mod Publishes
+pub mod Through
+pub mod Causes

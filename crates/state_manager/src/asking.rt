@@ -1,21 +1,17 @@
 //! Lines that ask about a height: of what is published there first, and else of the state in memory.
 
 ghost use Rattle.std.specs.Prelude.{◌≡◌, ◌≤◌, length, IsTrue};
-ghost use Rattle.std.specs.Option.{option_copied};
 ghost use Rattle.disk_model.specs.Causes.{Fails};
-ghost use Rattle.height_store.specs.Kept.{MatchesFiles};
-ghost use Rattle.machine_spec.specs.Machine.{Machine};
-ghost use Rattle.state_manager.specs.Kept.{KeepsStates, Performs, DoesLine, held_at, published_height};
+ghost use Rattle.state_manager.specs.Kept.{DoesInMemory, DoesLine, IsLeftOn};
 
-use crate::in_memory::{find_height, keep_tree_at};
+use crate::in_memory::{keep_tree_at, state_at};
 use crate::manager::Manager;
 use crate::published::{
-    count_published, load, read_published, root_published, tree_published, witness_published,
+    count_published, published_at, read_published, root_published, scratch_published, tree_published,
+    witness_published,
 };
 use byte_codec::NoMemory;
 use disk_model::{Disk, DiskError};
-use height_store::PublishedHeight;
-use live_state::HeightState;
 use script_text::{Command, HeightOrLive, Refusal, Reply};
 use std::alloc::Global;
 use sys_state::{CanisterId, Mem, Path};
@@ -23,7 +19,7 @@ use sys_state::{CanisterId, Mem, Path};
 impl Manager {
     // `read HL ID MEM OFFSET LEN`
     pub(crate) fn read<D: Disk>(
-        &self,
+        &mut self,
         alloc: Global,
         at: HeightOrLive,
         id: &CanisterId,
@@ -32,76 +28,81 @@ impl Manager {
         len: u64,
         disk: &mut D,
     ) -> Result<Reply, DiskError>
-        requires over { IsTrue D.tells → MatchesFiles self.now.store (D.view disk.old).state.files }
-        ensures line { DoesLine D.tells self.now self.now (D.view disk.old) (D.view disk.new) result (Command.Read at id.now mem offset len) }
+        requires left { IsTrue D.tells → IsLeftOn self.old (D.view disk.old).state }
+        ensures line { DoesLine D.tells self.old self.new (D.view disk.old) (D.view disk.new) result (Command.Read at id.now mem offset len) }
         ensures cause { Fails D.Disk disk.old disk.new result }
     {
-        if let Some(found) = self.published_at(at) {
+        if let Some(found) = published_at(&self.store, at) {
             return read_published(alloc, found, disk, id, mem, offset, len);
         }
-        match self.state_at(at) {
-            Some(state) => Ok(state.read(alloc, id, mem, offset, len)?),
+        match state_at(&self.live, &self.memory, at) {
+            Some(state) => state.read(alloc, &mut self.pages, disk, id, mem, offset, len),
             None => Ok(Reply::Refused(Refusal::NoHeight)),
         }
     }
 
     // `scratch HL`
     pub(crate) fn scratch<D: Disk>(
-        &self,
+        &mut self,
         alloc: Global,
         at: HeightOrLive,
         disk: &mut D,
     ) -> Result<Reply, DiskError>
-        requires over { IsTrue D.tells → MatchesFiles self.now.store (D.view disk.old).state.files }
-        ensures line { DoesLine D.tells self.now self.now (D.view disk.old) (D.view disk.new) result (Command.Scratch at) }
+        requires left { IsTrue D.tells → IsLeftOn self.old (D.view disk.old).state }
+        ensures line { DoesLine D.tells self.old self.new (D.view disk.old) (D.view disk.new) result (Command.Scratch at) }
         ensures cause { Fails D.Disk disk.old disk.new result }
     {
-        if let Some(found) = self.published_at(at) {
-            let state = load(alloc, found, disk)?;
-            return Ok(Reply::Scratch(state.root(alloc)?));
+        if let Some(found) = published_at(&self.store, at) {
+            return scratch_published(alloc, found, &mut self.pages, disk);
         }
-        match self.state_at(at) {
-            Some(state) => Ok(Reply::Scratch(state.root(alloc)?)),
+        match state_at(&self.live, &self.memory, at) {
+            Some(state) => Ok(Reply::Scratch(state.root(alloc, &mut self.pages, disk)?)),
             None => Ok(Reply::Refused(Refusal::NoHeight)),
         }
     }
 
-    // `root HL`
-    pub(crate) fn root(&self, alloc: Global, at: HeightOrLive) -> Result<Reply, NoMemory>
-        ensures { (m : Machine) → KeepsStates self.now m → Performs result self.now m (Command.Root at) }
+    // `root HL`: of a published height that of its mark, else from all bytes.
+    pub(crate) fn root<D: Disk>(
+        &mut self,
+        alloc: Global,
+        at: HeightOrLive,
+        disk: &mut D,
+    ) -> Result<Reply, DiskError>
+        requires left { IsTrue D.tells → IsLeftOn self.old (D.view disk.old).state }
+        ensures line { DoesLine D.tells self.old self.new (D.view disk.old) (D.view disk.new) result (Command.Root at) }
+        ensures cause { Fails D.Disk disk.old disk.new result }
     {
-        if let Some(found) = self.published_at(at) {
+        if let Some(found) = published_at(&self.store, at) {
             return Ok(root_published(found));
         }
-        match self.state_at(at) {
-            Some(state) => Ok(Reply::Root(state.root(alloc)?)),
+        match state_at(&self.live, &self.memory, at) {
+            Some(state) => Ok(Reply::Root(state.root(alloc, &mut self.pages, disk)?)),
             None => Ok(Reply::Refused(Refusal::NoHeight)),
         }
     }
 
     // `manifest HL`
     pub(crate) fn count_manifest(&self, alloc: Global, at: HeightOrLive) -> Result<Reply, NoMemory>
-        ensures { (m : Machine) → KeepsStates self.now m → Performs result self.now m (Command.Manifest at) }
+        ensures { DoesInMemory self.now self.now result (Command.Manifest at) }
     {
-        if let Some(found) = self.published_at(at) {
+        if let Some(found) = published_at(&self.store, at) {
             return Ok(count_published(found));
         }
-        match self.state_at(at) {
-            Some(state) => state.count_manifest(alloc),
+        match state_at(&self.live, &self.memory, at) {
+            Some(state) => state.count_manifest(alloc, &self.pages),
             None => Ok(Reply::Refused(Refusal::NoHeight)),
         }
     }
 
     // `tree HL`
     pub(crate) fn tree(&mut self, alloc: Global, at: HeightOrLive) -> Result<Reply, NoMemory>
-        ensures step { (m : Machine) → KeepsStates self.old m → Performs result self.new m (Command.Tree at) }
-        ensures same { self.new ≡ self.old }
+        ensures { DoesInMemory self.old self.new result (Command.Tree at) }
     {
-        if let Some(found) = self.published_at(at) {
+        if let Some(found) = published_at(&self.store, at) {
             return tree_published(alloc, found);
         }
         self.keep_tree(alloc, at)?;
-        match self.state_at(at) {
+        match state_at(&self.live, &self.memory, at) {
             Some(state) => Ok(Reply::Tree(state.tree_root(alloc)?)),
             None => Ok(Reply::Refused(Refusal::NoHeight)),
         }
@@ -115,36 +116,15 @@ impl Manager {
         paths: &[Path],
     ) -> Result<Reply, NoMemory>
         requires { 1 ≤ length paths.now }
-        ensures step { (m : Machine) → KeepsStates self.old m → Performs result self.new m (Command.Witness at paths.now) }
-        ensures same { self.new ≡ self.old }
+        ensures { DoesInMemory self.old self.new result (Command.Witness at paths.now) }
     {
-        if let Some(found) = self.published_at(at) {
+        if let Some(found) = published_at(&self.store, at) {
             return witness_published(alloc, found, paths);
         }
         self.keep_tree(alloc, at)?;
-        match self.state_at(at) {
+        match state_at(&self.live, &self.memory, at) {
             Some(state) => Ok(Reply::Witness(state.witness(alloc, paths)?)),
             None => Ok(Reply::Refused(Refusal::NoHeight)),
-        }
-    }
-
-    // The state in memory that a line asks about.
-    fn state_at(&self, at: HeightOrLive) -> Option<&HeightState>
-        ensures { option_copied result ≡ held_at self.now at }
-    {
-        match at {
-            HeightOrLive::Live => Some(&self.live),
-            HeightOrLive::Height(height) => find_height(&self.memory, height),
-        }
-    }
-
-    // What is published at the height that a line asks about.
-    fn published_at(&self, at: HeightOrLive) -> Option<&PublishedHeight>
-        ensures { option_copied result ≡ published_height self.now at }
-    {
-        match at {
-            HeightOrLive::Live => None,
-            HeightOrLive::Height(height) => self.store.find(height),
         }
     }
 

@@ -3,18 +3,14 @@
 ghost use Rattle.std.specs.Prelude.{◌≡◌, ◌≤◌, ◌^◌, IsTrue};
 ghost use Rattle.disk_model.specs.Causes.{Fails};
 ghost use Rattle.height_store.specs.Errors.{IsBadFile};
-ghost use Rattle.height_store.specs.Kept.{MatchesFiles};
-ghost use Rattle.machine_spec.specs.Machine.{Machine};
 ghost use Rattle.state_manager.specs.Causes.{purge_reply};
-ghost use Rattle.state_manager.specs.Kept.{KeepsStates, Performs, DoesLine};
+ghost use Rattle.state_manager.specs.Kept.{DoesInMemory, DoesLine, IsLeftOn};
 
-use crate::in_memory::{drop_height, find_height, heights_of};
+use crate::in_memory::{heights_of, position_of};
 use crate::manager::Manager;
-use crate::published::begin;
-use crate::publishing::publish;
 use byte_codec::NoMemory;
 use disk_model::{Disk, DiskError};
-use format_spec::{MAX_HEIGHT, MAX_HEIGHTS, MAX_PUBLISHED};
+use format_spec::{MAX_HEIGHT, MAX_HEIGHTS};
 use height_store::StoreError;
 use script_text::{Command, Numbers, Refusal, Reply};
 use std::alloc::Global;
@@ -22,7 +18,7 @@ use std::alloc::Global;
 impl Manager {
     // `heights`
     pub(crate) fn heights(&self, alloc: Global) -> Result<Reply, NoMemory>
-        ensures { (m : Machine) → KeepsStates self.now m → Performs result self.now m Command.Heights }
+        ensures { DoesInMemory self.now self.now result Command.Heights }
     {
         Ok(Reply::Heights {
             live: self.live.height(),
@@ -33,9 +29,7 @@ impl Manager {
 
     // `round`
     pub(crate) fn round(&mut self, alloc: Global) -> Result<Reply, NoMemory>
-        ensures step { (m : Machine) → KeepsStates self.old m → Performs result self.new m Command.Round }
-        ensures store { self.new.store ≡ self.old.store }
-        ensures same { self.new.stopped ≡ self.old.stopped }
+        ensures { DoesInMemory self.old self.new result Command.Round }
     {
         if self.memory.len() >= MAX_HEIGHTS {
             return Ok(Reply::Refused(Refusal::ManyHeights));
@@ -46,49 +40,24 @@ impl Manager {
         }
         self.live.keep_tree(alloc)?;
         let tree = self.live.tree_root(alloc)?;
-        self.memory.push(self.live.copy(alloc)?)?;
+        self.memory.reserve(1)?;
+        self.memory.push(self.live.copy(alloc, &mut self.pages)?)?;
         self.live.advance();
         Ok(Reply::Round { height, tree })
     }
 
     // `forget H`
     pub(crate) fn forget(&mut self, height: u64) -> Result<Reply, NoMemory>
-        ensures step { (m : Machine) → KeepsStates self.old m → Performs result self.new m (Command.Forget height) }
-        ensures store { self.new.store ≡ self.old.store }
-        ensures same { self.new.stopped ≡ self.old.stopped }
+        ensures { DoesInMemory self.old self.new result (Command.Forget height) }
     {
-        match find_height(&self.memory, height) {
-            Some(_) => {
-                drop_height(&mut self.memory, height);
+        match position_of(&self.memory, height) {
+            Some(place) => {
+                let state = self.memory.remove(place);
+                state.give_up(&mut self.pages);
                 Ok(Reply::Fine)
             }
             None => Ok(Reply::Refused(Refusal::NoHeight)),
         }
-    }
-
-    // `checkpoint`
-    pub(crate) fn checkpoint<D: Disk>(
-        &mut self,
-        alloc: Global,
-        disk: &mut D,
-    ) -> Result<Reply, DiskError>
-        requires numbers { self.old.store.numbers_given ≤ 2 ^ 60 }
-        requires over { IsTrue D.tells → MatchesFiles self.old.store (D.view disk.old).state.files }
-        ensures line { DoesLine D.tells self.old self.new (D.view disk.old) (D.view disk.new) result Command.Checkpoint }
-        ensures cause { Fails D.Disk disk.old disk.new result }
-    {
-        let Some(state) = self.memory.last() else {
-            return Ok(Reply::Refused(Refusal::NoHeight));
-        };
-        let height = state.height();
-        if self.store.is_low(height) {
-            return Ok(Reply::Refused(Refusal::HeightLow));
-        }
-        if self.store.count() as usize >= MAX_PUBLISHED {
-            return Ok(Reply::Refused(Refusal::ManyMarks));
-        }
-        let root = publish(alloc, state, &mut self.store, disk)?;
-        Ok(Reply::Published { height, root })
     }
 
     // `purge H`
@@ -98,7 +67,7 @@ impl Manager {
         height: u64,
         disk: &mut D,
     ) -> Result<Reply, DiskError>
-        requires over { IsTrue D.tells → MatchesFiles self.old.store (D.view disk.old).state.files }
+        requires left { IsTrue D.tells → IsLeftOn self.old (D.view disk.old).state }
         ensures line { DoesLine D.tells self.old self.new (D.view disk.old) (D.view disk.new) result (Command.Purge height) }
         ensures cause { Fails D.Disk disk.old disk.new result }
     {
@@ -108,16 +77,24 @@ impl Manager {
         }
     }
 
-    // `reset H`
-    pub(crate) fn reset<D: Disk>(
+    // `sweep`
+    pub(crate) fn sweep<D: Disk>(
         &mut self,
         alloc: Global,
-        height: u64,
         disk: &mut D,
     ) -> Result<Reply, DiskError>
-        requires over { IsTrue D.tells → MatchesFiles self.old.store (D.view disk.old).state.files }
-        ensures line { DoesLine D.tells self.old self.new (D.view disk.old) (D.view disk.new) result (Command.Reset height) }
+        requires left { IsTrue D.tells → IsLeftOn self.old (D.view disk.old).state }
+        ensures line { DoesLine D.tells self.old self.new (D.view disk.old) (D.view disk.new) result Command.Sweep }
         ensures cause { Fails D.Disk disk.old disk.new result }
+    {
+        let pins = self.held_numbers(alloc)?;
+        self.store.sweep(alloc, &pins, &[], disk)?;
+        Ok(Reply::Swept)
+    }
+
+    // `reset H`
+    pub(crate) fn reset(&mut self, alloc: Global, height: u64) -> Result<Reply, NoMemory>
+        ensures { DoesInMemory self.old self.new result (Command.Reset height) }
     {
         if !self.store.is_published(height) {
             return Ok(Reply::Refused(Refusal::NoHeight));
@@ -125,8 +102,7 @@ impl Manager {
         if !self.store.is_newest(height) {
             return Ok(Reply::Refused(Refusal::HeightLow));
         }
-        self.live = begin(alloc, &self.store, disk)?;
-        self.memory.clear();
+        self.begin_again(alloc)?;
         Ok(Reply::Fine)
     }
 }

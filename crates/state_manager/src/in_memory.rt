@@ -1,11 +1,13 @@
 //! The states in memory.
 
-ghost use Rattle.std.specs.Prelude.{◌≡◌, ◌==◌, not, map, filter, find, IfOk};
+ghost use Rattle.std.specs.Prelude.{◌≡◌, ◌==◌, map, find, IfOk};
+ghost use Rattle.std.specs.List.{position};
 ghost use Rattle.std.specs.Option.{option_copied};
+ghost use Rattle.state_manager.specs.Asked.{held_at};
 
 use byte_codec::NoMemory;
 use live_state::HeightState;
-use script_text::Numbers;
+use script_text::{HeightOrLive, Numbers};
 use std::alloc::Global;
 
 /// The state at a height.
@@ -25,15 +27,25 @@ pub fn keep_tree_at(alloc: Global, states: &mut [HeightState], height: u64) -> R
     }
 }
 
-/// Drops the state at a height.
-pub fn drop_height(states: &mut Vec<HeightState>, height: u64)
-    ensures { states.new.items ≡ filter (λ state. not (state.height == height)) states.old.items }
+/// The place of the state at a height.
+pub fn position_of(states: &[HeightState], height: u64) -> Option<usize>
+    ensures { result ≡ position (λ state. state.height == height) states.now }
 {
-    states.retain(
-        |state| -> bool
-            ensures { result ≡ not (state.now.height == height) }
-        { state.height() != height },
-    );
+    states.iter().position(|state| state.height() == height)
+}
+
+/// The state in memory that a line asks about: the live one, or one of these.
+pub fn state_at<'a>(
+    live: &'a HeightState,
+    states: &'a [HeightState],
+    at: HeightOrLive,
+) -> Option<&'a HeightState>
+    ensures { option_copied result ≡ held_at live.now states.now at }
+{
+    match at {
+        HeightOrLive::Live => Some(live),
+        HeightOrLive::Height(height) => find_height(states, height),
+    }
 }
 
 /// The heights.

@@ -2,12 +2,14 @@
 #![tactic(auto)]
 
 mod asking;
+mod beginning;
 mod checks;
 mod heights;
 mod in_memory;
+mod layers;
+mod live;
 mod manager;
 mod published;
-mod publishing;
 mod stop;
 
 pub use manager::Manager;

@@ -1,65 +1,61 @@
 //! Published heights, and the lines on them.
 
 ghost use Rattle.std.specs.Prelude.{◌≡◌, ◌≤◌, ◌+◌, ◌*◌, List, length, IsTrue, IfOk};
-ghost use Rattle.std.specs.List.{AllZip};
+ghost use Rattle.std.specs.Option.{option_copied};
 ghost use Rattle.format_spec.specs.declared.limits.TheConstants.{PAGE_SIZE as page_size};
 ghost use Rattle.state_spec.specs.Memory.{pages_holding};
 ghost use Rattle.state_spec.specs.Root.{root_of};
-ghost use Rattle.store_spec.specs.Image.{Published, opened_state};
+ghost use Rattle.store_spec.specs.Image.{Published};
 ghost use Rattle.disk_model.specs.Causes.{Fails};
 ghost use Rattle.disk_model.specs.OnlyReads.{OnlyReads};
-ghost use Rattle.height_store.specs.Kept.{HasStacks, IsReadable, ShowsHeight};
+ghost use Rattle.height_store.specs.Kept.{HasStacks, ShowsHeight};
 ghost use Rattle.height_store.specs.Known.{KnowsHeight, bytes_of};
-ghost use Rattle.machine_spec.specs.Costs.{pages_told};
+ghost use Rattle.machine_spec.specs.Costs.{page_bytes};
 ghost use Rattle.machine_spec.specs.HeightSteps.{counts_of, tree_root};
 ghost use Rattle.machine_spec.specs.LiveSteps.{read_reply};
-ghost use Rattle.machine_spec.specs.Machine.{start};
 ghost use Rattle.machine_spec.specs.WitnessSteps.{witness_text};
-ghost use Rattle.state_manager.specs.Kept.{newest_bytes};
-ghost use Rattle.live_state.specs.StateKept.{KeepsState, live_of};
+ghost use Rattle.live_state.specs.Rest.{KeepsLive};
+ghost use Rattle.state_manager.specs.Asked.{published_height};
 
+use crate::beginning::open_height;
 use byte_codec::NoMemory;
 use disk_model::{Disk, DiskError};
 use format_spec::PAGE_SIZE;
 use height_store::{HeightStore, PublishedHeight};
-use live_state::{HeightState, manifest_counts, memory_index, tree_root_of, witness_of};
-use script_text::{Refusal, Reply};
+use live_state::{manifest_counts, memory_index, tree_root_of, witness_of};
+use page_map::Pages;
+use script_text::{HeightOrLive, Refusal, Reply};
 use std::alloc::Global;
 use sys_state::{CanisterId, Mem, Path};
 
-/// The live state of a store that opens at a published height, with all its bytes, at the height behind it.
-pub fn load<D: Disk>(
+/// What is published at the height that a line asks about.
+pub fn published_at(store: &HeightStore, at: HeightOrLive) -> Option<&PublishedHeight>
+    ensures { option_copied result ≡ published_height store.now.heights at }
+{
+    match at {
+        HeightOrLive::Live => None,
+        HeightOrLive::Height(height) => store.find(height),
+    }
+}
+
+/// `scratch H` at a published height: its memories are opened as maps for the line.
+pub fn scratch_published<D: Disk>(
     alloc: Global,
     found: &PublishedHeight,
+    pages: &mut Pages,
     disk: &mut D,
-) -> Result<HeightState, DiskError>
+) -> Result<Reply, DiskError>
     requires { IsTrue D.tells → HasStacks (D.view disk.old).state.files found.now }
-    ensures state { IsTrue D.tells → (p : Published) → ShowsHeight (D.view disk.old).state.files found.now p
-        → IfOk result (λ state. KeepsState state (p.height + 1, opened_state p)) }
+    ensures reply { IsTrue D.tells → (p : Published) → ShowsHeight (D.view disk.old).state.files found.now p
+        → IfOk result (λ reply. reply ≡ Reply.Scratch (root_of p.state)) }
+    ensures others { KeepsLive pages.old pages.new }
     ensures reads_only { IsTrue D.tells → OnlyReads (bytes_of found.now) (D.view disk.old) (D.view disk.new) }
     ensures cause { Fails D.Disk disk.old disk.new result }
 {
-    let memories = found.read_memories(alloc, disk)?;
-    let next = found.height().saturating_add(1);
-    Ok(HeightState::loaded(found.sys().copy(alloc)?, memories, next))
-}
-
-/// The state that a store goes on from: that of its newest height, or an empty one.
-pub fn begin<D: Disk>(
-    alloc: Global,
-    store: &HeightStore,
-    disk: &mut D,
-) -> Result<HeightState, DiskError>
-    requires readable { IsTrue D.tells → IsReadable store.now.heights (D.view disk.old).state.files }
-    ensures state { IsTrue D.tells → (ps : List Published) → AllZip (ShowsHeight (D.view disk.old).state.files) store.now.heights ps
-        → IfOk result (λ state. KeepsState state (live_of (start ps))) }
-    ensures reads_only { IsTrue D.tells → OnlyReads (newest_bytes store.now.heights) (D.view disk.old) (D.view disk.new) }
-    ensures cause { Fails D.Disk disk.old disk.new result }
-{
-    match store.last() {
-        Some(found) => load(alloc, found, disk),
-        None => Ok(HeightState::new(alloc)),
-    }
+    let state = open_height(alloc, found, pages)?;
+    let root = state.root(alloc, pages, disk);
+    state.give_up(pages);
+    Ok(Reply::Scratch(root?))
 }
 
 /// `read H ID MEM OFFSET LEN` at a published height.
@@ -76,7 +72,7 @@ pub fn read_published<D: Disk>(
     ensures reply { IsTrue D.tells → (p : Published) → ShowsHeight (D.view disk.old).state.files found.now p
         → IfOk result (λ reply. reply ≡ read_reply p.state id.now mem offset len) }
     ensures reads_only { IsTrue D.tells → OnlyReads (page_size * pages_holding offset len) (D.view disk.old) (D.view disk.new) }
-    ensures told { IsTrue D.tells → IfOk result (λ reply. OnlyReads (page_size * pages_told reply offset len) (D.view disk.old) (D.view disk.new)) }
+    ensures told { IsTrue D.tells → IfOk result (λ reply. OnlyReads (page_bytes reply offset len) (D.view disk.old) (D.view disk.new)) }
     ensures cause { Fails D.Disk disk.old disk.new result }
 {
     let sys = found.sys();

@@ -2,7 +2,9 @@
 
 ghost use Rattle.std.specs.Prelude.{◌≡◌};
 ghost use Rattle.state_manager.specs.Causes.{disk_error, open_error, stop_of};
+ghost use Rattle.state_manager.specs.declared.stop.OpenError.TheVariants.{Memory};
 
+use byte_codec::NoMemory;
 use disk_model::DiskError;
 use height_store::StoreError;
 use thiserror::Error;
@@ -70,5 +72,13 @@ impl From<DiskError> for OpenError {
             DiskError::Fault => OpenError::Fault,
             DiskError::Memory => OpenError::Memory,
         }
+    }
+}
+
+impl From<NoMemory> for OpenError {
+    ghost from_gives = { λ _ made. made ≡ Memory };
+
+    fn from(_error: NoMemory) -> OpenError {
+        OpenError::Memory
     }
 }

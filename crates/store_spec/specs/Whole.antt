@@ -1,9 +1,9 @@
 -- What is written of a state whose memories are written whole: a page file of all pages for each, and the mark.
-use Rattle.std.specs.Prelude.{ℕ, ◌+◌, ◌==◌, if◌then◌else◌, List, length, map, filter, sum_by}
-use Rattle.format_spec.specs.Bytes.{Bytes, part_count, parts}
+use Rattle.std.specs.Prelude.{ℕ, ◌+◌, ◌==◌, if◌then◌else◌, List, length, map, sum_by}
+use Rattle.format_spec.specs.Bytes.{Bytes, part_count}
 use Rattle.format_spec.specs.declared.limits.TheConstants.{CHUNK_SIZE, INDEX_HEAD, INDEX_RANGE}
-use Rattle.state_spec.specs.Manifest.{has_row}
 use Rattle.store_spec.specs.Mark.{MemoryCounts, mark_length}
+use Rattle.store_spec.specs.Writes.{counts_with}
 
 -- the page file of a memory: a header, one range and its pages; none for no pages
 abbrev pub file_bytes : Bytes → ℕ
@@ -11,11 +11,7 @@ file_bytes memory = if length memory == 0 then 0 else INDEX_HEAD + INDEX_RANGE +
 
 -- what a mark of this version has of a memory
 abbrev pub whole_counts : ℕ → Bytes → MemoryCounts
-whole_counts version memory = record {
-  layers = if length memory == 0 then 0 else 1;
-  sums = part_count CHUNK_SIZE (length memory);
-  hashes = length (filter (has_row version) (parts CHUNK_SIZE memory));
-}
+whole_counts version memory = counts_with version (if length memory == 0 then 0 else 1) memory
 
 -- all of them, in this version with a system text of this length
 abbrev pub whole_length : ℕ → ℕ → List Bytes → ℕ

@@ -9,3 +9,6 @@ returns-clause-memory c = λ m s. all_weaker _ _ (λ k whole. whole.valid) m.mem
 
 pub returns-clause-published : goal.returns-clause-published
 returns-clause-published c = λ m s. all_weaker _ _ (λ p may. may.valid) m.published s.published.each
+
+pub returns-clause-base : goal.returns-clause-base
+returns-clause-base c = λ m s. s.base_whole.valid

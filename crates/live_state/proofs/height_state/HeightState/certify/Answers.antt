@@ -1,16 +1,26 @@
-use Rattle.std.proofs.Common.{◌≡◌, List, map, sym, subst, refl}
-use Rattle.std.proofs.lemmas.Result.{on_ok_weaker, on_err_weaker}
-use Rattle.format_spec.specs.Bytes.{Bytes}
+use Rattle.std.proofs.Common.{◌≡◌, ◌∙◌, ap, sym, refl, subst}
 use Rattle.sys_state.specs.Calls as calls
-use Rattle.live_state.specs.StateKept.{StateView, KeepsState, live_of}
-use Rattle.live_state.proofs.Lines.{step_certify}
-use Rattle.live_state.proofs.Stepped.{from_answer}
+use Rattle.sys_state.specs.System.{System}
+use Rattle.page_map.specs.Maps.{Map}
+use Rattle.live_state.specs.declared.height_state.HeightState.TheInside.{Inside}
+use Rattle.live_state.specs.StateKept.{HeldHeight}
+use Rattle.live_state.proofs.SysLines.{line_certify}
+use Rattle.live_state.proofs.Unsized.{Unsized, by_result, unsized_changes, unsized_same, same_memories, good_unsized, stands_unsized, invariant_unsized}
 use Rattle.live_state.proofs.height_state.HeightState.certify.Goals as goal
 
-pub returns : goal.returns
-returns c = λ m k.
-    let memories : List Bytes = map (λ v. v.items) c.self.inside.memories.items in
-    step_certify _ _ m (subst (λ (h : StateView). KeepsState h (live_of m)) (sym c.self.view_is) k) (record { height = refl }) c.args.id.now c.args.bytes c.reply_to.result
-    (from_answer (calls.find_refusal c.self.inside.sys c.args.id.now) c.set_certified.result c.reply_to.result ((calls.Changes c.self.inside.sys c.set_certified.new.self c.args.id.now (calls.with_certified c.args.bytes)) × (memories ≡ memories))
-    ((c.set_certified.new.self ≡ c.self.inside.sys) × (memories ≡ memories)) c.set_certified.ensures.answer c.reply_to.ensures
-    (on_ok_weaker c.set_certified.result (λ x. (x, refl)) c.set_certified.ensures.changed) (on_err_weaker c.set_certified.result (λ x. (x, refl)) c.set_certified.ensures.unchanged))
+abbrev held : Inside → HeldHeight Map
+held x = record { height = x.height; state = x.held }
+
+pub invariant_of-self : goal.invariant_of-self
+invariant_of-self c = invariant_unsized (held c.self.inside) _ c.self.inside.tree (same_memories _ (held c.self.inside) c.set_certified.new.self (ap held c.self-inside.view_is) (by_result c.set_certified.result _ _ (Unsized c.self-inside.inside.0.0.sys c.set_certified.new.self) c.set_certified.ensures.changed c.set_certified.ensures.unchanged (λ x. unsized_changes c.self-inside.inside.0.0.sys c.set_certified.new.self c.args.id.now (calls.with_certified c.args.bytes) (λ r. refl) x) (λ e. unsized_same c.self-inside.inside.0.0.sys c.set_certified.new.self (ap (λ (s : System). s.canisters) e)))) c.self.invariant
+
+pub returns-clause-step : goal.returns-clause-step
+returns-clause-step c = λ maps s b m k.
+    line_certify maps s b c.args.self.now _ (ap held c.self-inside.view_is ∙ c.self.view_is) c.set_certified.new.self m k
+    c.set_certified.result c.reply_to.result c.reply_to.ensures c.args.id.now c.args.bytes c.set_certified.ensures.answer c.set_certified.ensures.changed c.set_certified.ensures.unchanged
+
+pub returns-clause-good : goal.returns-clause-good
+returns-clause-good c = λ maps good. good_unsized maps c.args.self.now _ (same_memories _ c.args.self.now c.set_certified.new.self (ap held c.self-inside.view_is ∙ c.self.view_is) (by_result c.set_certified.result _ _ (Unsized c.self-inside.inside.0.0.sys c.set_certified.new.self) c.set_certified.ensures.changed c.set_certified.ensures.unchanged (λ x. unsized_changes c.self-inside.inside.0.0.sys c.set_certified.new.self c.args.id.now (calls.with_certified c.args.bytes) (λ r. refl) x) (λ e. unsized_same c.self-inside.inside.0.0.sys c.set_certified.new.self (ap (λ (s : System). s.canisters) e)))) good
+
+pub returns-clause-below : goal.returns-clause-below
+returns-clause-below c = stands_unsized c.args.self.now _ (same_memories _ c.args.self.now c.set_certified.new.self (ap held c.self-inside.view_is ∙ c.self.view_is) (by_result c.set_certified.result _ _ (Unsized c.self-inside.inside.0.0.sys c.set_certified.new.self) c.set_certified.ensures.changed c.set_certified.ensures.unchanged (λ x. unsized_changes c.self-inside.inside.0.0.sys c.set_certified.new.self c.args.id.now (calls.with_certified c.args.bytes) (λ r. refl) x) (λ e. unsized_same c.self-inside.inside.0.0.sys c.set_certified.new.self (ap (λ (s : System). s.canisters) e))))

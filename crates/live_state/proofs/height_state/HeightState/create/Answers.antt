@@ -1,23 +1,11 @@
-use Rattle.std.proofs.Common.{map, sym, subst, refl, arith}
-use Rattle.std.proofs.lemmas.List.{length-map}
-use Rattle.live_state.specs.StateKept.{StateView, KeepsState, live_of}
-use Rattle.sys_state.proofs.Indexed.{pair_for_each}
-use Rattle.live_state.proofs.Lines.{step_create}
-use Rattle.live_state.proofs.Sized.{after_create, within_create}
+use Rattle.std.proofs.Common.{◌≡◌, ◌∙◌, ap, sym, refl, subst}
+use Rattle.page_map.specs.Maps.{Map}
+use Rattle.live_state.specs.declared.height_state.HeightState.TheInside.{Inside}
+use Rattle.live_state.specs.StateKept.{HeldHeight}
+use Rattle.live_state.proofs.Comings.{line_create}
 use Rattle.live_state.proofs.height_state.HeightState.create.Goals as goal
 
-pub create_canister-requires : goal.create_canister-requires
-create_canister-requires c =
-    let all = c.self.inside.memories.items in
-    omega (arith, pair_for_each c.self.inside.sys.canisters (map (λ v. v.items) all) c.self.invariant.sizes, length-map all (λ v. v.items))
-
-pub invariant_of-self : goal.invariant_of-self
-invariant_of-self c = record {
-  sizes = after_create _ c.create_canister.result c.self.inside.sys c.create_canister.new.sys c.args.id.now c.self.inside.height (map (λ v. v.items) c.self.inside.memories.items) _ c.self.invariant.sizes c.create_canister.ensures;
-  within = within_create _ c.create_canister.result c.self.inside.sys c.create_canister.new.sys c.args.id.now c.self.inside.height (map (λ v. v.items) c.self.inside.memories.items) _ c.self.invariant.within c.create_canister.ensures;
-  from_one = c.self.invariant.from_one;
-  kept = tt;
-}
-
-pub returns : goal.returns
-returns c = λ m k. step_create _ _ m (subst (λ (h : StateView). KeepsState h (live_of m)) (sym c.self.view_is) k) (record { height = refl }) c.args.id.now c.create_canister.result c.create_canister.ensures
+pub returns-clause-step : goal.returns-clause-step
+returns-clause-step c = λ s b m k.
+    line_create s b c.args.pages.now c.create_canister.new.pages c.args.self.now (record { height = c.self.inside.height; state = c.self.inside.held }) (record { height = c.self.inside.height; state = c.create_canister.new.held })
+    c.self.view_is refl c.create_canister.ensures.version c.requires.maps m k c.args.id.now c.create_canister.result c.create_canister.ensures.answer

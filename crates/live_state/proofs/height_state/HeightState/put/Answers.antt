@@ -1,16 +1,26 @@
-use Rattle.std.proofs.Common.{◌≡◌, List, map, sym, subst, refl}
-use Rattle.std.proofs.lemmas.Result.{on_ok_weaker, on_err_weaker}
-use Rattle.format_spec.specs.Bytes.{Bytes}
+use Rattle.std.proofs.Common.{◌≡◌, ◌∙◌, ap, sym, refl, subst}
 use Rattle.sys_state.specs.Calls as calls
-use Rattle.live_state.specs.StateKept.{StateView, KeepsState, live_of}
-use Rattle.live_state.proofs.Lines.{step_put}
-use Rattle.live_state.proofs.Stepped.{from_answers}
+use Rattle.sys_state.specs.System.{System}
+use Rattle.page_map.specs.Maps.{Map}
+use Rattle.live_state.specs.declared.height_state.HeightState.TheInside.{Inside}
+use Rattle.live_state.specs.StateKept.{HeldHeight}
+use Rattle.live_state.proofs.SysLines.{line_put}
+use Rattle.live_state.proofs.Unsized.{Unsized, by_result, unsized_changes, unsized_same, same_memories, good_unsized, stands_unsized, invariant_unsized}
 use Rattle.live_state.proofs.height_state.HeightState.put.Goals as goal
 
-pub returns : goal.returns
-returns c = λ m k.
-    let memories : List Bytes = map (λ v. v.items) c.self.inside.memories.items in
-    step_put _ _ m (subst (λ (h : StateView). KeepsState h (live_of m)) (sym c.self.view_is) k) (record { height = refl }) c.args.path c.args.value c.reply_to.result
-    (from_answers (calls.put_refusal c.self.inside.sys c.args.path) c.put.result c.reply_to.result ((c.put.new.self ≡ calls.with_entry c.self.inside.sys c.args.path c.args.value) × (memories ≡ memories))
-    ((c.put.new.self ≡ c.self.inside.sys) × (memories ≡ memories)) c.put.ensures.answer c.reply_to.ensures
-    (on_ok_weaker c.put.result (λ x. (x, refl)) c.put.ensures.put) (on_err_weaker c.put.result (λ x. (x, refl)) c.put.ensures.unchanged))
+abbrev held : Inside → HeldHeight Map
+held x = record { height = x.height; state = x.held }
+
+pub invariant_of-self : goal.invariant_of-self
+invariant_of-self c = invariant_unsized (held c.self.inside) _ c.self.inside.tree (same_memories _ (held c.self.inside) c.put.new.self (ap held c.self-inside.view_is) (by_result c.put.result _ _ (Unsized c.self-inside.inside.0.0.sys c.put.new.self) c.put.ensures.put c.put.ensures.unchanged (λ x. unsized_same c.self-inside.inside.0.0.sys c.put.new.self (ap (λ (s : System). s.canisters) x)) (λ e. unsized_same c.self-inside.inside.0.0.sys c.put.new.self (ap (λ (s : System). s.canisters) e)))) c.self.invariant
+
+pub returns-clause-step : goal.returns-clause-step
+returns-clause-step c = λ maps s b m k.
+    line_put maps s b c.args.self.now _ (ap held c.self-inside.view_is ∙ c.self.view_is) c.put.new.self m k
+    c.put.result c.reply_to.result c.reply_to.ensures c.args.path c.args.value c.put.ensures.answer c.put.ensures.put c.put.ensures.unchanged
+
+pub returns-clause-good : goal.returns-clause-good
+returns-clause-good c = λ maps good. good_unsized maps c.args.self.now _ (same_memories _ c.args.self.now c.put.new.self (ap held c.self-inside.view_is ∙ c.self.view_is) (by_result c.put.result _ _ (Unsized c.self-inside.inside.0.0.sys c.put.new.self) c.put.ensures.put c.put.ensures.unchanged (λ x. unsized_same c.self-inside.inside.0.0.sys c.put.new.self (ap (λ (s : System). s.canisters) x)) (λ e. unsized_same c.self-inside.inside.0.0.sys c.put.new.self (ap (λ (s : System). s.canisters) e)))) good
+
+pub returns-clause-below : goal.returns-clause-below
+returns-clause-below c = stands_unsized c.args.self.now _ (same_memories _ c.args.self.now c.put.new.self (ap held c.self-inside.view_is ∙ c.self.view_is) (by_result c.put.result _ _ (Unsized c.self-inside.inside.0.0.sys c.put.new.self) c.put.ensures.put c.put.ensures.unchanged (λ x. unsized_same c.self-inside.inside.0.0.sys c.put.new.self (ap (λ (s : System). s.canisters) x)) (λ e. unsized_same c.self-inside.inside.0.0.sys c.put.new.self (ap (λ (s : System). s.canisters) e))))

@@ -1,0 +1,12 @@
+pub mod Left
+pub mod Reading
+pub mod Below
+pub mod Made
+pub mod Written
+pub mod Tips
+pub mod MarkFits
+pub mod MapsKept
+pub mod Begun
+pub mod Forked
+pub mod Started
+pub mod OwnRead

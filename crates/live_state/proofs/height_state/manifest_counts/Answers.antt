@@ -1,5 +1,0 @@
-use Rattle.live_state.proofs.Hashed.{counted}
-use Rattle.live_state.proofs.height_state.manifest_counts.Goals as goal
-
-pub returns : goal.returns
-returns c = λ s one parts fit. counted s c.args.sys.now c.count-counts.result one parts fit c.count-counts.ensures.sizes
